@@ -1,0 +1,4 @@
+pub mod Starred
+pub mod Determined
+pub mod Check
+pub mod TextTypes

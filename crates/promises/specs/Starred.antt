@@ -1,0 +1,32 @@
+-- The starred values of document 01, "Values on each side", as one set. proofs/Starred.antt proves `AllStarred starred` by
+-- computing each.
+-- Assumes nothing.
+use Prim.Native.Nat.{ℕ}
+use mathlib.Core.Path.{_≡_}
+use mathlib.Core.Bool.{Bool, true, false}
+use mathlib.Core.List.{List, [], _∷_}
+use Rattle.crc16.specs.Crc.{crcOf}
+use Rattle.text.specs.Text.{ascii, isTimestamp, isHex}
+
+-- what is computed, and what it must be
+pub data Star : Type 0 where
+  number : ℕ → ℕ → Star
+  test : Bool → Bool → Star
+
+abbrev pub Comes : Star → Type 0
+Comes (number n m) = n ≡ m
+Comes (test b c) = b ≡ c
+
+abbrev pub AllStarred : List Star → Type 0
+AllStarred [] = Unit {0}
+AllStarred (s ∷ ss) = Comes s × AllStarred ss
+
+unfoldable pub starred : List Star
+starred =
+    number (crcOf []) 0xFFFF
+    ∷ number (crcOf (0x00 ∷ [])) 0x40BF
+    ∷ number (crcOf (ascii "123456789")) 0x4B37
+    ∷ test (isTimestamp (ascii "20180110T230000Z")) true
+    ∷ test (isTimestamp (ascii "20180110T240000Z")) false
+    ∷ test (isHex 2 (ascii "0a")) false
+    ∷ []

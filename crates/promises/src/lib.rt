@@ -1,0 +1,1 @@
+// No code: specs/ states what the library promises, and proofs/ proves it.

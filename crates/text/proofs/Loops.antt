@@ -1,0 +1,93 @@
+-- A turn of each loop: what a test of lists says from place i on.
+-- Assumes nothing.
+use Prim.Native.Nat.{ℕ, suc, _+_, _-_, _*_, _≤_, _<_}
+use mathlib.Core.Path.{_≡_, refl, sym, ap, _∙_}
+use mathlib.Core.Bool.{Bool, true, false, _&&_}
+use mathlib.Core.List.{List, [], _∷_}
+use native.Mathlib.Omega.{arith}
+use native.Mathlib.Numerals.{add-one}
+use lib.ListN.{length, take, drop, getD, drop-of-length-le, length-drop}
+use lib.Seq.{drop-cons, take-all}
+use lib.Dec.{eqb}
+use borrow.Author.Tests.{eq-eqb, ne-eqb}
+use Rattle.text.specs.Text.{Bytes, every, same, fits, looks, number, numberFrom, part, year}
+
+-- the part from i to the end, as code takes it
+pub rest-all : (s : Bytes) (i : ℕ) → take (length s - i) (drop i s) ≡ drop i s
+rest-all s i = take-all (length s - i) (drop i s) (omega (arith, length-drop i s))
+
+-- ---- every byte
+
+module _ (p : ℕ → Bool) (s : Bytes) (i : ℕ) where
+  pub every-stop : i < length s → p (getD s i 0) ≡ false → every p (drop i s) ≡ false
+  every-stop h e = rw (drop-cons s i 0 h, e)
+
+  pub every-on : i < length s → p (getD s i 0) ≡ true → every p (drop (i + 1) s) ≡ every p (drop i s)
+  every-on h e = rw (drop-cons s i 0 h, e, add-one)
+
+  pub every-end : length s ≤ i → every p (drop i s) ≡ true
+  every-end h = rw (drop-of-length-le s h)
+
+-- ---- two lists, byte against byte: `same` and `looks` are such tests
+
+-- f compares lists by p: byte against byte, and to the same end
+pub record Pairwise (p : ℕ → ℕ → Bool) (f : Bytes → Bytes → Bool) : Type 0 where
+  pub ends : f [] [] ≡ true
+  pub short : (d : ℕ) (t : Bytes) → f [] (d ∷ t) ≡ false
+  pub long : (c : ℕ) (s : Bytes) → f (c ∷ s) [] ≡ false
+  pub both : (c d : ℕ) (s t : Bytes) → f (c ∷ s) (d ∷ t) ≡ (p c d && f s t)
+
+pub same-pairwise : Pairwise eqb same
+same-pairwise = record { ends = refl; short = λ d t. refl; long = λ c s. refl; both = λ c d s t. refl }
+
+pub looks-pairwise : Pairwise fits looks
+unfolding looks
+looks-pairwise = record { ends = refl; short = λ d t. refl; long = λ c s. refl; both = λ c d s t. refl }
+
+and-no : (a b : Bool) → b ≡ false → (a && b) ≡ false
+and-no true b e = e
+and-no false b e = refl
+
+module _ (p : ℕ → ℕ → Bool) (f : Bytes → Bytes → Bool) (w : Pairwise p f) where
+  pub apart : (a b : Bytes) → (length a ≡ length b → ⊥) → f a b ≡ false
+  apart [] [] h = absurd (h refl)
+  apart [] (y ∷ b) h = w .short y b
+  apart (x ∷ a) [] h = w .long x a
+  apart (x ∷ a) (y ∷ b) h = w .both x y a b ∙ and-no (p x y) (f a b) (apart a b (λ (e : length a ≡ length b). h (rw e)))
+
+  pub pairwise-length : (a b : Bytes) → f a b ≡ true → length a ≡ length b
+  pairwise-length [] [] e = refl
+  pairwise-length [] (y ∷ b) e = absurd (let z : true ≡ false = sym e ∙ w .short y b in let o : _≡_ {A = ℕ} 0 1 = cc in omega arith)
+  pairwise-length (x ∷ a) [] e = absurd (let z : true ≡ false = sym e ∙ w .long x a in let o : _≡_ {A = ℕ} 0 1 = cc in omega arith)
+  pairwise-length (x ∷ a) (y ∷ b) e = ap suc (pairwise-length a b (go (p x y) (f a b) (sym (w .both x y a b) ∙ e)))
+    where
+      go : (q r : Bool) → (q && r) ≡ true → r ≡ true
+      go true r h = h
+      go false r h = absurd (let o : _≡_ {A = ℕ} 0 1 = cc in omega arith)
+
+  module _ (a b : Bytes) (i : ℕ) where
+    step : i < length a → i < length b → f (drop i a) (drop i b) ≡ (p (getD a i 0) (getD b i 0) && f (drop (suc i) a) (drop (suc i) b))
+    step ha hb = rw (drop-cons a i 0 ha, drop-cons b i 0 hb) (w .both (getD a i 0) (getD b i 0) (drop (suc i) a) (drop (suc i) b))
+
+    pub pairwise-stop : i < length a → i < length b → p (getD a i 0) (getD b i 0) ≡ false → f (drop i a) (drop i b) ≡ false
+    pairwise-stop ha hb e = step ha hb ∙ rw e
+
+    pub pairwise-on : i < length a → i < length b → p (getD a i 0) (getD b i 0) ≡ true → f (drop (i + 1) a) (drop (i + 1) b) ≡ f (drop i a) (drop i b)
+    pairwise-on ha hb e = sym (step ha hb ∙ rw (e, add-one))
+
+    pub pairwise-end : length a ≤ i → length b ≤ i → f (drop i a) (drop i b) ≡ true
+    pairwise-end ha hb = rw (drop-of-length-le a ha, drop-of-length-le b hb) (w .ends)
+
+-- ---- digits
+
+pub number-two : (s : Bytes) (i : ℕ) → i + 2 ≤ length s → number (part i 2 s) ≡ 10 * (getD s i 0 - 48) + (getD s (i + 1) 0 - 48)
+unfolding numberFrom
+number-two s i h = rw (drop-cons s i 0 (omega arith), drop-cons s (suc i) 0 (omega arith), add-one) (omega arith)
+
+pub year-twice : (s : Bytes) → 4 ≤ length s → year s ≡ 100 * number (part 0 2 s) + number (part 2 2 s)
+unfolding numberFrom
+year-twice [] h = absurd (omega arith)
+year-twice (a ∷ []) h = absurd (omega arith)
+year-twice (a ∷ b ∷ []) h = absurd (omega arith)
+year-twice (a ∷ b ∷ c ∷ []) h = absurd (omega arith)
+year-twice (a ∷ b ∷ c ∷ d ∷ s) h = omega arith

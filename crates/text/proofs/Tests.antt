@@ -1,0 +1,88 @@
+-- Tests in a row: the first that decides.
+-- Assumes nothing.
+use Prim.Native.Nat.{ℕ, zero, suc, _+_, _≤_, _<_}
+use mathlib.Core.Path.{_≡_, refl, sym, subst}
+use mathlib.Core.Logic.{⊎-elim}
+use mathlib.Core.Bool.{Bool, true, false, not, cond, _&&_, _||_}
+use mathlib.Core.List.{List, [], _∷_}
+use native.Mathlib.Nat.{le-of-suc-le-suc, not-suc-le-zero}
+use lib.Dec.{T, leb, eqb, leb→le, eqb→eq}
+use mir.Facts.{and-yes, yes-and, or-yes}
+use Rattle.text.specs.Text.{Bytes, every, between, oneOf}
+
+pub or-stop : (a b : Bool) → a ≡ true → (a || b) ≡ true
+or-stop a b e = rw e
+
+pub or-on : (a b : Bool) → a ≡ false → (a || b) ≡ b
+or-on a b e = rw e
+
+pub or-last : (a : Bool) → (a || false) ≡ a
+or-last true = refl
+or-last false = refl
+
+pub and-stop : (a b : Bool) → a ≡ false → (a && b) ≡ false
+and-stop a b e = rw e
+
+pub and-on : (a b : Bool) → a ≡ true → (a && b) ≡ b
+and-on a b e = rw e
+
+pub and-last : (a : Bool) → (a && true) ≡ a
+and-last true = refl
+and-last false = refl
+
+pub T-true : (b : Bool) → T b → b ≡ true
+T-true true t = refl
+T-true false t = absurd t
+
+pub true-T : (b : Bool) → b ≡ true → T b
+true-T b e = rw e tt
+
+pub or-left : (a b : Bool) → T a → T (a || b)
+or-left true b t = tt
+or-left false b t = absurd t
+
+pub or-right : (a b : Bool) → T b → T (a || b)
+or-right true b t = tt
+or-right false b t = t
+
+pub cond-yes {ℓ} : {X : Type ℓ} (b : Bool) (x y : X) → T b → cond b x y ≡ x
+cond-yes true x y t = refl
+cond-yes false x y t = absurd t
+
+pub cond-no {ℓ} : {X : Type ℓ} (b : Bool) (x y : X) → T (not b) → cond b x y ≡ y
+cond-no true x y t = absurd t
+cond-no false x y t = refl
+
+pub by-test {ℓ} : {X : Type ℓ} (b : Bool) → (T b → X) → (T (not b) → X) → X
+by-test true f g = f tt
+by-test false f g = g tt
+
+pub between-low : (low high n : ℕ) → T (between low high n) → low ≤ n
+between-low low high n t = leb→le low n (and-yes (leb low n) (leb n high) t .0)
+
+pub between-high : (low high n : ℕ) → T (between low high n) → n ≤ high
+between-high low high n t = leb→le n high (and-yes (leb low n) (leb n high) t .1)
+
+pub every-mono : (p q : ℕ → Bool) → ((c : ℕ) → T (p c) → T (q c)) → (s : Bytes) → T (every p s) → T (every q s)
+every-mono p q f [] h = tt
+every-mono p q f (c ∷ s) h =
+    let h′ = and-yes (p c) (every p s) h in
+    yes-and (q c) (every q s) (f c (h′ .0)) (every-mono p q f s (h′ .1))
+
+pub one-of : (p : ℕ → Bool) (ds : Bytes) → T (every p ds) → (c : ℕ) → T (oneOf ds c) → T (p c)
+one-of p [] h c t = absurd t
+one-of p (d ∷ ds) h c t =
+    let h′ = and-yes (p d) (every p ds) h in
+    ⊎-elim (λ e. subst (λ (x : ℕ). T (p x)) (sym (eqb→eq c d e)) (h′ .0)) (one-of p ds (h′ .1) c) (or-yes (eqb c d) (oneOf ds c) t)
+
+-- ---- a test of all numbers below k, computed
+
+unfoldable pub allBelow : ℕ → (ℕ → Bool) → Bool
+allBelow zero p = true
+allBelow (suc k) p = p zero && allBelow k (λ n. p (suc n))
+
+pub below : (k : ℕ) (p : ℕ → Bool) → T (allBelow k p) → (n : ℕ) → n < k → T (p n)
+unfolding allBelow
+below zero p t n h = absurd (not-suc-le-zero h)
+below (suc k) p t zero h = and-yes (p zero) (allBelow k (λ n. p (suc n))) t .0
+below (suc k) p t (suc n) h = below k (λ m. p (suc m)) (and-yes (p zero) (allBelow k (λ m. p (suc m))) t .1) n (le-of-suc-le-suc h)

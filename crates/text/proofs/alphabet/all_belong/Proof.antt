@@ -1,0 +1,57 @@
+-- `text::alphabet::all_belong` meets its contract. The loop's invariant: what is left decides.
+-- Assumes nothing.
+use Prim.Native.Nat.{_-_}
+use mathlib.Core.Path.{_≡_, refl, sym, _∙_}
+use borrow.Author.Tests.{not-true, not-false}
+use lib.ListN.{length, drop}
+use Rattle.text.specs.Text.{every}
+use Rattle.text.specs.Steps.{belongs}
+use Rattle.text.proofs.Loops.{every-stop, every-on, every-end}
+use borrow.Author.Needs.{needs}
+use Rattle.text.proofs.alphabet.all_belong.Statement.{statement}
+use Rattle.text.proofs.alphabet.all_belong.Tie as tie
+
+abbrev Inv-loop : tie.InvT-loop
+Inv-loop alphabet s i₀ i = every (belongs alphabet) (drop i s) ≡ every (belongs alphabet) s
+
+abbrev μ-loop : tie.MeasureT-loop
+μ-loop alphabet s i₀ i = length s - i
+
+loop-holds : tie.Need-loop-holds Inv-loop μ-loop
+loop-holds c = refl
+
+shared-slice-read-does-belong : tie.Need-shared-slice-read-does-belong Inv-loop μ-loop
+shared-slice-read-does-belong c = search needs
+
+does-belong-requires : tie.Need-does-belong-requires Inv-loop μ-loop
+does-belong-requires c κs = search needs
+
+returns : tie.Need-returns Inv-loop μ-loop
+returns c = sym (every-stop (belongs (c .before .before .before .before .before .before .args .alphabet)) _ _ (c .before .before .before .loop-test .taken) (sym (c .before .does-belong .ensures) ∙ not-true _ (c .if1 .taken))) ∙ c .before .before .before .before .loop .inv
+
+add-i : tie.Need-add-i Inv-loop μ-loop
+add-i c = search needs
+
+loop-less : tie.Need-loop-less Inv-loop μ-loop
+loop-less c = search needs
+
+loop-again : tie.Need-loop-again Inv-loop μ-loop
+loop-again c = every-on (belongs (c .before .before .before .before .before .before .args .alphabet)) _ _ (c .before .before .before .loop-test .taken) (sym (c .before .does-belong .ensures) ∙ not-false _ (c .if1 .left)) ∙ c .before .before .before .before .loop .inv
+
+returns-2 : tie.Need-returns-2 Inv-loop μ-loop
+returns-2 c = sym (every-end (belongs (c .before .before .before .args .alphabet)) _ _ (c .loop-test .left)) ∙ c .before .loop .inv
+
+pub all-belong-spec : {M : Type 1} → statement M
+all-belong-spec =
+    tie.close
+    (tie.spec
+    Inv-loop
+    μ-loop
+    loop-holds
+    shared-slice-read-does-belong
+    does-belong-requires
+    returns
+    add-i
+    loop-less
+    loop-again
+    returns-2)

@@ -1,0 +1,3 @@
+pub mod Text
+pub mod Base16
+pub mod Steps

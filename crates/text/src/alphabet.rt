@@ -1,0 +1,94 @@
+// The alphabets of STS 600-4-2, clauses 5.1.1 and 5.1.3.
+ghost use mathlib.Core.Path.{_≡_};
+ghost use Rattle.text.specs.Text.{between, decimal, hexadecimal, alphanumeric, identCharacter, every};
+ghost use Rattle.text.specs.Steps.{belongs};
+
+// The alphabets that a whole text is held to.
+pub(crate) enum Alphabet {
+    Hexadecimal,
+    Ident,
+}
+
+// low to high, both included.
+pub(crate) fn is_between(low: usize, high: usize, n: usize) -> bool
+    ensures { λ r. ⌜ r ≡ between low high n ⌝ }
+{
+    if n < low {
+        return false;
+    }
+    n <= high
+}
+
+pub(crate) fn is_from_to(first: u8, last: u8, c: u8) -> bool
+    ensures { λ r. ⌜ r ≡ between first last c ⌝ }
+{
+    is_between(first as usize, last as usize, c as usize)
+}
+
+pub(crate) fn is_decimal(c: u8) -> bool
+    ensures { λ r. ⌜ r ≡ decimal c ⌝ }
+{
+    is_from_to(b'0', b'9', c)
+}
+
+pub(crate) fn is_hexadecimal(c: u8) -> bool
+    ensures { λ r. ⌜ r ≡ hexadecimal c ⌝ }
+{
+    if is_decimal(c) {
+        return true;
+    }
+    is_from_to(b'A', b'F', c)
+}
+
+pub(crate) fn is_alphanumeric(c: u8) -> bool
+    ensures { λ r. ⌜ r ≡ alphanumeric c ⌝ }
+{
+    if is_decimal(c) {
+        return true;
+    }
+    if is_from_to(b'A', b'Z', c) {
+        return true;
+    }
+    is_from_to(b'a', b'z', c)
+}
+
+fn is_ident_character(c: u8) -> bool
+    ensures { λ r. ⌜ r ≡ identCharacter c ⌝ }
+{
+    if is_alphanumeric(c) {
+        return true;
+    }
+    if c == b'_' {
+        return true;
+    }
+    if c == b'-' {
+        return true;
+    }
+    if c == b'.' {
+        return true;
+    }
+    c == b','
+}
+
+fn does_belong(alphabet: Alphabet, c: u8) -> bool
+    ensures { λ r. ⌜ r ≡ belongs alphabet c ⌝ }
+{
+    match alphabet {
+        Alphabet::Hexadecimal => is_hexadecimal(c),
+        Alphabet::Ident => is_ident_character(c),
+    }
+}
+
+// Every character of s belongs to the alphabet.
+pub(crate) fn all_belong(alphabet: Alphabet, s: &[u8]) -> bool
+    ensures { λ r. ⌜ r ≡ every (belongs alphabet) (now (s .entry)) ⌝ }
+{
+    let mut i = 0;
+    while i < s.len() {
+        if !does_belong(alphabet, s[i]) {
+            return false;
+        }
+        i += 1;
+    }
+    true
+}
