@@ -2,6 +2,8 @@
 -- contracts themselves, as the code has them: `Post` is what a call's `ensures` says of its arguments and its result.
 -- Assumes nothing.
 use mathlib.Core.Path.{_≡_}
+use denote.Ref.{RefT, now}
+use Rattle.text.specs.Text.{Bytes}
 use Rattle.crc16.proofs.Crc.begin.Reads as begun
 use Rattle.crc16.proofs.Crc.add.Reads as add
 use Rattle.crc16.proofs.Crc.end.Reads as end
@@ -17,10 +19,45 @@ use Rattle.text.proofs.is_print.Reads as is-print
 use Rattle.text.proofs.hex_digit.Reads as hex-digit
 use Rattle.text.proofs.hex_value.Reads as hex-value
 use Rattle.text.proofs.check_text.Reads as check-text
+use Rattle.table.proofs.mark_of.Reads as mark-of
+use Rattle.table.proofs.count_of.Reads as count-of
+use Rattle.table.proofs.type_of.Reads as type-of
+use Rattle.table.proofs.is_pubkey.Reads as is-pubkey
+use Rattle.table.proofs.row_in.Reads as row-in
+use Rattle.table.proofs.identity_kind.Reads as identity-kind
+use Rattle.table.proofs.record_kind.Reads as record-kind
+use Rattle.table.proofs.kind_named.Reads as kind-named
+use Rattle.table.proofs.is_identity.Reads as is-identity
+use Rattle.table.proofs.may_be_empty.Reads as may-be-empty
+use Rattle.table.proofs.does_permit.Reads as does-permit
+use Rattle.frame.proofs.title_of.Reads as title-of
+use Rattle.frame.proofs.mark_after.Reads as mark-after
+use Rattle.frame.proofs.next_mark.Reads as next-mark
+use Rattle.frame.proofs.count_fields.Reads as count-fields
+use Rattle.frame.proofs.part.Reads as part
+use Rattle.frame.proofs.body_of.Reads as body-of
+use Rattle.frame.proofs.check_no.Reads as check-no
+use Rattle.reading.proofs.read_identity.Reads as read-identity
+use Rattle.reading.proofs.field_no.Reads as field-no
+use Rattle.reading.proofs.whole_no.Reads as whole-no
+use Rattle.reading.proofs.read_of.Reads as read-of
+use Rattle.reading.proofs.read_record.Reads as read-record
+use Rattle.reading.proofs.identity_field.Reads as identity-field
+use Rattle.reading.proofs.field_of.Reads as field-of
+use Rattle.reading.proofs.record_field.Reads as record-field
 
 -- any two results x and y that the contract Q allows for the same lifetimes κs and arguments a are equal
 abbrev pub OneAnswer : {K : Type 0} {A R S : K → Type 0} → ((κs : K) → A κs → R κs → S κs → Type 0) → Type 0
 OneAnswer {K} {A} {R} {S} Q = (κs : K) (a : A κs) (x y : R κs) (s t : S κs) → Q κs a x s → Q κs a y t → x ≡ y
+
+-- the same of a part that is handed back: its bytes are the answer
+abbrev pub OnePart : {K : Type 0} {A S : K → Type 0} → ((κs : K) → A κs → RefT Bytes → S κs → Type 0) → Type 0
+OnePart {K} {A} {S} Q = (κs : K) (a : A κs) (x y : RefT Bytes) (s t : S κs) → Q κs a x s → Q κs a y t → now x ≡ now y
+
+-- and of what stands behind a `&mut` parameter afterwards, which `left` picks
+abbrev pub OneLeft : {K X : Type 0} {A R S : K → Type 0} → ((κs : K) → A κs → R κs → S κs → Type 0) → ((κs : K) → S κs → X) → Type 0
+OneLeft {K} {X} {A} {R} {S} Q left =
+    (κs : K) (a : A κs) (x y : R κs) (s t : S κs) → Q κs a x s → Q κs a y t → left κs s ≡ left κs t
 
 pub record Determined : Type 0 where
   -- crc16
@@ -40,3 +77,38 @@ pub record Determined : Type 0 where
   pub hex-digit : OneAnswer hex-digit.Post
   pub hex-value : OneAnswer hex-value.Post
   pub check-text : OneAnswer check-text.Post
+  -- table
+  pub mark-of : OneAnswer mark-of.Post
+  pub count-of : OneAnswer count-of.Post
+  pub type-of : OneAnswer type-of.Post
+  pub is-pubkey : OneAnswer is-pubkey.Post
+  pub row-in : OneAnswer row-in.Post
+  pub identity-kind : OneAnswer identity-kind.Post
+  pub record-kind : OneAnswer record-kind.Post
+  pub kind-named : OneAnswer kind-named.Post
+  pub is-identity : OneAnswer is-identity.Post
+  pub may-be-empty : OneAnswer may-be-empty.Post
+  pub does-permit : OneAnswer does-permit.Post
+  -- frame
+  pub title-of : OnePart title-of.Post
+  pub mark-after : OneAnswer mark-after.Post
+  pub next-mark : OneAnswer next-mark.Post
+  pub count-fields : OneAnswer count-fields.Post
+  pub part : OnePart part.Post
+  pub body-of : OnePart body-of.Post
+  pub check-no : OneAnswer check-no.Post
+  -- reading
+  pub read-identity : OneAnswer read-identity.Post
+  pub field-no : OneAnswer field-no.Post
+  pub whole-no : OneAnswer whole-no.Post
+  pub read-of : OneAnswer read-of.Post
+  pub read-record : OneAnswer read-record.Post
+  pub identity-field-part : OnePart identity-field.Post
+  pub identity-field-no : OneLeft identity-field.Post (λ κs s. now (s .1 .1 .0))
+  pub identity-field-field : OneLeft identity-field.Post (λ κs s. now (s .1 .1 .1 .0))
+  pub field-of-part : OnePart field-of.Post
+  pub field-of-no : OneLeft field-of.Post (λ κs s. now (s .1 .1 .1 .1 .0))
+  pub field-of-field : OneLeft field-of.Post (λ κs s. now (s .1 .1 .1 .1 .1 .0))
+  pub record-field-part : OnePart record-field.Post
+  pub record-field-no : OneLeft record-field.Post (λ κs s. now (s .1 .1 .0))
+  pub record-field-field : OneLeft record-field.Post (λ κs s. now (s .1 .1 .1 .0))

@@ -1,4 +1,6 @@
+pub mod Worked
 pub mod Starred
 pub mod Determined
 pub mod Check
 pub mod TextTypes
+pub mod Reading

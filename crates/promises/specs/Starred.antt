@@ -6,7 +6,9 @@ use mathlib.Core.Path.{_≡_}
 use mathlib.Core.Bool.{Bool, true, false}
 use mathlib.Core.List.{List, [], _∷_}
 use Rattle.crc16.specs.Crc.{crcOf}
+use lib.ListN.{length}
 use Rattle.text.specs.Text.{ascii, isTimestamp, isHex}
+use Rattle.promises.specs.Worked.{idSm, idKmc, centreKey, request, response}
 
 -- what is computed, and what it must be
 pub data Star : Type 0 where
@@ -26,6 +28,11 @@ starred =
     number (crcOf []) 0xFFFF
     ∷ number (crcOf (0x00 ∷ [])) 0x40BF
     ∷ number (crcOf (ascii "123456789")) 0x4B37
+    ∷ number (length idSm) 60
+    ∷ number (length idKmc) 73
+    ∷ number (length centreKey) 302
+    ∷ number (length request) 434
+    ∷ number (length response) 219
     ∷ test (isTimestamp (ascii "20180110T230000Z")) true
     ∷ test (isTimestamp (ascii "20180110T240000Z")) false
     ∷ test (isHex 2 (ascii "0a")) false

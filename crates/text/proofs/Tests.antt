@@ -1,14 +1,14 @@
 -- Tests in a row: the first that decides.
 -- Assumes nothing.
 use Prim.Native.Nat.{ℕ, zero, suc, _+_, _≤_, _<_}
-use mathlib.Core.Path.{_≡_, refl, sym, subst}
+use mathlib.Core.Path.{_≡_, refl, sym, ap₂, subst}
 use mathlib.Core.Logic.{⊎-elim}
 use mathlib.Core.Bool.{Bool, true, false, not, cond, _&&_, _||_}
-use mathlib.Core.List.{List, [], _∷_}
+use mathlib.Core.List.{List, [], _∷_, _++_}
 use native.Mathlib.Nat.{le-of-suc-le-suc, not-suc-le-zero}
-use lib.Dec.{T, leb, eqb, leb→le, eqb→eq}
+use lib.Dec.{T, leb, eqb, leb→le, eqb→eq, eqb-refl}
 use mir.Facts.{and-yes, yes-and, or-yes}
-use Rattle.text.specs.Text.{Bytes, every, between, oneOf}
+use Rattle.text.specs.Text.{Bytes, every, same, between, oneOf}
 
 pub or-stop : (a b : Bool) → a ≡ true → (a || b) ≡ true
 or-stop a b e = rw e
@@ -36,6 +36,10 @@ T-true false t = absurd t
 
 pub true-T : (b : Bool) → b ≡ true → T b
 true-T b e = rw e tt
+
+pub T-false : (b : Bool) → T (not b) → b ≡ false
+T-false true t = absurd t
+T-false false t = refl
 
 pub or-left : (a b : Bool) → T a → T (a || b)
 or-left true b t = tt
@@ -74,6 +78,26 @@ one-of p [] h c t = absurd t
 one-of p (d ∷ ds) h c t =
     let h′ = and-yes (p d) (every p ds) h in
     ⊎-elim (λ e. subst (λ (x : ℕ). T (p x)) (sym (eqb→eq c d e)) (h′ .0)) (one-of p ds (h′ .1) c) (or-yes (eqb c d) (oneOf ds c) t)
+
+pub every-append : (p : ℕ → Bool) (s t : Bytes) → T (every p s) → T (every p t) → T (every p (s ++ t))
+every-append p [] t hs ht = ht
+every-append p (c ∷ s) t hs ht =
+    let h = and-yes (p c) (every p s) hs in
+    yes-and (p c) (every p (s ++ t)) (h .0) (every-append p s t (h .1) ht)
+
+-- ---- two texts
+
+pub same→eq : (s t : Bytes) → T (same s t) → s ≡ t
+same→eq [] [] h = refl
+same→eq [] (d ∷ t) h = absurd h
+same→eq (c ∷ s) [] h = absurd h
+same→eq (c ∷ s) (d ∷ t) h =
+    let h′ = and-yes (eqb c d) (same s t) h in
+    ap₂ {C = Bytes} (λ x r. x ∷ r) (eqb→eq c d (h′ .0)) (same→eq s t (h′ .1))
+
+pub same-refl : (s : Bytes) → T (same s s)
+same-refl [] = tt
+same-refl (c ∷ s) = yes-and (eqb c c) (same s s) (eqb-refl c) (same-refl s)
 
 -- ---- a test of all numbers below k, computed
 

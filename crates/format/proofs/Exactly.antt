@@ -1,0 +1,216 @@
+-- What each call accepts, exactly: the records that may be built of the kinds that it reads, with the fields that they were
+-- built from. No refusal has the number 0; a record has one kind, one list of fields and a known length.
+-- Assumes nothing.
+use Prim.Native.Nat.{_+_, _≤_}
+use Prim.Native.Char.{code}
+use mathlib.Core.Path.{_≡_, sym, ap, ap₂, _∙_, subst}
+use mathlib.Core.Logic.{_↔_, ⊎-elim}
+use mathlib.Core.Bool.{not, _&&_}
+use mathlib.Core.List.{List, [], _∷_}
+use native.Mathlib.Omega.{arith}
+use native.Mathlib.Nat.{le-trans}
+use lib.Dec.{T, T-not, eqb, leb, eqb→eq, le→leb}
+use lib.ListN.{length, length-append}
+use mir.Facts.{and-yes, yes-and, yes-eqb}
+use Rattle.crc16.specs.Crc.{crcOf}
+use Rattle.text.specs.Text.{Bytes, same, identCharacter, isHex}
+use Rattle.text.specs.Base16.{checkText}
+use Rattle.text.proofs.Tests.{T-true, same→eq, same-refl}
+use Rattle.text.proofs.Types.{hex-length, timestamp-length, point-hex}
+use Rattle.text.proofs.Hexadecimal.{check-hex}
+use Rattle.format.specs.Numbers.{tooLong, noKind, noCheck, wrongCheck, wrongCount}
+use Rattle.format.specs.Kinds.{Kind, Field, name, mark, fieldsOf, identityFields, identityKinds, recordKinds, pubkeyKinds, among}
+use Rattle.format.specs.Build.{recordOf, empty, Fits, FitAll, PermittedOver, BuiltOver, IsIdentity, Permitted, Built}
+use Rattle.format.specs.Read.{Outcome, accepted, refused, answer, title, markAfter, kindIn, body, check, lastOr, fieldsIn, judged, readAs, readOver, readIdentity, readOf, readRecord}
+use Rattle.format.proofs.Table.{name-inj, All, kindIn-some, kindIn-known, record-room, identity-row, pubkey-row}
+use Rattle.format.proofs.Parts.{WithoutAll, record-length, built-title, built-last, built-check, built-fields, record-without, found-built}
+use Rattle.format.proofs.Outcomes.{never, provided-law, ofKind-law, Honest, honest-zero}
+use Rattle.format.proofs.Fields.{fit-length, Exact, fits-judged, judged-law, Tame, fields-held, record-held}
+
+-- ---- a call that asks `ask` of identities, which accepts exactly the identities I
+
+module _ (ask : Bytes → Outcome) (I : Kind → Bytes → Type 0) (x : Exact ask I) where
+  read-says : (ks : List Kind) (s : Bytes) → Honest (BuiltOver I ks s) (readOver ask ks s)
+  unfolding readOver readAs
+  read-says ks s =
+      let P : Outcome → Type 0 = Honest (BuiltOver I ks s) in
+      provided-law P (leb (length s) 1024) tooLong _ tt
+      (λ short. ofKind-law P (kindIn ks (title s) (markAfter s)) (readAs ask s) tt
+      (λ k e.
+      let fs : List Bytes = fieldsIn k s in
+      let known = kindIn-some ks (title s) (markAfter s) k e in
+      provided-law P (isHex 4 (check s) && eqb (lastOr 0 (body s)) (mark k)) noCheck _ tt
+      (λ ends. provided-law P (same (check s) (checkText (crcOf (body s)))) wrongCheck _ tt
+      (λ right. provided-law P (eqb (length fs) (length (fieldsOf k))) wrongCount _ tt
+      (λ count. judged-law ask I x P (λ n i. tt) k fs (accepted k fs) (eqb→eq (length fs) (length (fieldsOf k)) count)
+      (λ p.
+      let last = and-yes (isHex 4 (check s)) (eqb (lastOr 0 (body s)) (mark k)) ends .1 in
+      record {
+        of-kind = known .0;
+        permitted = p;
+        built =
+            found-built k s (known .1) (known .2) (eqb→eq (lastOr 0 (body s)) (mark k) last)
+            (same→eq (check s) (checkText (crcOf (body s))) right);
+      }))))))
+
+  as-accepts : (k : Kind) (fs : List Bytes) → WithoutAll (mark k) fs → PermittedOver I k fs → readAs ask (recordOf k fs) k ≡ accepted k fs
+  unfolding readAs
+  as-accepts k fs w p =
+      let s : Bytes = recordOf k fs in
+      let hex : T (isHex 4 (check s)) = rw (built-check k fs) (check-hex (crcOf (body s))) in
+      let ends = yes-and (isHex 4 (check s)) (eqb (lastOr 0 (body s)) (mark k)) hex (yes-eqb (built-last k fs)) in
+      rw (
+        built-fields k fs w,
+        T-true (isHex 4 (check s) && eqb (lastOr 0 (body s)) (mark k)) ends,
+        T-true (same (check s) (checkText (crcOf (body s)))) (rw (built-check k fs) (same-refl (checkText (crcOf (body s))))),
+        T-true (eqb (length fs) (length (fieldsOf k))) (yes-eqb (fit-length I (fieldsOf k) fs (p .fit))),
+      ) (fits-judged ask I x k fs (accepted k fs) p)
+
+  over-exact : Tame I → (ks : List Kind) (s : Bytes) (k : Kind) (fs : List Bytes) → (readOver ask ks s ≡ accepted k fs) ↔ BuiltOver I ks s k fs
+  unfolding readOver
+  over-exact tame ks s k fs = (
+    λ e. subst (Honest (BuiltOver I ks s)) e (read-says ks s),
+    λ b.
+        let held = record-held I tame k fs (b .permitted .fit) in
+        let known = built-title k fs in
+        rw (
+          b .built,
+          T-true (leb (length (recordOf k fs)) 1024) (le→leb (length (recordOf k fs)) 1024 (omega (arith, record-room k))),
+          known .0,
+          known .1,
+          kindIn-known ks k (b .of-kind),
+        ) (as-accepts k fs (held .0) (b .permitted)),
+  )
+
+-- ---- the identity call, which asks nobody
+
+abbrev nobody : Bytes → Outcome
+nobody f = refused noKind 0
+
+abbrev NoIdentity : Kind → Bytes → Type 0
+NoIdentity k f = ⊥
+
+no-exact : Exact nobody NoIdentity
+no-exact = record { sound = λ k fs f e. never e; complete = λ k f i. absurd i }
+
+no-tame : Tame NoIdentity
+no-tame m u k f i = absurd i
+
+identity-over : (s : Bytes) (k : Kind) (fs : List Bytes) → (readIdentity s ≡ accepted k fs) ↔ BuiltOver NoIdentity identityKinds s k fs
+unfolding readIdentity
+identity-over s k fs = over-exact nobody NoIdentity no-exact no-tame identityKinds s k fs
+
+pub identity-honest : (s : Bytes) → answer (readIdentity s) ≡ 0 → (k : Kind) × (fs : List Bytes) × (readIdentity s ≡ accepted k fs)
+unfolding readIdentity
+identity-honest s = honest-zero (BuiltOver NoIdentity identityKinds s) (readIdentity s) (read-says nobody NoIdentity no-exact identityKinds s)
+
+pub ask-sound : (k : Kind) (fs : List Bytes) (f : Bytes) → readIdentity f ≡ accepted k fs → IsIdentity k f
+unfolding IsIdentity
+ask-sound k fs f e = (fs, identity-over f k fs .0 e)
+
+pub ask-complete : (k : Kind) (f : Bytes) → IsIdentity k f → (fs : List Bytes) × (readIdentity f ≡ accepted k fs)
+unfolding IsIdentity
+ask-complete k f (fs, b) = (fs, identity-over f k fs .1 b)
+
+pub ask-exact : Exact readIdentity IsIdentity
+ask-exact = record { sound = ask-sound; complete = ask-complete }
+
+-- the fields of an identity are texts, so that they fit whatever identities are
+refit : (I J : Kind → Bytes → Type 0) (ts : List Field) → All (λ t. (f : Bytes) → Fits I t f → Fits J t f) ts
+    → (fs : List Bytes) → FitAll I ts fs → FitAll J ts fs
+unfolding FitAll
+refit I J [] g [] h = h
+refit I J [] g (f ∷ fs) h = h
+refit I J (t ∷ ts) g [] h = h
+refit I J (t ∷ ts) g (f ∷ fs) h = (g .0 f (h .0), refit I J ts (g .1) fs (h .1))
+
+built-over : (I J : Kind → Bytes → Type 0) (s : Bytes) (k : Kind) (fs : List Bytes) → BuiltOver I identityKinds s k fs → BuiltOver J identityKinds s k fs
+unfolding Fits
+built-over I J s k fs b =
+    let row = identity-row k (b .of-kind) .1 in
+    let fit = refit I J identityFields (λ f h. h, (λ f h. h, (λ f h. h, (λ f h. h, tt)))) fs (rw row at (b .permitted .fit)) in
+    record { of-kind = b .of-kind; permitted = record { fit = rw row fit; both = b .permitted .both }; built = b .built }
+
+pub identity-exact : (s : Bytes) (k : Kind) (fs : List Bytes) → (readIdentity s ≡ accepted k fs) ↔ Built identityKinds s k fs
+identity-exact s k fs = (
+  λ e. built-over NoIdentity IsIdentity s k fs (identity-over s k fs .0 e),
+  λ b. identity-over s k fs .1 (built-over IsIdentity NoIdentity s k fs b),
+)
+
+-- ---- the calls that read records
+
+pub identity-tame : Tame IsIdentity
+unfolding IsIdentity
+identity-tame m u k f (fs, b) =
+    let fit = b .permitted .fit in
+    let row = identity-row k (b .of-kind) in
+    let u′ = and-yes (not (identCharacter m)) (not (eqb (code ":") m)) u in
+    let clean = fields-held NoIdentity no-tame m (fieldsOf k) fs (rw (row .1, T-true (not (identCharacter m)) (u′ .0)) tt) fit .0 in
+    let short = record-held NoIdentity no-tame k fs fit .1 in
+    rw (b .built) (record-without m (u′ .0) k fs (rw (row .0) (u′ .1)) clean, omega arith)
+
+-- whatever kinds it reads: the fields of an identity are texts
+pub read-exact : (ks : List Kind) (s : Bytes) (k : Kind) (fs : List Bytes) → (readOf ks s ≡ accepted k fs) ↔ Built ks s k fs
+unfolding readOf
+read-exact ks s k fs = over-exact readIdentity IsIdentity ask-exact identity-tame ks s k fs
+
+pub record-exact : (s : Bytes) (k : Kind) (fs : List Bytes) → (readRecord s ≡ accepted k fs) ↔ Built recordKinds s k fs
+unfolding readRecord
+record-exact s k fs = read-exact recordKinds s k fs
+
+pub read-honest : (ks : List Kind) (s : Bytes) → answer (readOf ks s) ≡ 0 → (k : Kind) × (fs : List Bytes) × (readOf ks s ≡ accepted k fs)
+unfolding readOf
+read-honest ks s = honest-zero (Built ks s) (readOf ks s) (read-says readIdentity IsIdentity ask-exact ks s)
+
+-- ---- one kind and one list of fields
+
+pub permitted-fields : (k : Kind) (fs : List Bytes) → Permitted k fs → fieldsIn k (recordOf k fs) ≡ fs
+permitted-fields k fs p = built-fields k fs (record-held IsIdentity identity-tame k fs (p .fit) .0)
+
+pub built-unique : (s : Bytes) (j k : Kind) (fs gs : List Bytes) → Permitted j fs → Permitted k gs → s ≡ recordOf j fs → s ≡ recordOf k gs
+    → (j ≡ k) × (fs ≡ gs)
+built-unique s j k fs gs p q d e =
+    let one : j ≡ k = name-inj j k (sym (built-title j fs .0) ∙ ap title (sym d ∙ e) ∙ built-title k gs .0) in
+    (one, sym (permitted-fields j fs p) ∙ ap₂ fieldsIn one (sym d ∙ e) ∙ permitted-fields k gs q)
+
+-- ---- lengths
+
+pub built-length : (k : Kind) (fs : List Bytes) → Permitted k fs → length (recordOf k fs) ≤ 646
+built-length k fs p = le-trans (record-held IsIdentity identity-tame k fs (p .fit) .1) (record-room k)
+
+pub identity-length : (k : Kind) (a b c d : Bytes) → T (among k identityKinds) → Permitted k (a ∷ b ∷ c ∷ d ∷ [])
+    → length (recordOf k (a ∷ b ∷ c ∷ d ∷ [])) ≡ length (name k) + length a + length b + 41
+unfolding FitAll Fits
+identity-length k a b c d h p =
+    let fit = rw (identity-row k h .1) at (p .fit) in
+    record-length k (a ∷ b ∷ c ∷ d ∷ []) ∙ simp length-append (omega (arith, timestamp-length c (fit .1 .1 .0), hex-length 16 d (fit .1 .1 .1 .0)))
+
+pubkey-length : (k : Kind) (s q e i g : Bytes) → T (among k pubkeyKinds) → Permitted k (s ∷ q ∷ e ∷ i ∷ g ∷ [])
+    → (length (recordOf k (s ∷ q ∷ e ∷ i ∷ g ∷ [])) ≡ length (name k) + length s + 220 + length i + length g)
+    × (T (not (empty g)) → length g ≡ 192)
+unfolding FitAll Fits
+pubkey-length k s q e i g h p =
+    let fit = rw (pubkey-row k h .1) at (p .fit) in (
+      record-length k (s ∷ q ∷ e ∷ i ∷ g ∷ [])
+          ∙ simp length-append (omega (arith, hex-length 194 q (point-hex q (fit .1 .0)), timestamp-length e (fit .1 .1 .0))),
+      λ n. hex-length 192 g (⊎-elim (λ t. absurd (T-not (empty g) n t)) (λ t. t) (fit .1 .1 .1 .1 .0)),
+    )
+
+pub unsigned-length : (k : Kind) (s q e : Bytes) → T (among k pubkeyKinds) → Permitted k (s ∷ q ∷ e ∷ [] ∷ [] ∷ [])
+    → length (recordOf k (s ∷ q ∷ e ∷ [] ∷ [] ∷ [])) ≡ length (name k) + length s + 220
+unsigned-length k s q e h p = omega (arith, pubkey-length k s q e [] [] h p .0)
+
+pub signed-length : (k : Kind) (s q e i g : Bytes) → T (among k pubkeyKinds) → Permitted k (s ∷ q ∷ e ∷ i ∷ g ∷ []) → T (not (empty g))
+    → length (recordOf k (s ∷ q ∷ e ∷ i ∷ g ∷ [])) ≡ length (name k) + length s + 220 + length i + 192
+signed-length k s q e i g h p n = let l = pubkey-length k s q e i g h p in omega (arith, l .0, l .1 n)
+
+-- ---- the fields that a builder is given
+
+pub judged-accepted : (k : Kind) (fs : List Bytes) (o : Outcome) {j : Kind} {gs : List Bytes} → length fs ≡ length (fieldsOf k)
+    → judged readIdentity k fs o ≡ accepted j gs → Permitted k fs × (o ≡ accepted j gs)
+judged-accepted k fs o {j} {gs} l =
+    judged-law readIdentity IsIdentity ask-exact (λ r. r ≡ accepted j gs → Permitted k fs × (o ≡ accepted j gs)) (λ n i e. absurd (never e)) k fs o l
+    (λ p e. (p, e))
+
+pub permitted-judged : (k : Kind) (fs : List Bytes) (o : Outcome) → Permitted k fs → judged readIdentity k fs o ≡ o
+permitted-judged = fits-judged readIdentity IsIdentity ask-exact

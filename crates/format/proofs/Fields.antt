@@ -1,0 +1,125 @@
+-- The fields of a record: they are answered 0 exactly if they fit, no mark stands in them, and they are no longer than the table
+-- says.
+-- Assumes nothing.
+use Prim.Native.Nat.{ℕ, suc, _+_, _≤_}
+use mathlib.Core.Path.{_≡_, refl, sym, ap, _∙_}
+use mathlib.Core.Logic.{inl, inr}
+use mathlib.Core.Bool.{Bool, true, false, cond}
+use mathlib.Core.List.{List, [], _∷_, map}
+use native.Mathlib.Omega.{arith}
+use lib.Dec.{T}
+use lib.ListN.{length, length-append}
+use mir.Facts.{and-yes}
+use Rattle.text.specs.Text.{Bytes, without, allOf, isOf, shortest, longest}
+use Rattle.text.proofs.Tests.{by-test, cond-yes, cond-no, between-high}
+use Rattle.text.proofs.Types.{plain, plain-without, lengths}
+use Rattle.format.specs.Numbers.{wrongText, noIdentity, wrongKind, unpaired}
+use Rattle.format.specs.Kinds.{Kind, Field, Text, Identity, OrEmpty, name, mark, fieldsOf, among}
+use Rattle.format.specs.Build.{joined, recordOf, empty, Fits, FitAll, paired, PermittedOver}
+use Rattle.format.specs.Read.{Outcome, accepted, refused, passing, identityAnswer, fieldAnswer, each, wholeAnswer, judged}
+use Rattle.format.proofs.Table.{alien, absent, longestOf, room, mark-absent}
+use Rattle.format.proofs.Parts.{WithoutAll, record-length}
+use Rattle.format.proofs.Outcomes.{passing-law}
+
+-- ---- as many fields as the table has
+
+pub fit-length : (I : Kind → Bytes → Type 0) (ts : List Field) (fs : List Bytes) → FitAll I ts fs → length fs ≡ length ts
+unfolding FitAll
+fit-length I [] [] h = refl
+fit-length I [] (f ∷ fs) h = absurd h
+fit-length I (t ∷ ts) [] h = absurd h
+fit-length I (t ∷ ts) (f ∷ fs) h = ap suc (fit-length I ts fs (h .1))
+
+-- ---- answered 0 exactly if they fit
+
+-- `ask` accepts exactly the identities I
+pub record Exact (ask : Bytes → Outcome) (I : Kind → Bytes → Type 0) : Type 0 where
+  pub sound : (k : Kind) (fs : List Bytes) (f : Bytes) → ask f ≡ accepted k fs → I k f
+  pub complete : (k : Kind) (f : Bytes) → I k f → (fs : List Bytes) × (ask f ≡ accepted k fs)
+
+zero-yes : (b : Bool) (n : ℕ) → cond b 0 (suc n) ≡ 0 → T b
+zero-yes true n e = tt
+zero-yes false n e = absurd (omega arith)
+
+module _ (ask : Bytes → Outcome) (I : Kind → Bytes → Type 0) (x : Exact ask I) where
+  field-fits : (t : Field) (f : Bytes) → fieldAnswer ask t f ≡ 0 → Fits I t f
+  unfolding fieldAnswer identityAnswer Fits
+  field-fits (Text t) f e = zero-yes (isOf t f) _ e
+  field-fits (Identity ks) f e = go (ask f) refl
+    where
+      go : (o : Outcome) → ask f ≡ o → (k : Kind) × T (among k ks) × I k f
+      go (accepted k fs) h = (k, zero-yes (among k ks) _ (rw h at e), x .sound k fs f h)
+      go (refused n i) h = absurd (let z : noIdentity ≡ 0 = rw h at e in omega arith)
+  field-fits (OrEmpty t) f e =
+      by-test (empty f) (λ h. inl h) (λ h. inr (field-fits t f (sym (cond-no (empty f) 0 (fieldAnswer ask t f) h) ∙ e)))
+
+  fits-field : (t : Field) (f : Bytes) → Fits I t f → fieldAnswer ask t f ≡ 0
+  unfolding fieldAnswer identityAnswer Fits
+  fits-field (Text t) f h = cond-yes (isOf t f) 0 wrongText h
+  fits-field (Identity ks) f h = ap (identityAnswer ks) (x .complete (h .0) f (h .2) .1) ∙ cond-yes (among (h .0) ks) 0 wrongKind (h .1)
+  fits-field (OrEmpty t) f (inl h) = cond-yes (empty f) 0 (fieldAnswer ask t f) h
+  fits-field (OrEmpty t) f (inr h) = rw (fits-field t f h) (by-test (empty f) (cond-yes (empty f) 0 0) (cond-no (empty f) 0 0))
+
+  pub fits-each : (i : ℕ) (ts : List Field) (fs : List Bytes) (o : Outcome) → FitAll I ts fs → each ask i ts fs o ≡ o
+  unfolding FitAll
+  fits-each i [] fs o h = refl
+  fits-each i (t ∷ ts) [] o h = refl
+  fits-each i (t ∷ ts) (f ∷ fs) o h = rw (fits-field t f (h .0)) (fits-each (suc i) ts fs o (h .1))
+
+  pub fits-judged : (k : Kind) (fs : List Bytes) (o : Outcome) → PermittedOver I k fs → judged ask k fs o ≡ o
+  unfolding judged wholeAnswer
+  fits-judged k fs o p =
+      fits-each 1 (fieldsOf k) fs (passing (wholeAnswer k fs) 0 o) (p .fit)
+      ∙ ap (λ (n : ℕ). passing n 0 o) (cond-yes (paired k fs) 0 unpaired (p .both))
+
+  -- what holds of refusals, and of o if the fields fit, holds of the call
+  module _ (S : Outcome → Type 0) (r : (n i : ℕ) → S (refused (suc n) i)) where
+    pub each-law : (i : ℕ) (ts : List Field) (fs : List Bytes) (o : Outcome) → length fs ≡ length ts → (FitAll I ts fs → S o)
+        → S (each ask i ts fs o)
+    unfolding FitAll
+    each-law i [] [] o l g = g tt
+    each-law i [] (f ∷ fs) o l g = absurd (omega arith)
+    each-law i (t ∷ ts) [] o l g = absurd (omega arith)
+    each-law i (t ∷ ts) (f ∷ fs) o l g =
+        passing-law S (fieldAnswer ask t f) i (each ask (suc i) ts fs o) (λ n. r n i)
+        (λ z. each-law (suc i) ts fs o (omega arith) (λ h. g (field-fits t f z, h)))
+
+    pub judged-law : (k : Kind) (fs : List Bytes) (o : Outcome) → length fs ≡ length (fieldsOf k) → (PermittedOver I k fs → S o)
+        → S (judged ask k fs o)
+    unfolding judged wholeAnswer
+    judged-law k fs o l g =
+        each-law 1 (fieldsOf k) fs (passing (wholeAnswer k fs) 0 o) l
+        (λ h. passing-law S (wholeAnswer k fs) 0 o (λ n. r n 0) (λ z. g (record { fit = h; both = zero-yes (paired k fs) _ z })))
+
+-- ---- no mark in a field, and its length
+
+-- the identities I have no alien byte, and at most 112 bytes
+abbrev pub Tame : (Kind → Bytes → Type 0) → Type 0
+Tame I = (m : ℕ) → T (alien m) → (k : Kind) (f : Bytes) → I k f → T (without m f) × (length f ≤ 112)
+
+module _ (I : Kind → Bytes → Type 0) (tame : Tame I) where
+  field-held : (m : ℕ) (t : Field) (f : Bytes) → T (absent m t) → Fits I t f → T (without m f) × (length f ≤ longestOf t)
+  unfolding Fits
+  field-held m (Text t) f u h = (plain-without m u f (plain t f h), between-high (shortest t) (longest t) (length f) (lengths t f h))
+  field-held m (Identity ks) f u h = tame m u (h .0) f (h .2)
+  field-held m (OrEmpty t) [] u h = (tt, omega arith)
+  field-held m (OrEmpty t) (c ∷ f) u (inl h) = absurd h
+  field-held m (OrEmpty t) (c ∷ f) u (inr h) = field-held m t (c ∷ f) u h
+
+  pub fields-held : (m : ℕ) (ts : List Field) (fs : List Bytes) → T (allOf (map (absent m) ts)) → FitAll I ts fs
+      → WithoutAll m fs × (length (joined m fs) ≤ room ts)
+  unfolding FitAll
+  fields-held m [] [] u h = (tt, omega arith)
+  fields-held m [] (f ∷ fs) u h = absurd h
+  fields-held m (t ∷ ts) [] u h = absurd h
+  fields-held m (t ∷ ts) (f ∷ fs) u h =
+      let u′ = and-yes (absent m t) (allOf (map (absent m) ts)) u in
+      let a = field-held m t f (u′ .0) (h .0) in
+      let b = fields-held m ts fs (u′ .1) (h .1) in
+      ((a .0, b .0), omega (arith, length-append f (m ∷ joined m fs)))
+
+  pub record-held : (k : Kind) (fs : List Bytes) → FitAll I (fieldsOf k) fs
+      → WithoutAll (mark k) fs × (length (recordOf k fs) ≤ length (name k) + room (fieldsOf k) + 5)
+  record-held k fs h =
+      let held = fields-held (mark k) (fieldsOf k) fs (mark-absent k) h in
+      (held .0, omega (arith, record-length k fs))

@@ -1,0 +1,7 @@
+pub mod Table
+pub mod Parts
+pub mod Outcomes
+pub mod Fields
+pub mod Exactly
+pub mod Lines
+pub mod Damage

@@ -1,0 +1,166 @@
+-- Cutting at a mark undoes joining, and joining undoes cutting: the title, the mark, the body, the check and the fields of a
+-- built record, and the record that is built of such parts.
+-- Assumes nothing.
+use Prim.Native.Nat.{ℕ, _+_, _-_}
+use mathlib.Core.Path.{_≡_, refl, sym, ap, _∙_}
+use mathlib.Core.Bool.{Bool, true, false, not, cond}
+use mathlib.Core.List.{List, [], _∷_, _++_, append-assoc}
+use native.Mathlib.Omega.{arith}
+use lib.Dec.{T, T-not, eqb, eqb→eq, eqb-refl}
+use lib.ListN.{length, drop, length-append, take-append-drop}
+use lib.Seq.{take-at, drop-at}
+use mir.Facts.{and-yes, yes-and, yes-eqb, no-eqb}
+use Rattle.crc16.specs.Crc.{crcOf}
+use Rattle.text.specs.Text.{Bytes, every, without, identCharacter, Hex}
+use Rattle.text.specs.Base16.{checkText}
+use Rattle.text.proofs.Tests.{T-false, by-test, T-true, every-append}
+use Rattle.text.proofs.Types.{plain, plain-without, hex-length}
+use Rattle.text.proofs.Hexadecimal.{check-hex}
+use Rattle.format.specs.Kinds.{Kind, name, mark}
+use Rattle.format.specs.Build.{joined, withCheck, recordOf}
+use Rattle.format.specs.Read.{isMark, title, markAfter, body, check, lastOr, onFirst, cut, fieldsIn}
+use Rattle.format.proofs.Table.{All, mark-is-mark, mark-no-character, name-markless, name-plain}
+
+-- ---- joined after cut
+
+on-first : (m c d : ℕ) (b : Bool) (ps qs : List Bytes)
+    → joined m (onFirst c (cond b ([] ∷ ps) (onFirst d qs))) ≡ c ∷ joined m (cond b ([] ∷ ps) (onFirst d qs))
+on-first m c d true ps qs = refl
+on-first m c d false ps [] = refl
+on-first m c d false ps (q ∷ qs) = refl
+
+joined-cut : (b m : ℕ) (s : Bytes) → lastOr b s ≡ m → joined m (cut m s) ≡ s
+joined-cut b m [] e = refl
+joined-cut b m (c ∷ []) e = rw (T-true (eqb c m) (yes-eqb e), e)
+joined-cut b m (c ∷ d ∷ s) e =
+    let i = joined-cut c m (d ∷ s) e in
+    by-test (eqb c m)
+    (λ t. rw (T-true (eqb c m) t, i, eqb→eq c m t))
+    (λ t. rw (T-false (eqb c m) t) (on-first m c d (eqb d m) (cut m s) (cut m s) ∙ rw i))
+
+-- the first part is what stands before the first mark
+cut-title : (m : ℕ) (s : Bytes) → T (isMark m) → markAfter s ≡ m → cut m s ≡ title s ∷ drop 1 (cut m s)
+cut-title m [] h e = absurd (rw (← e) at h)
+cut-title m (c ∷ s) h e =
+    by-test (isMark c)
+    (λ t. let e′ : c ≡ m = rw (T-true (isMark c) t) at e in rw (T-true (isMark c) t, T-true (eqb c m) (yes-eqb e′)))
+    (λ t.
+    let n = T-false (isMark c) t in
+    let apart : T (not (eqb c m)) = no-eqb (λ (e′ : c ≡ m). T-not (isMark m) (rw e′ at t) h) in
+    rw (n, T-false (eqb c m) apart, cut-title m s h (rw n at e)))
+
+-- ---- cut after joined
+
+cut-through : (m : ℕ) (f r : Bytes) → T (without m f) → cut m (f ++ m ∷ r) ≡ f ∷ cut m r
+cut-through m [] r h = rw (T-true (eqb m m) (eqb-refl m))
+cut-through m (c ∷ f) r h =
+    let h′ = and-yes (not (eqb c m)) (without m f) h in
+    rw (T-false (eqb c m) (h′ .0), cut-through m f r (h′ .1))
+
+abbrev pub WithoutAll : ℕ → List Bytes → Type 0
+WithoutAll m fs = All (λ f. T (without m f)) fs
+
+cut-joined : (m : ℕ) (fs : List Bytes) → WithoutAll m fs → cut m (joined m fs) ≡ fs
+cut-joined m [] h = refl
+cut-joined m (f ∷ fs) h = cut-through m f (joined m fs) (h .0) ∙ rw (cut-joined m fs (h .1))
+
+last-joined : (c m : ℕ) (fs : List Bytes) (f : Bytes) → lastOr c (joined m (f ∷ fs)) ≡ m
+last-joined c m [] [] = refl
+last-joined c m (g ∷ fs) [] = last-joined m m fs g
+last-joined c m [] (d ∷ f) = last-joined d m [] f
+last-joined c m (g ∷ fs) (d ∷ f) = last-joined d m (g ∷ fs) f
+
+-- ---- the title and the mark after it
+
+title-through : (m : ℕ) (f r : Bytes) → T (isMark m) → T (every (λ c. not (isMark c)) f) → (title (f ++ m ∷ r) ≡ f) × (markAfter (f ++ m ∷ r) ≡ m)
+title-through m [] r h t = rw (T-true (isMark m) h) (refl, refl)
+title-through m (c ∷ f) r h t =
+    let t′ = and-yes (not (isMark c)) (every (λ d. not (isMark d)) f) t in
+    let i = title-through m f r h (t′ .1) in
+    rw (T-false (isMark c) (t′ .0)) (ap {B = Bytes} (λ s. c ∷ s) (i .0), i .1)
+
+-- if the last byte of r is a mark, what follows r is not looked at
+title-front : (d : ℕ) (r t : Bytes) → T (not (isMark d)) → T (isMark (lastOr d r))
+    → (title (r ++ t) ≡ title r) × (markAfter (r ++ t) ≡ markAfter r)
+title-front d [] t n h = absurd (T-not (isMark d) n h)
+title-front d (c ∷ r) t n h =
+    by-test (isMark c)
+    (λ u. rw (T-true (isMark c) u) (refl, refl))
+    (λ u. let i = title-front c r t u h in rw (T-false (isMark c) u) (ap {B = Bytes} (λ s. c ∷ s) (i .0), i .1))
+
+-- ---- a text with its check
+
+module _ (r : Bytes) where
+  abbrev its-check : Bytes
+  its-check = checkText (crcOf r)
+
+  check-length : length its-check ≡ 4
+  check-length = hex-length 4 its-check (check-hex (crcOf r))
+
+  pub length-of : length (withCheck r) ≡ length r + 4
+  unfolding withCheck
+  length-of = omega (arith, check-length, length-append r its-check)
+
+  pub body-of : body (withCheck r) ≡ r
+  unfolding withCheck
+  body-of = take-at r its-check (length (r ++ its-check) - 4) (omega (arith, length-of))
+
+  pub check-of : check (withCheck r) ≡ checkText (crcOf (body (withCheck r)))
+  unfolding withCheck
+  check-of = drop-at r its-check (length (r ++ its-check) - 4) (omega (arith, length-of)) ∙ ap (λ (b : Bytes). checkText (crcOf b)) (sym body-of)
+
+-- ---- the parts of a built record
+
+module _ (k : Kind) (fs : List Bytes) where
+  pub record-length : length (recordOf k fs) ≡ length (name k) + length (joined (mark k) fs) + 5
+  unfolding recordOf
+  record-length = omega (arith, length-of (joined (mark k) (name k ∷ fs)), length-append (name k) (mark k ∷ joined (mark k) fs))
+
+  pub built-title : (title (recordOf k fs) ≡ name k) × (markAfter (recordOf k fs) ≡ mark k)
+  unfolding recordOf withCheck
+  built-title = rw append-assoc (title-through (mark k) (name k) _ (mark-is-mark k) (name-markless k))
+
+  pub built-last : lastOr 0 (body (recordOf k fs)) ≡ mark k
+  unfolding recordOf
+  built-last = rw body-of (last-joined 0 (mark k) fs (name k))
+
+  pub built-check : check (recordOf k fs) ≡ checkText (crcOf (body (recordOf k fs)))
+  unfolding recordOf
+  built-check = check-of (joined (mark k) (name k ∷ fs))
+
+  pub built-fields : WithoutAll (mark k) fs → fieldsIn k (recordOf k fs) ≡ fs
+  unfolding recordOf
+  built-fields h =
+      let n = plain-without (mark k) (mark-no-character k) (name k) (name-plain k) in
+      rw (body-of, cut-joined (mark k) (name k ∷ fs) (n, h))
+
+-- ---- a byte that stands in no part
+
+joined-without : (m c : ℕ) → T (not (eqb m c)) → (fs : List Bytes) → WithoutAll c fs → T (without c (joined m fs))
+joined-without m c n [] w = tt
+joined-without m c n (f ∷ fs) w =
+    every-append (λ d. not (eqb d c)) f (m ∷ joined m fs) (w .0)
+    (yes-and (not (eqb m c)) (without c (joined m fs)) n (joined-without m c n fs (w .1)))
+
+pub record-without : (c : ℕ) → T (not (identCharacter c)) → (k : Kind) (fs : List Bytes) → T (not (eqb (mark k) c)) → WithoutAll c fs
+    → T (without c (recordOf k fs))
+unfolding recordOf withCheck
+record-without c u k fs n w =
+    let r : Bytes = joined (mark k) (name k ∷ fs) in
+    every-append (λ d. not (eqb d c)) r (checkText (crcOf r))
+    (joined-without (mark k) c n (name k ∷ fs) (plain-without c u (name k) (name-plain k), w))
+    (plain-without c u (checkText (crcOf r)) (plain (Hex 4) (checkText (crcOf r)) (check-hex (crcOf r))))
+
+-- ---- a record that is built of the parts found in it
+
+pub found-built : (k : Kind) (s : Bytes) → title s ≡ name k → markAfter s ≡ mark k → lastOr 0 (body s) ≡ mark k
+    → check s ≡ checkText (crcOf (body s)) → s ≡ recordOf k (fieldsIn k s)
+unfolding recordOf withCheck
+found-built k s t m l c =
+    let whole : body s ++ check s ≡ s = take-append-drop (length s - 4) s in
+    let front = title-front 0 (body s) (check s) tt (rw l (mark-is-mark k)) in
+    let t′ : title (body s) ≡ name k = sym (front .0) ∙ ap title whole ∙ t in
+    let m′ : markAfter (body s) ≡ mark k = sym (front .1) ∙ ap markAfter whole ∙ m in
+    let parts : cut (mark k) (body s) ≡ name k ∷ fieldsIn k s = cut-title (mark k) (body s) (mark-is-mark k) m′ ∙ rw t′ in
+    let back : joined (mark k) (name k ∷ fieldsIn k s) ≡ body s = ap (joined (mark k)) (sym parts) ∙ joined-cut 0 (mark k) (body s) l in
+    sym whole ∙ ap (λ (d : Bytes). body s ++ d) c ∙ ap withCheck (sym back)

@@ -1,0 +1,133 @@
+-- The table of kinds: a kind is known by its name, and what holds of every kind is one computed test.
+-- Assumes nothing.
+use Prim.Native.Nat.{ℕ, zero, suc, _+_, _≤_}
+use Prim.Native.Char.{code}
+use mathlib.Core.Path.{_≡_, refl, sym, ap, _∙_, subst}
+use mathlib.Core.Logic.{⊎-elim}
+use mathlib.Core.Option.{Option, some}
+use mathlib.Core.Bool.{Bool, true, false, not, cond, _&&_}
+use mathlib.Core.List.{List, [], _∷_, map}
+use native.Mathlib.Omega.{arith}
+use lib.Dec.{T, eqb, leb, lit≤, eqb→eq, eqb-refl, leb→le}
+use lib.ListN.{length, getD}
+use mir.Facts.{and-yes, or-yes, yes-eqb}
+use Rattle.text.specs.Text.{Bytes, same, every, allOf, identCharacter, longest}
+use Rattle.text.proofs.Tests.{by-test, T-true, T-false, or-left, or-right, same→eq, same-refl}
+use Rattle.format.specs.Kinds.{Kind, SMMAN, SMID, KMCID, ECDSA, ECDH, REQ, RESP, Field, Text, Identity, OrEmpty, name, mark, fieldsOf, identityFields, pubkeyFields, identityKinds, pubkeyKinds, allKinds, among}
+use Rattle.format.specs.Read.{isMark, kindIn}
+
+-- ---- a kind is known by its name
+
+-- where the name t stands in the table
+abbrev index : List Kind → Bytes → ℕ
+index [] t = 0
+index (k ∷ ks) t = cond (same t (name k)) 0 (suc (index ks t))
+
+at-index : (k : Kind) → getD allKinds (index allKinds (name k)) SMMAN ≡ k
+at-index SMMAN = refl
+at-index SMID = refl
+at-index KMCID = refl
+at-index ECDSA = refl
+at-index ECDH = refl
+at-index REQ = refl
+at-index RESP = refl
+
+pub name-inj : (j k : Kind) → name j ≡ name k → j ≡ k
+name-inj j k e = sym (at-index j) ∙ ap (λ (t : Bytes). getD allKinds (index allKinds t) SMMAN) e ∙ at-index k
+
+-- ---- what holds of every kind, and of those in a list
+
+every-at : (p : Kind → Bool) (d : Kind) → T (p d) → (ks : List Kind) → T (allOf (map p ks)) → (i : ℕ) → T (p (getD ks i d))
+every-at p d u [] t i = u
+every-at p d u (k ∷ ks) t zero = and-yes (p k) (allOf (map p ks)) t .0
+every-at p d u (k ∷ ks) t (suc i) = every-at p d u ks (and-yes (p k) (allOf (map p ks)) t .1) i
+
+pub every-kind : (p : Kind → Bool) → T (allOf (map p allKinds)) → (k : Kind) → T (p k)
+every-kind p t k =
+    subst (λ (j : Kind). T (p j)) (at-index k) (every-at p SMMAN (and-yes (p SMMAN) _ t .0) allKinds t (index allKinds (name k)))
+
+abbrev pub All : {A : Type 0} → (A → Type 0) → List A → Type 0
+All P [] = Unit {0}
+All P (x ∷ xs) = P x × All P xs
+
+pub all-among : (P : Kind → Type 0) (ks : List Kind) → All P ks → (k : Kind) → T (among k ks) → P k
+all-among P [] h k t = absurd t
+all-among P (j ∷ ks) h k t =
+    ⊎-elim (λ e. subst P (sym (name-inj k j (same→eq (name k) (name j) e))) (h .0)) (all-among P ks (h .1) k)
+    (or-yes (same (name k) (name j)) (among k ks) t)
+
+-- ---- the kind of a name and a mark
+
+pub kindIn-some : (ks : List Kind) (t : Bytes) (m : ℕ) (k : Kind) → kindIn ks t m ≡ some k → T (among k ks) × (t ≡ name k) × (m ≡ mark k)
+kindIn-some [] t m k e = absurd (let z : _≡_ {A = ℕ} 0 1 = cc in omega arith)
+kindIn-some (j ∷ ks) t m k e =
+    by-test (same t (name j) && eqb m (mark j))
+    (λ h.
+    let e₁ : some j ≡ some k = rw (T-true (same t (name j) && eqb m (mark j)) h) at e in
+    let e₂ : j ≡ k = cc in
+    let h′ = and-yes (same t (name j)) (eqb m (mark j)) h in
+    rw (← e₂) (or-left (same (name j) (name j)) (among j ks) (same-refl (name j)), same→eq t (name j) (h′ .0), eqb→eq m (mark j) (h′ .1)))
+    (λ h.
+    let i = kindIn-some ks t m k (rw (T-false (same t (name j) && eqb m (mark j)) h) at e) in
+    (or-right (same (name k) (name j)) (among k ks) (i .0), i .1, i .2))
+
+pub kindIn-known : (ks : List Kind) (k : Kind) → T (among k ks) → kindIn ks (name k) (mark k) ≡ some k
+kindIn-known [] k h = absurd h
+kindIn-known (j ∷ ks) k h =
+    by-test (same (name k) (name j))
+    (λ t.
+    let e : k ≡ j = name-inj k j (same→eq (name k) (name j) t) in
+    rw (T-true (same (name k) (name j)) t, T-true (eqb (mark k) (mark j)) (yes-eqb (ap mark e))) (ap {B = Option Kind} some (sym e)))
+    (λ t. let e = T-false (same (name k) (name j)) t in rw e (kindIn-known ks k (rw e at h)))
+
+-- ---- marks and names
+
+pub mark-is-mark : (k : Kind) → T (isMark (mark k))
+mark-is-mark = every-kind (λ k. isMark (mark k)) tt
+
+pub mark-no-character : (k : Kind) → T (not (identCharacter (mark k)))
+mark-no-character = every-kind (λ k. not (identCharacter (mark k))) tt
+
+pub name-markless : (k : Kind) → T (every (λ c. not (isMark c)) (name k))
+name-markless = every-kind (λ k. every (λ c. not (isMark c)) (name k)) tt
+
+pub name-plain : (k : Kind) → T (every identCharacter (name k))
+name-plain = every-kind (λ k. every identCharacter (name k)) tt
+
+-- ---- fields
+
+-- m stands in no identity: it is neither a character of a text nor the mark of an identity
+abbrev pub alien : ℕ → Bool
+alien m = not (identCharacter m) && not (eqb (code ":") m)
+
+-- m stands in no such field
+abbrev pub absent : ℕ → Field → Bool
+absent m (Text t) = not (identCharacter m)
+absent m (Identity ks) = alien m
+absent m (OrEmpty t) = absent m t
+
+pub mark-absent : (k : Kind) → T (allOf (map (absent (mark k)) (fieldsOf k)))
+mark-absent = every-kind (λ k. allOf (map (absent (mark k)) (fieldsOf k))) tt
+
+abbrev pub longestOf : Field → ℕ
+longestOf (Text t) = longest t
+longestOf (Identity ks) = 112
+longestOf (OrEmpty t) = longestOf t
+
+-- the longest fields, with a mark after each
+abbrev pub room : List Field → ℕ
+room [] = 0
+room (t ∷ ts) = longestOf t + 1 + room ts
+
+pub record-room : (k : Kind) → length (name k) + room (fieldsOf k) + 5 ≤ 646
+record-room k =
+    leb→le (length (name k) + room (fieldsOf k) + 5) 646 (every-kind (λ j. leb (length (name j) + room (fieldsOf j) + 5) 646) tt k)
+
+-- ---- the rows of identities and of public keys
+
+pub identity-row : (k : Kind) → T (among k identityKinds)
+    → (mark k ≡ code ":") × (fieldsOf k ≡ identityFields) × (length (name k) + room (fieldsOf k) + 5 ≤ 112)
+identity-row = all-among _ identityKinds ((refl, refl, lit≤ tt), ((refl, refl, lit≤ tt), ((refl, refl, lit≤ tt), tt)))
+
+pub pubkey-row : (k : Kind) → T (among k pubkeyKinds) → (ks : List Kind) × (fieldsOf k ≡ pubkeyFields ks)
+pubkey-row = all-among _ pubkeyKinds ((SMMAN ∷ [], refl), ((SMID ∷ KMCID ∷ [], refl), tt))

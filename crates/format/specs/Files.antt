@@ -1,0 +1,76 @@
+-- A file of records: document 01, "Files of records and the newer key". A file is lines, each ended by one line feed.
+-- Assumes nothing.
+use Prim.Native.Nat.{ℕ, zero, suc, _+_}
+use mathlib.Core.Bool.{Bool, true, false, cond}
+use mathlib.Core.List.{List, [], _∷_}
+use lib.ListN.{length, drop}
+use lib.Dec.{leb, ltb, eqb}
+use Rattle.text.specs.Text.{Bytes}
+use Rattle.format.specs.Numbers.{unfinished}
+use Rattle.format.specs.Read.{Outcome, accepted, refused, readRecord}
+
+abbrev pub lineFeed : ℕ
+lineFeed = 0x0A
+
+-- what stands before the first c, or everything if there is none
+abbrev pub upTo : ℕ → Bytes → Bytes
+upTo c [] = []
+upTo c (d ∷ s) = cond (eqb d c) [] (d ∷ upTo c s)
+
+-- a line: its answer, where it starts, its length without line feed, and the next place
+pub record Line : Type 0 where
+  pub said : Outcome
+  pub start : ℕ
+  pub size : ℕ
+  pub next : ℕ
+
+-- what the file call says at a place: that the file is finished, with that place as start and as next place and length 0, or a line
+pub data Said : Type 0 where
+  finished : ℕ → Said
+  read : Line → Said
+
+-- the bytes l from the place to the first line feed, or to the end: number 11 where no line feed follows
+unfoldable pub lineOf : Bytes → ℕ → Bytes → Line
+lineOf file place l =
+    cond (ltb (place + length l) (length file))
+    (record { said = readRecord l; start = place; size = length l; next = place + length l + 1 })
+    (record { said = refused unfinished 0; start = place; size = length l; next = length file })
+
+unfoldable pub lineAt : Bytes → ℕ → Said
+lineAt file place =
+    cond (leb (length file) place)
+    (finished place)
+    (read (lineOf file place (upTo lineFeed (drop place file))))
+
+-- ---- walking from a place: call after call, until the file is finished
+
+abbrev pub onward : Said → (ℕ → List Line) → List Line
+onward (finished p) walk = []
+onward (read l) walk = l ∷ walk (l .next)
+
+-- at most `most` lines
+unfoldable pub walkFrom : ℕ → Bytes → ℕ → List Line
+walkFrom zero file place = []
+walkFrom (suc most) file place = onward (lineAt file place) (λ next. walkFrom most file next)
+
+-- all lines: no file has more lines than bytes
+unfoldable pub walk : Bytes → List Line
+walk file = walkFrom (length file) file 0
+
+-- ---- the lines of a file, said without any call: ls, each of which has its line feed, from place p on, and then t, which has none
+
+unfoldable pub linesFrom : ℕ → List Bytes → Bytes → List Line
+linesFrom p [] [] = []
+linesFrom p [] (c ∷ t) = record { said = refused unfinished 0; start = p; size = length (c ∷ t); next = p + length (c ∷ t) } ∷ []
+linesFrom p (l ∷ ls) t =
+    record { said = readRecord l; start = p; size = length l; next = p + length l + 1 } ∷ linesFrom (p + length l + 1) ls t
+
+-- ---- totals
+
+abbrev pub one : Outcome → ℕ
+one (accepted k fs) = 1
+one (refused n i) = 0
+
+abbrev pub acceptedLines : List Line → ℕ
+acceptedLines [] = 0
+acceptedLines (l ∷ ls) = one (l .said) + acceptedLines ls

@@ -1,0 +1,71 @@
+-- The table of the seven kinds: document 01, "Seven kinds of record"; STS 600-4-2, clauses 7.1 to 7.4.
+-- Assumes nothing.
+use Prim.Native.Nat.{ℕ}
+use Prim.Native.Char.{code}
+use mathlib.Core.Bool.{Bool, true, false, cond, _||_}
+use mathlib.Core.List.{List, [], _∷_}
+use Rattle.text.specs.Text.{Bytes, ascii, same, TextType, Ident, Timestamp, Point, Sig, Mac, Print}
+
+pub data Kind : Type 0 where
+  SMMAN SMID KMCID ECDSA ECDH REQ RESP : Kind
+
+-- what a field holds: a text, an identity of one of some kinds, or nothing in place of that
+pub data Field : Type 0 where
+  Text : TextType → Field
+  Identity : List Kind → Field
+  OrEmpty : Field → Field
+
+abbrev pub name : Kind → Bytes
+name SMMAN = ascii "SMMAN.1"
+name SMID = ascii "SMID.1"
+name KMCID = ascii "KMCID.1"
+name ECDSA = ascii "PK.ECDSA.1"
+name ECDH = ascii "PK.ECDH.1"
+name REQ = ascii "VKLOAD.REQ.1"
+name RESP = ascii "VKLOAD.RESP.1"
+
+abbrev pub mark : Kind → ℕ
+mark SMMAN = code ":"
+mark SMID = code ":"
+mark KMCID = code ":"
+mark ECDSA = code "|"
+mark ECDH = code "|"
+mark REQ = code "|"
+mark RESP = code "|"
+
+-- Manufacturer, MID, GNT, Fingerprint
+abbrev pub identityFields : List Field
+identityFields = Text Ident ∷ Text Ident ∷ Text Timestamp ∷ Text Print ∷ []
+
+-- Subject, Q, Expiry, Issuer, Signature
+abbrev pub pubkeyFields : List Kind → List Field
+pubkeyFields subjects =
+    Identity subjects ∷ Text Point ∷ Text Timestamp ∷ OrEmpty (Identity (SMMAN ∷ [])) ∷ OrEmpty (Text Sig) ∷ []
+
+-- the request: ID_SM, ID_KMC, TVP, HWID, FWID, QE, MacTag; the response: ID_KMC, ID_SM, TVP, MacTag
+abbrev pub fieldsOf : Kind → List Field
+fieldsOf SMMAN = identityFields
+fieldsOf SMID = identityFields
+fieldsOf KMCID = identityFields
+fieldsOf ECDSA = pubkeyFields (SMMAN ∷ [])
+fieldsOf ECDH = pubkeyFields (SMID ∷ KMCID ∷ [])
+fieldsOf REQ = Identity (SMID ∷ []) ∷ Identity (KMCID ∷ []) ∷ Text Timestamp ∷ Text Ident ∷ Text Ident ∷ Text Point ∷ Text Mac ∷ []
+fieldsOf RESP = Identity (KMCID ∷ []) ∷ Identity (SMID ∷ []) ∷ Text Timestamp ∷ Text Mac ∷ []
+
+-- the kinds that an identity call reads, those that a record call reads, and the public keys among these
+abbrev pub identityKinds : List Kind
+identityKinds = SMMAN ∷ SMID ∷ KMCID ∷ []
+
+abbrev pub recordKinds : List Kind
+recordKinds = ECDSA ∷ ECDH ∷ REQ ∷ RESP ∷ []
+
+abbrev pub pubkeyKinds : List Kind
+pubkeyKinds = ECDSA ∷ ECDH ∷ []
+
+abbrev pub allKinds : List Kind
+allKinds = SMMAN ∷ SMID ∷ KMCID ∷ ECDSA ∷ ECDH ∷ REQ ∷ RESP ∷ []
+
+-- k is one of ks (no two kinds have one name)
+abbrev pub among : Kind → List Kind → Bool
+among k [] = false
+among k (j ∷ ks) = same (name k) (name j) || among k ks

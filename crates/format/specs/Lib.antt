@@ -1,0 +1,6 @@
+pub mod Numbers
+pub mod Kinds
+pub mod Build
+pub mod Read
+pub mod Files
+pub mod Damage

@@ -1,0 +1,54 @@
+-- The body and the check of a record, and the tests of numbers 3 and 4 in a row.
+-- Assumes nothing.
+use Prim.Native.Nat.{ℕ, suc, _-_, _<_}
+use mathlib.Core.Path.{_≡_, refl, _∙_}
+use mathlib.Core.Bool.{true, false, cond}
+use mathlib.Core.List.{[], _∷_}
+use native.Mathlib.Omega.{arith}
+use lib.ListN.{length, take, drop, getD}
+use borrow.Author.Tests.{eq-eqb, ne-eqb}
+use Rattle.crc16.specs.Crc.{crcOf}
+use Rattle.text.specs.Text.{Bytes, same, isHex}
+use Rattle.text.specs.Base16.{checkText}
+use Rattle.text.proofs.Loops.{rest-all}
+use Rattle.format.specs.Read.{body, check, lastOr}
+use Rattle.frame.specs.Frame.{checkNo}
+
+-- ---- body and check, as code takes these parts
+
+module _ (s : Bytes) (n : ℕ) (e : n ≡ length s - 4) where
+  pub body-part : take (n - 0) (drop 0 s) ≡ body s
+  body-part = let z : n - 0 ≡ length s - 4 = omega arith in rw z
+
+  pub check-part : take (length s - n) (drop n s) ≡ check s
+  check-part = rest-all s n ∙ rw e
+
+-- ---- the last byte
+
+pub last-get : (c : ℕ) (s : Bytes) → 0 < length s → lastOr c s ≡ getD s (length s - 1) 0
+last-get c [] h = absurd (omega arith)
+last-get c (d ∷ []) h = refl
+last-get c (d ∷ e ∷ s) h =
+    let a : suc (suc (length s)) - 1 ≡ suc (length s) = omega arith in
+    let b : suc (length s) - 1 ≡ length s = omega arith in
+    rw a (rw b at (last-get d (e ∷ s) (omega arith)))
+
+pub last-empty : (s : Bytes) → length s ≡ 0 → lastOr 0 s ≡ 0
+last-empty [] h = refl
+last-empty (c ∷ s) h = absurd (omega arith)
+
+-- ---- the tests in a row: t and b are the check and the body as the code holds them
+
+module _ (m : ℕ) (s : Bytes) {t : Bytes} (et : t ≡ check s) where
+  pub check-form : isHex 4 t ≡ false → checkNo m s ≡ 3
+  unfolding checkNo
+  check-form h = rw (← et, h)
+
+  module _ (h : isHex 4 t ≡ true) {b : Bytes} (eb : b ≡ body s) where
+    pub check-mark : (lastOr 0 b ≡ m → ⊥) → checkNo m s ≡ 3
+    unfolding checkNo
+    check-mark n = rw (← et, h, ← eb, ne-eqb (lastOr 0 b) m n)
+
+    pub check-then : lastOr 0 b ≡ m → checkNo m s ≡ cond (same t (checkText (crcOf b))) 0 4
+    unfolding checkNo
+    check-then e = rw (← et, h, ← eb, eq-eqb (lastOr 0 b) m e)

@@ -1,0 +1,3 @@
+pub mod Title
+pub mod Parts
+pub mod Check

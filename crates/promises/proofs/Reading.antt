@@ -1,0 +1,76 @@
+-- The reading promises, from the laws of format and the contracts of reading.
+-- Assumes nothing.
+use Prim.Native.Nat.{ℕ, zero, suc, _≤_}
+use mathlib.Core.Path.{_≡_, refl, sym, ap, _∙_}
+use mathlib.Core.Logic.{_↔_, _≢_, ⊎-elim}
+use mathlib.Core.Bool.{cond, not}
+use mathlib.Core.List.{List, [], _∷_}
+use native.Mathlib.Omega.{arith}
+use lib.Dec.{T, leb, nleb→lt}
+use lib.ListN.{length, getD, List·getD-eq-default}
+use Rattle.text.specs.Text.{Bytes, between}
+use mir.Facts.{and-no}
+use Rattle.text.proofs.Tests.{by-test, cond-yes}
+use Rattle.format.specs.Numbers.{noItem}
+use Rattle.format.specs.Kinds.{Kind, identityKinds, recordKinds}
+use Rattle.format.specs.Build.{Built}
+use Rattle.format.specs.Read.{Outcome, accepted, refused, answer, readIdentity, readRecord}
+use Rattle.format.proofs.Exactly.{identity-exact, record-exact, identity-honest, read-honest, built-unique, built-length, identity-length, unsigned-length, signed-length}
+use Rattle.table.specs.Table.{rowOf}
+use Rattle.reading.specs.declared.Answer.{Answer}
+use Rattle.reading.specs.Reading.{answerOf, wantedPart, wantedNo, FieldSaid}
+use Rattle.promises.specs.Reading.{Reading}
+
+number : (o : Outcome) → answerOf o .no ≡ answer o
+number (accepted k fs) = refl
+number (refused n i) = refl
+
+-- a call whose outcome is accepted exactly for what is built, and whose refusals have another number than 0
+module _ (o : Outcome) (B : Kind → List Bytes → Type 0) (exact : (k : Kind) (fs : List Bytes) → (o ≡ accepted k fs) ↔ B k fs)
+    (honest : answer o ≡ 0 → (k : Kind) × (fs : List Bytes) × (o ≡ accepted k fs)) where
+  exactly : (r : Answer) → r ≡ answerOf o → (r .no ≡ 0) ↔ ((k : Kind) × (fs : List Bytes) × B k fs)
+  exactly r e =
+      let q : r .no ≡ answer o = ap (λ (a : Answer). a .no) e ∙ number o in (
+        λ z. let (k, fs, h) = honest (sym q ∙ z) in (k, fs, exact k fs .0 h),
+        λ b. q ∙ ap answer (exact (b .0) (b .1) .1 (b .2)),
+      )
+
+  says-kind : (r : Answer) → r ≡ answerOf o → (k : Kind) (fs : List Bytes) → B k fs → r .kind ≡ rowOf k
+  says-kind r e k fs b = ap (λ (a : Answer). a .kind) (e ∙ ap answerOf (exact k fs .1 b))
+
+  hands-back : (wanted : ℕ) (part : Bytes) (no field : ℕ) → FieldSaid o wanted part no field → (k : Kind) (fs : List Bytes) → B k fs
+      → (part ≡ getD ([] ∷ fs) wanted []) × (no ≡ cond (between 1 (length fs) wanted) 0 noItem)
+  unfolding wantedPart wantedNo
+  hands-back wanted part n i p k fs b =
+      let h = exact k fs .1 b in
+      (p .its-part ∙ ap (λ (x : Outcome). wantedPart x wanted) h, p .its-no ∙ ap (λ (x : Outcome). wantedNo x wanted) h)
+
+-- an accepted field call that has another number than 0 was asked for a field that is not there
+nothing : (o : Outcome) (wanted : ℕ) (part : Bytes) (no field : ℕ) → FieldSaid o wanted part no field → no ≢ 0 → part ≡ []
+unfolding wantedPart wantedNo
+nothing (accepted k fs) zero part m i p n = p .its-part
+nothing (accepted k fs) (suc w) part m i p n =
+    by-test (between 1 (length fs) (suc w)) (λ t. absurd (n (p .its-no ∙ cond-yes (between 1 (length fs) (suc w)) 0 noItem t)))
+    (λ t. p .its-part ∙ List·getD-eq-default fs [] (past t))
+  where
+    past : T (not (between 1 (length fs) (suc w))) → length fs ≤ w
+    past t = ⊎-elim (λ l. absurd (omega (arith, nleb→lt 1 (suc w) l))) (λ h. omega (arith, nleb→lt (suc w) (length fs) h)) (and-no (leb 1 (suc w)) (leb (suc w) (length fs)) t)
+nothing (refused m i) wanted part k j p n = p .its-part
+
+pub reading : Reading
+unfolding readRecord
+reading = record {
+  identity-exactly = λ κs a r s p. exactly _ (Built identityKinds _) (identity-exact _) (identity-honest _) r p;
+  record-exactly = λ κs a r s p. exactly _ (Built recordKinds _) (record-exact _) (read-honest recordKinds _) r p;
+  identity-kind = λ κs a r s p. says-kind _ (Built identityKinds _) (identity-exact _) (identity-honest _) r p;
+  record-kind = λ κs a r s p. says-kind _ (Built recordKinds _) (record-exact _) (read-honest recordKinds _) r p;
+  identity-fields = λ κs a r s p. hands-back _ (Built identityKinds _) (identity-exact _) (identity-honest _) _ _ _ _ p;
+  record-fields = λ κs a r s p. hands-back _ (Built recordKinds _) (record-exact _) (read-honest recordKinds _) _ _ _ _ p;
+  identity-nothing = λ κs a r s p n. nothing _ _ _ _ _ p n;
+  record-nothing = λ κs a r s p n. nothing _ _ _ _ _ p n;
+  unique = built-unique;
+  longest = built-length;
+  identity-length = identity-length;
+  unsigned-length = unsigned-length;
+  signed-length = signed-length;
+}

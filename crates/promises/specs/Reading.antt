@@ -1,0 +1,69 @@
+-- Demand 2, the reading half: a byte string is accepted exactly when the build rules write it from a permitted list of fields, and
+-- that list is the one handed back. Demand 1 for the reading calls: a refused field call hands back an empty part.
+-- The statements are about the contracts of the calls (`Post`), whatever the lifetimes κs, the arguments a, the result and what the
+-- parameters hold afterwards, s.
+-- Assumes nothing.
+use Prim.Native.Nat.{ℕ, _+_, _≤_}
+use mathlib.Core.Path.{_≡_}
+use mathlib.Core.Logic.{_↔_, _≢_}
+use mathlib.Core.Bool.{cond, not}
+use mathlib.Core.List.{List, [], _∷_}
+use lib.ListN.{length, getD}
+use lib.Dec.{T}
+use denote.Ref.{RefT, now}
+use Rattle.text.specs.Text.{Bytes, between}
+use Rattle.format.specs.Numbers.{noItem}
+use Rattle.format.specs.Kinds.{Kind, name, identityKinds, recordKinds, pubkeyKinds, among}
+use Rattle.format.specs.Build.{recordOf, empty, Permitted, Built}
+use Rattle.table.specs.Table.{rowOf, kindsFrom}
+use Rattle.reading.specs.declared.Answer.{Answer}
+use Rattle.reading.proofs.read_identity.Reads as read-identity
+use Rattle.reading.proofs.read_record.Reads as read-record
+use Rattle.reading.proofs.identity_field.Reads as identity-field
+use Rattle.reading.proofs.record_field.Reads as record-field
+
+-- the call Q, which is lent `bytes`, answers 0 if and only if these are the record of permitted fields of one of the kinds ks
+abbrev pub Exactly : {K : Type 0} {A S : K → Type 0} → ((κs : K) → A κs → Answer → S κs → Type 0) → ((κs : K) → A κs → Bytes) → List Kind → Type 0
+Exactly {K} {A} {S} Q bytes ks =
+    (κs : K) (a : A κs) (r : Answer) (s : S κs) → Q κs a r s → (r .no ≡ 0) ↔ ((k : Kind) × (fs : List Bytes) × Built ks (bytes κs a) k fs)
+
+-- and then it answers that kind
+abbrev pub SaysKind : {K : Type 0} {A S : K → Type 0} → ((κs : K) → A κs → Answer → S κs → Type 0) → ((κs : K) → A κs → Bytes) → List Kind → Type 0
+SaysKind {K} {A} {S} Q bytes ks =
+    (κs : K) (a : A κs) (r : Answer) (s : S κs) → Q κs a r s → (k : Kind) (fs : List Bytes) → Built ks (bytes κs a) k fs → r .kind ≡ rowOf k
+
+-- the call Q for the field number `wanted` hands back that field, with number 0, and nothing, with 12, where the kind hasn't it
+abbrev pub HandsBack : {K : Type 0} {A S : K → Type 0} → ((κs : K) → A κs → RefT Bytes → S κs → Type 0)
+    → ((κs : K) → A κs → Bytes) → ((κs : K) → A κs → ℕ) → ((κs : K) → S κs → ℕ) → List Kind → Type 0
+HandsBack {K} {A} {S} Q bytes wanted number ks =
+    (κs : K) (a : A κs) (part : RefT Bytes) (s : S κs) → Q κs a part s → (k : Kind) (fs : List Bytes) → Built ks (bytes κs a) k fs
+    → (now part ≡ getD ([] ∷ fs) (wanted κs a) []) × (number κs s ≡ cond (between 1 (length fs) (wanted κs a)) 0 noItem)
+
+-- demand 1: with another number than 0 the part is empty
+abbrev pub NothingRefused : {K : Type 0} {A S : K → Type 0} → ((κs : K) → A κs → RefT Bytes → S κs → Type 0) → ((κs : K) → S κs → ℕ) → Type 0
+NothingRefused {K} {A} {S} Q number = (κs : K) (a : A κs) (part : RefT Bytes) (s : S κs) → Q κs a part s → number κs s ≢ 0 → now part ≡ []
+
+pub record Reading : Type 0 where
+  pub identity-exactly : Exactly read-identity.Post (λ κs a. now (a .0)) identityKinds
+  pub record-exactly : Exactly read-record.Post (λ κs a. now (a .0)) recordKinds
+  pub identity-kind : SaysKind read-identity.Post (λ κs a. now (a .0)) identityKinds
+  pub record-kind : SaysKind read-record.Post (λ κs a. now (a .0)) recordKinds
+  pub identity-fields : HandsBack identity-field.Post (λ κs a. now (a .0)) (λ κs a. a .1 .0) (λ κs s. now (s .1 .1 .0)) identityKinds
+  pub record-fields : HandsBack record-field.Post (λ κs a. now (a .0)) (λ κs a. a .1 .0) (λ κs s. now (s .1 .1 .0)) recordKinds
+  pub identity-nothing : NothingRefused identity-field.Post (λ κs s. now (s .1 .1 .0))
+  pub record-nothing : NothingRefused record-field.Post (λ κs s. now (s .1 .1 .0))
+  -- kind and fields are unique, over all seven kinds
+  pub unique : (s : Bytes) (j k : Kind) (fs gs : List Bytes) → Permitted j fs → Permitted k gs → s ≡ recordOf j fs → s ≡ recordOf k gs
+      → (j ≡ k) × (fs ≡ gs)
+  -- no built record is longer than 646 bytes
+  pub longest : (k : Kind) (fs : List Bytes) → Permitted k fs → length (recordOf k fs) ≤ 646
+  -- an identity is kind name + Manufacturer + MID + 41
+  pub identity-length : (k : Kind) (man mid gnt print : Bytes) → T (among k identityKinds) → Permitted k (man ∷ mid ∷ gnt ∷ print ∷ [])
+      → length (recordOf k (man ∷ mid ∷ gnt ∷ print ∷ [])) ≡ length (name k) + length man + length mid + 41
+  -- an unsigned PUBKEY is kind name + Subject + 220
+  pub unsigned-length : (k : Kind) (subject q expiry : Bytes) → T (among k pubkeyKinds) → Permitted k (subject ∷ q ∷ expiry ∷ [] ∷ [] ∷ [])
+      → length (recordOf k (subject ∷ q ∷ expiry ∷ [] ∷ [] ∷ [])) ≡ length (name k) + length subject + 220
+  -- a signed one adds Issuer + 192
+  pub signed-length : (k : Kind) (subject q expiry issuer sig : Bytes) → T (among k pubkeyKinds)
+      → Permitted k (subject ∷ q ∷ expiry ∷ issuer ∷ sig ∷ []) → T (not (empty sig))
+      → length (recordOf k (subject ∷ q ∷ expiry ∷ issuer ∷ sig ∷ [])) ≡ length (name k) + length subject + 220 + length issuer + 192

@@ -1,0 +1,9 @@
+pub mod Outcomes
+pub mod Form
+pub mod Within
+pub mod Types
+pub mod Fields
+pub mod Places
+pub mod Whole
+pub mod Calls
+pub mod Wanted

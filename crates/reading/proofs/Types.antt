@@ -1,0 +1,116 @@
+-- One field by the code of its type: what a text is answered, and an identity.
+-- Assumes nothing.
+use Prim.Native.Nat.{ℕ, zero, suc, _≤_, _<_}
+use mathlib.Core.Path.{_≡_, refl, ap, sym, _∙_}
+use mathlib.Core.Bool.{Bool, true, false, cond, _&&_}
+use mathlib.Core.List.{List, [], _∷_}
+use native.Mathlib.Omega.{arith}
+use lib.ListN.{length, getD}
+use lib.Dec.{T}
+use borrow.Author.Tests.{le-leb}
+use Rattle.text.specs.Text.{Bytes, Ident, isOf}
+use Rattle.text.proofs.Tests.{and-stop, and-last, cond-yes}
+use Rattle.format.specs.Kinds.{Kind, Field, Text, Identity, OrEmpty, identityFields}
+use Rattle.format.specs.Build.{empty}
+use Rattle.format.specs.Read.{Outcome, fieldAnswer, identityAnswer}
+use Rattle.table.specs.Table.{ofRow, fieldsAt, fieldType, TypeOf, isIdentity, mayBeEmpty, permitted, rowAmong}
+use Rattle.table.proofs.Rows.{less-or, among-row}
+use Rattle.table.proofs.Codes.{noCode, past-codes, identity-codes}
+use Rattle.reading.specs.Reading.{answerOf}
+use Rattle.reading.specs.Steps.{textIn, Within}
+use Rattle.reading.specs.declared.Answer.{Answer}
+use Rattle.reading.proofs.Within.{taken, untaken}
+
+-- ---- empty or not, by the length
+
+pub empty-yes : (f : Bytes) → length f ≡ 0 → empty f ≡ true
+empty-yes [] h = refl
+empty-yes (c ∷ f) h = absurd (omega arith)
+
+pub empty-no : (f : Bytes) → (length f ≡ 0 → ⊥) → empty f ≡ false
+empty-no [] h = absurd (h refl)
+empty-no (c ∷ f) h = refl
+
+-- ---- what a field type answers
+
+true-false : true ≡ false → ⊥
+true-false e = let z : _≡_ {A = ℕ} 0 1 = cc in omega arith
+
+module _ (ask : Bytes → Outcome) (f : Bytes) where
+  pub answer-empty : (t : Field) → T (empty f) → T (mayBeEmpty t) → fieldAnswer ask t f ≡ 0
+  unfolding fieldAnswer
+  answer-empty (Text t) h m = absurd m
+  answer-empty (Identity ks) h m = absurd m
+  answer-empty (OrEmpty t) h m = cond-yes (empty f) 0 (fieldAnswer ask t f) h
+
+  pub answer-identity : (t : Field) → (empty f && mayBeEmpty t) ≡ false → isIdentity t ≡ true → fieldAnswer ask t f ≡ identityAnswer (permitted t) (ask f)
+  unfolding fieldAnswer
+  answer-identity (Text t) h e = absurd (true-false (sym e))
+  answer-identity (Identity ks) h e = refl
+  answer-identity (OrEmpty t) h e = let n = sym (and-last (empty f)) ∙ h in rw n (answer-identity t (and-stop (empty f) (mayBeEmpty t) n) e)
+
+  pub answer-text : (t : Field) → (empty f && mayBeEmpty t) ≡ false → isIdentity t ≡ false → fieldAnswer ask t f ≡ cond (isOf (textIn t) f) 0 6
+  unfolding fieldAnswer
+  answer-text (Text t) h e = refl
+  answer-text (Identity ks) h e = absurd (true-false e)
+  answer-text (OrEmpty t) h e = let n = sym (and-last (empty f)) ∙ h in rw n (answer-text t (and-stop (empty f) (mayBeEmpty t) n) e)
+
+-- ---- the fields of an identity are texts
+
+plain-field : (j : ℕ) → (isIdentity (getD identityFields j (Text Ident)) ≡ false) × (mayBeEmpty (getD identityFields j (Text Ident)) ≡ false)
+plain-field zero = (refl, refl)
+plain-field (suc zero) = (refl, refl)
+plain-field (suc (suc zero)) = (refl, refl)
+plain-field (suc (suc (suc zero))) = (refl, refl)
+plain-field (suc (suc (suc (suc j)))) = (refl, refl)
+
+identity-row : (row : ℕ) → row < 3 → fieldsAt row ≡ identityFields
+unfolding ofRow
+identity-row zero h = refl
+identity-row (suc zero) h = refl
+identity-row (suc (suc zero)) h = refl
+identity-row (suc (suc (suc row))) h = absurd (omega arith)
+
+pub plain-answer : (ask : Bytes → Outcome) (row j code : ℕ) (f : Bytes) → row < 3 → TypeOf row j code → fieldAnswer ask (fieldType code) f ≡ cond (isOf (textIn (fieldType code)) f) 0 6
+plain-answer ask row j code f h t =
+    let e : fieldType code ≡ getD identityFields j (Text Ident) = t .means ∙ ap (λ (l : List Field). getD l j (Text Ident)) (identity-row row h) in
+    answer-text ask f (fieldType code)
+    (and-none (empty f) (mayBeEmpty (fieldType code)) (ap mayBeEmpty e ∙ plain-field j .1))
+    (ap isIdentity e ∙ plain-field j .0)
+  where
+    and-none : (a b : Bool) → b ≡ false → (a && b) ≡ false
+    and-none true b z = z
+    and-none false b z = refl
+
+-- ---- a code that is none of TIMESTAMP to SIG_OR_EMPTY is as IDENT where a text is asked for
+
+identity-text : (t : Field) → isIdentity t ≡ true → textIn t ≡ Ident
+identity-text (Text t) e = absurd (true-false (sym e))
+identity-text (Identity ks) e = refl
+identity-text (OrEmpty t) e = identity-text t e
+
+pub ident-code : (code : ℕ) → (code ≡ 1 → ⊥) → (code ≡ 2 → ⊥) → (code ≡ 3 → ⊥) → (code ≡ 4 → ⊥) → (code ≡ 5 → ⊥) → textIn (fieldType code) ≡ Ident
+unfolding fieldType
+ident-code code n₁ n₂ n₃ n₄ n₅ = less-or code 6 first (λ h. less-or code noCode (identity h) past)
+  where
+    first : code < 6 → textIn (fieldType code) ≡ Ident
+    first h = let z : code ≡ 0 = omega arith in rw z
+
+    identity : 6 ≤ code → code < noCode → textIn (fieldType code) ≡ Ident
+    identity l h = identity-text (fieldType code) (sym (identity-codes code) ∙ rw (le-leb 6 code l, le-leb code 10 (omega arith)))
+
+    past : noCode ≤ code → textIn (fieldType code) ≡ Ident
+    past h = ap textIn (past-codes code h)
+
+-- ---- an identity by the answer of the identity call
+
+module _ (ks : List Kind) (o : Outcome) (a : Answer) (e : a ≡ answerOf o) where
+  pub identity-refused : (a .no ≡ 0 → ⊥) → identityAnswer ks o ≡ 7
+  unfolding identityAnswer
+  identity-refused z = ap (identityAnswer ks) (untaken o a e z)
+
+  pub identity-taken : (js : List Kind) (s : Bytes) → Within js s o → a .no ≡ 0 → identityAnswer ks o ≡ cond (rowAmong (a .kind) ks) 0 9
+  unfolding identityAnswer
+  identity-taken js s h z =
+      let t = taken js s o a h e z in
+      ap (identityAnswer ks) (t .is) ∙ ap (λ (b : Bool). cond b 0 9) (sym (ap (λ (n : ℕ). rowAmong n ks) (t .at) ∙ among-row (t .kind) ks))

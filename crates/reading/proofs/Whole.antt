@@ -1,0 +1,44 @@
+-- The fields together: number 8, by the row of the kind.
+-- Assumes nothing.
+use Prim.Native.Nat.{ℕ}
+use mathlib.Core.Path.{_≡_, refl, sym}
+use mathlib.Core.Bool.{true, false, cond, Bool·beq}
+use mathlib.Core.List.{List, [], _∷_}
+use lib.ListN.{length, getD}
+use lib.Seq.{getD-drop}
+use lib.Dec.{eqb, eqb·suc-zero}
+use Rattle.text.specs.Text.{Bytes}
+use Rattle.format.specs.Kinds.{Kind, mark, pubkeyKinds, among}
+use Rattle.format.specs.Build.{empty}
+use Rattle.format.specs.Read.{body, cut, fieldsIn, wholeAnswer}
+use Rattle.frame.specs.Frame.{partOf}
+use Rattle.table.specs.Table.{rowOf, markOf, isPubkey}
+use Rattle.table.proofs.Rows.{of-kind}
+use Rattle.reading.specs.Reading.{wholeNo}
+
+-- ---- the tests in a row
+
+empty-is : (f : Bytes) → empty f ≡ eqb (length f) 0
+empty-is [] = refl
+empty-is (c ∷ f) = sym (eqb·suc-zero (length f))
+
+module _ (row : ℕ) (issuer signature : Bytes) where
+  pub whole-other : isPubkey row ≡ false → wholeNo row issuer signature ≡ 0
+  unfolding wholeNo
+  whole-other e = rw e
+
+  pub whole-pubkey : isPubkey row ≡ true → wholeNo row issuer signature ≡ cond (Bool·beq (eqb (length issuer) 0) (eqb (length signature) 0)) 0 8
+  unfolding wholeNo
+  whole-pubkey e = rw (e, empty-is issuer, empty-is signature)
+
+-- ---- by the kind
+
+pub whole-kind : (k : Kind) (fs : List Bytes) → wholeNo (rowOf k) (getD fs 3 []) (getD fs 4 []) ≡ wholeAnswer k fs
+unfolding wholeNo wholeAnswer
+whole-kind k fs = rw (of-kind (λ j. among j pubkeyKinds) false k)
+
+-- Issuer and Signature are parts 4 and 5 of the body
+pub whole-parts : (k : Kind) (s b : Bytes) (row : ℕ) → row ≡ rowOf k → b ≡ body s → wholeNo row (partOf (markOf row) b 4) (partOf (markOf row) b 5) ≡ wholeAnswer k (fieldsIn k s)
+unfolding partOf
+whole-parts k s b row e eb =
+    rw (e, eb, of-kind mark 0 k, ← getD-drop 1 (cut (mark k) (body s)) 3 [], ← getD-drop 1 (cut (mark k) (body s)) 4 []) (whole-kind k (fieldsIn k s))

@@ -1,0 +1,73 @@
+-- `reading::read_identity` meets its contract: the call step by step.
+-- Assumes nothing.
+use denote.Ref.{now}
+use mathlib.Core.Path.{sym, ap, _∙_}
+use Rattle.format.specs.Kinds.{identityKinds}
+use Rattle.reading.specs.Reading.{answerOf}
+use Rattle.reading.specs.Steps.{noInner}
+use Rattle.reading.proofs.Outcomes.{over-long}
+use Rattle.reading.proofs.Form.{form-counted}
+use Rattle.reading.proofs.Calls.{Begun, begun, call-form, call-kind, call-parts, call-plain, identity-is, identity-row, identity-plain}
+use borrow.Author.Needs.{needs}
+use Rattle.reading.proofs.read_identity.Statement.{statement}
+use Rattle.reading.proofs.read_identity.Tie as tie
+
+-- numbers 1 to 5
+start : (c : tie.After-form-no) → Begun identityKinds (now (c .before .before .before .before .before .before .args .identity)) (c .before .identity-kind .result) (c .form-no .result)
+start c = begun identityKinds _ _ _ _ _ (c .before .before .before .before .if1 .left) (c .before .before .before .title-of .ensures) (c .before .before .mark-after .ensures) (c .before .identity-kind .ensures) (c .form-no .ensures)
+
+refuse-requires : tie.Need-refuse-requires
+refuse-requires c κs = search needs
+
+returns : tie.Need-returns
+returns c = c .refuse .ensures ∙ sym (ap answerOf (identity-is _ ∙ over-long noInner identityKinds (now (c .before .before .before .args .identity)) (c .before .if1 .taken)))
+
+title-of-requires : tie.Need-title-of-requires
+title-of-requires c κs = search needs
+
+mark-after-requires : tie.Need-mark-after-requires
+mark-after-requires c κs = search needs
+
+identity-kind-requires : tie.Need-identity-kind-requires
+identity-kind-requires c κs = search needs
+
+form-no-requires : tie.Need-form-no-requires
+form-no-requires c κs = search needs
+
+refuse-requires-2 : tie.Need-refuse-requires-2
+refuse-requires-2 c κs = search needs
+
+returns-2 : tie.Need-returns-2
+returns-2 c = c .refuse2 .ensures ∙ sym (ap answerOf (identity-is _ ∙ call-form noInner (start (c .before .before)) (c .before .if2 .taken)))
+
+body-of-requires : tie.Need-body-of-requires
+body-of-requires c κs = search needs
+
+identity-fields-requires : tie.Need-identity-fields-requires
+identity-fields-requires c κs = (identity-row (start (c .before .before)) (c .before .if2 .left), form-counted _ (now (c .before .before .before .before .before .before .before .before .args .identity)) _ (c .body-of .ensures) (sym (c .before .before .form-no .ensures) ∙ c .before .if2 .left))
+
+answered-requires : tie.Need-answered-requires
+answered-requires c κs = search needs
+
+returns-3 : tie.Need-returns-3
+returns-3 c =
+    let s = start (c .before .before .before .before) in let z = c .before .before .before .if2 .left in let k = call-kind noInner s z in
+    c .answered .ensures (k .kind) (call-parts noInner s z) (k .at)
+    ∙ sym (ap answerOf (identity-is _ ∙ call-plain noInner s z _ (c .before .before .body-of .ensures) (c .before .identity-fields .ensures) (identity-plain s z)))
+
+pub read-identity-spec : {M : Type 1} → statement M
+read-identity-spec =
+    tie.close
+    (tie.spec
+    refuse-requires
+    returns
+    title-of-requires
+    mark-after-requires
+    identity-kind-requires
+    form-no-requires
+    refuse-requires-2
+    returns-2
+    body-of-requires
+    identity-fields-requires
+    answered-requires
+    returns-3)

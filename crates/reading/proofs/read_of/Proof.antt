@@ -1,0 +1,89 @@
+-- `reading::read_of` meets its contract: the call step by step.
+-- Assumes nothing.
+use denote.Ref.{now}
+use mathlib.Core.Path.{sym, ap, _∙_}
+use Rattle.format.specs.Read.{readIdentity}
+use Rattle.table.specs.Table.{kindsFrom}
+use Rattle.reading.specs.Reading.{answerOf}
+use Rattle.reading.proofs.Outcomes.{passing-as, over-long}
+use Rattle.reading.proofs.Form.{form-counted}
+use Rattle.reading.proofs.Whole.{whole-parts}
+use Rattle.reading.proofs.Calls.{Begun, begun, call-form, call-kind, call-parts, call-field, call-whole, of-is}
+use borrow.Author.Needs.{needs}
+use Rattle.reading.proofs.read_of.Statement.{statement}
+use Rattle.reading.proofs.read_of.Tie as tie
+
+-- numbers 1 to 5
+start : (c : tie.After-form-no) → Begun (kindsFrom (c .before .before .before .before .before .before .args .from) (c .before .before .before .before .before .before .args .to)) (now (c .before .before .before .before .before .before .args .«record»)) (c .before .record-kind .result) (c .form-no .result)
+start c = begun _ _ _ _ _ _ (c .before .before .before .before .if1 .left) (c .before .before .before .title-of .ensures) (c .before .before .mark-after .ensures) (c .before .record-kind .ensures) (c .form-no .ensures)
+
+refuse-requires : tie.Need-refuse-requires
+refuse-requires c κs = search needs
+
+returns : tie.Need-returns
+returns c = c .refuse .ensures ∙ sym (ap answerOf (of-is _ _ ∙ over-long readIdentity _ (now (c .before .before .before .args .«record»)) (c .before .if1 .taken)))
+
+title-of-requires : tie.Need-title-of-requires
+title-of-requires c κs = search needs
+
+mark-after-requires : tie.Need-mark-after-requires
+mark-after-requires c κs = search needs
+
+record-kind-requires : tie.Need-record-kind-requires
+record-kind-requires c κs = search needs
+
+form-no-requires : tie.Need-form-no-requires
+form-no-requires c κs = search needs
+
+refuse-requires-2 : tie.Need-refuse-requires-2
+refuse-requires-2 c κs = search needs
+
+returns-2 : tie.Need-returns-2
+returns-2 c = c .refuse2 .ensures ∙ sym (ap answerOf (of-is _ _ ∙ call-form readIdentity (start (c .before .before)) (c .before .if2 .taken)))
+
+body-of-requires : tie.Need-body-of-requires
+body-of-requires c κs = search needs
+
+record-fields-requires : tie.Need-record-fields-requires
+record-fields-requires c κs = form-counted _ (now (c .before .before .before .before .before .before .before .before .args .«record»)) _ (c .body-of .ensures) (sym (c .before .before .form-no .ensures) ∙ c .before .if2 .left)
+
+refuse-requires-3 : tie.Need-refuse-requires-3
+refuse-requires-3 c κs = search needs
+
+returns-3 : tie.Need-returns-3
+returns-3 c =
+    c .refuse3 .ensures
+    ∙ sym (ap answerOf (of-is _ _ ∙ call-field readIdentity (start (c .before .before .before .before .before .before)) (c .before .before .before .before .before .if2 .left) _ (c .before .before .before .before .body-of .ensures) (c .before .before .before .record-fields .ensures) (c .before .if3 .taken)))
+
+body-no-requires : tie.Need-body-no-requires
+body-no-requires c κs = search needs
+
+answered-requires : tie.Need-answered-requires
+answered-requires c κs = search needs
+
+returns-4 : tie.Need-returns-4
+returns-4 c =
+    let s = start (c .before .before .before .before .before .before .before) in let z = c .before .before .before .before .before .before .if2 .left in let k = call-kind readIdentity s z in
+    c .answered .ensures (k .kind) (call-parts readIdentity s z) (k .at)
+    ∙ ap answerOf (passing-as 0 _ (c .before .body-no .ensures ∙ whole-parts (k .kind) (now (c .before .before .before .before .before .before .before .before .before .before .before .before .before .args .«record»)) _ _ (k .at) (c .before .before .before .before .before .body-of .ensures)))
+    ∙ sym (ap answerOf (of-is _ _ ∙ call-whole readIdentity s z _ (c .before .before .before .before .before .body-of .ensures) (c .before .before .before .before .record-fields .ensures) (c .before .before .if3 .left)))
+
+pub read-of-spec : {M : Type 1} → statement M
+read-of-spec =
+    tie.close
+    (tie.spec
+    refuse-requires
+    returns
+    title-of-requires
+    mark-after-requires
+    record-kind-requires
+    form-no-requires
+    refuse-requires-2
+    returns-2
+    body-of-requires
+    record-fields-requires
+    refuse-requires-3
+    returns-3
+    body-no-requires
+    answered-requires
+    returns-4)

@@ -1,0 +1,25 @@
+-- `reading::wanted_no` meets its contract: the tests in a row.
+-- Assumes nothing.
+use native.Mathlib.Omega.{arith}
+use Rattle.reading.proofs.Wanted.{wanted-refused, wanted-zero, wanted-past, wanted-there}
+use borrow.Author.Needs.{needs}
+use Rattle.reading.proofs.wanted_no.Statement.{statement}
+use Rattle.reading.proofs.wanted_no.Tie as tie
+
+returns : tie.Need-returns
+returns c = λ o ks s w e. wanted-refused o ks s w _ e _ (c .if1 .taken)
+
+returns-2 : tie.Need-returns-2
+returns-2 c = λ o ks s w e. wanted-zero o ks s w _ e _ (c .before .if1 .left) (c .if2 .taken)
+
+count-of-requires : tie.Need-count-of-requires
+count-of-requires c κs = search needs
+
+returns-3 : tie.Need-returns-3
+returns-3 c = λ o ks s w e. wanted-past o ks s w _ e _ (c .before .before .before .if1 .left) (c .before .before .if2 .left) (omega (arith, c .before .count-of .ensures, c .if3 .taken))
+
+returns-4 : tie.Need-returns-4
+returns-4 c = λ o ks s w e. wanted-there o ks s w _ e _ (c .before .before .before .if1 .left) (c .before .before .if2 .left) (omega (arith, c .before .count-of .ensures, c .if3 .left))
+
+pub wanted-no-spec : {M : Type 1} → statement M
+wanted-no-spec = tie.close (tie.spec returns returns-2 count-of-requires returns-3 returns-4)

@@ -1,0 +1,42 @@
+-- What the reading calls answer: document 01, "Numbers given back". `readIdentity`, `readOf` and `readRecord` of format say the
+-- outcome; here it is put into the words of an answer.
+-- Assumes nothing.
+use Prim.Native.Nat.{ℕ}
+use mathlib.Core.Path.{_≡_}
+use mathlib.Core.Bool.{cond, not, _||_, Bool·beq}
+use mathlib.Core.List.{[], _∷_}
+use lib.ListN.{length, getD}
+use Rattle.text.specs.Text.{Bytes, between}
+use Rattle.format.specs.Numbers.{unpaired, noItem}
+use Rattle.format.specs.Build.{empty}
+use Rattle.format.specs.Read.{Outcome, accepted, refused, place}
+use Rattle.table.specs.Table.{rowOf, noRow, isPubkey}
+use Rattle.reading.specs.declared.Answer.{Answer}
+
+-- the number, the field's number, and the kind's row in the table, none with a refusal
+abbrev pub answerOf : Outcome → Answer
+answerOf (accepted k fs) = record { no = 0; field = 0; kind = rowOf k }
+answerOf (refused n i) = record { no = n; field = i; kind = noRow }
+
+-- ---- a call for one field, counted from 1
+
+-- the field itself; empty with a refusal
+unfoldable pub wantedPart : Outcome → ℕ → Bytes
+wantedPart (accepted k fs) wanted = getD ([] ∷ fs) wanted []
+wantedPart (refused n i) wanted = []
+
+-- after every other number, 12 for a field that the kind hasn't
+unfoldable pub wantedNo : Outcome → ℕ → ℕ
+wantedNo (accepted k fs) wanted = cond (between 1 (length fs) wanted) 0 noItem
+wantedNo (refused n i) wanted = n
+
+-- what such a call says where reading says o
+pub record FieldSaid (o : Outcome) (wanted : ℕ) (part : Bytes) (no field : ℕ) : Type 0 where
+  pub its-part : part ≡ wantedPart o wanted
+  pub its-no : no ≡ wantedNo o wanted
+  pub its-field : field ≡ place o
+
+-- ---- the tests after the fields, by the row of the kind: number 8
+
+unfoldable pub wholeNo : ℕ → Bytes → Bytes → ℕ
+wholeNo row issuer signature = cond (not (isPubkey row) || Bool·beq (empty issuer) (empty signature)) 0 unpaired

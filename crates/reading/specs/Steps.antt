@@ -1,0 +1,51 @@
+-- What the private functions of the crate answer. No clause of a document stands here.
+-- Assumes nothing.
+use Prim.Native.Nat.{ℕ, zero, suc}
+use mathlib.Core.Path.{_≡_}
+use mathlib.Core.Bool.{cond}
+use mathlib.Core.List.{List}
+use lib.ListN.{length, drop}
+use lib.Dec.{T, eqb}
+use Rattle.text.specs.Text.{Bytes, TextType, Ident}
+use Rattle.format.specs.Numbers.{noKind, wrongCount}
+use Rattle.format.specs.Kinds.{Kind, Field, Text, Identity, OrEmpty, fieldsOf, among}
+use Rattle.format.specs.Read.{Outcome, accepted, refused, passing, body, cut, fieldsIn, each}
+use Rattle.frame.specs.Frame.{checkNo}
+use Rattle.table.specs.Table.{noRow, markOf, countOf, fieldsAt}
+
+-- an identity has no identity in it
+abbrev pub noInner : Bytes → Outcome
+noInner f = refused noKind 0
+
+-- the fields of a body by the row of its kind
+abbrev pub fieldsBy : ℕ → Bytes → List Bytes
+fieldsBy row b = drop 1 (cut (markOf row) b)
+
+-- numbers 2 to 5, by the row that was found
+unfoldable pub formNo : ℕ → Bytes → ℕ
+formNo row s =
+    cond (eqb row noRow) noKind
+    (cond (eqb (checkNo (markOf row) s) 0)
+    (cond (eqb (length (fieldsBy row (body s))) (countOf row)) 0 wrongCount)
+    (checkNo (markOf row) s))
+
+-- the text type in a field type; IDENT in that of an identity
+abbrev pub textIn : Field → TextType
+textIn (Text t) = t
+textIn (Identity ks) = Ident
+textIn (OrEmpty t) = textIn t
+
+-- the first of the fields fs that is refused has this number and place; both are 0 where none is
+pub record FirstRefused (ask : Bytes → Outcome) (row : ℕ) (fs : List Bytes) (no place : ℕ) : Type 0 where
+  pub first : (o : Outcome) → each ask 1 (fieldsAt row) fs o ≡ passing no place o
+
+-- what an outcome of s tells, where the kinds ks are read: a refusal has a number
+pub record Inside (ks : List Kind) (s : Bytes) (k : Kind) (fs : List Bytes) : Type 0 where
+  pub of-kind : T (among k ks)
+  pub its-fields : fs ≡ fieldsIn k s
+  pub its-count : length fs ≡ length (fieldsOf k)
+
+abbrev pub Within : List Kind → Bytes → Outcome → Type 0
+Within ks s (accepted k fs) = Inside ks s k fs
+Within ks s (refused zero i) = ⊥
+Within ks s (refused (suc n) i) = Unit {0}

@@ -1,0 +1,98 @@
+-- The arrays: the names and the types of all rows, each row after the other.
+-- Assumes nothing.
+use Prim.Native.Nat.{ℕ, zero, suc, _+_, _≤_, _<_}
+use mathlib.Core.Path.{_≡_, refl, sym, ap, _∙_}
+use mathlib.Core.List.{List, [], _∷_, map, flatten}
+use native.Mathlib.Omega.{arith}
+use native.Mathlib.Numerals.{add-one}
+use lib.ListN.{length, take, getD, List·getD-eq-default, List·getD-map}
+use lib.Seq.{getD-take}
+use lib.Dec.{T, ltb, ltb→lt, lit<}
+use mir.Facts.{and-yes}
+use Rattle.text.specs.Text.{every, Ident}
+use Rattle.text.proofs.Tests.{allBelow, below}
+use Rattle.format.specs.Kinds.{Field, Text, name, fieldsOf, allKinds}
+use Rattle.table.specs.Table.{noRow, ofRow, nameOf, fieldsAt, countOf, fieldType, TypeOf}
+use Rattle.table.proofs.Rows.{less-or, in-row, past-rows}
+use Rattle.table.proofs.Codes.{noCode, codeOf}
+use Rattle.table.proofs.Pieces.{places, Piece, piece, piece-length, piece-entry}
+
+-- ---- the names
+
+-- where each name starts, and where the last ends
+abbrev pub starts : List ℕ
+starts = places 0 (map name allKinds)
+
+pub name-piece : (row : ℕ) → row < noRow → Piece (flatten (map name allKinds)) (nameOf row) (getD starts row 0) (getD starts (row + 1) 0)
+unfolding ofRow
+name-piece row h = rw add-one (piece (map name allKinds) row h)
+
+-- ---- the types
+
+pub count-fields : (row : ℕ) → countOf row ≡ length (fieldsAt row)
+count-fields row =
+    less-or row noRow
+    (λ h. in-row (λ k. length (fieldsOf k)) 0 row h ∙ ap length (sym (in-row fieldsOf [] row h)))
+    (λ h. past-rows (λ k. length (fieldsOf k)) 0 row h ∙ ap length (sym (past-rows fieldsOf [] row h)))
+
+pub count-few : (row : ℕ) → countOf row < 8
+unfolding allBelow ofRow
+count-few row =
+    less-or row noRow
+    (λ h. ltb→lt (countOf row) 8 (below noRow (λ n. ltb (countOf n) 8) tt row h))
+    (λ h. omega (arith, past-rows (λ k. length (fieldsOf k)) 0 row h))
+
+small-entry : (codes : List ℕ) → T (every (λ c. ltb c noCode) codes) → (i : ℕ) → getD codes i 0 < noCode
+small-entry [] t i = lit< tt
+small-entry (c ∷ cs) t zero = ltb→lt c noCode (and-yes (ltb c noCode) (every (λ d. ltb d noCode) cs) t .0)
+small-entry (c ∷ cs) t (suc i) = small-entry cs (and-yes (ltb c noCode) (every (λ d. ltb d noCode) cs) t .1) i
+
+-- the types of all rows, where those of each row start, and their codes
+abbrev pub allTypes : List Field
+allTypes = flatten (map fieldsOf allKinds)
+
+abbrev pub firsts : List ℕ
+firsts = take noRow (places 0 (map fieldsOf allKinds))
+
+abbrev pub codes : List ℕ
+codes = map codeOf allTypes
+
+-- each code stands for its type: one computed test for all rows
+codes-types : map fieldType codes ≡ allTypes
+unfolding flatten fieldType codeOf
+codes-types = refl
+
+codes-small : T (every (λ c. ltb c noCode) codes)
+unfolding flatten codeOf
+codes-small = tt
+
+module _ (row j : ℕ) (h : j < countOf row) where
+  pub row-there : row < noRow
+  row-there = less-or row noRow (λ l. l) (λ l. absurd (omega (arith, past-rows (λ k. length (fieldsOf k)) 0 row l)))
+
+  types : Piece allTypes (fieldsAt row) (getD firsts row 0) (getD (places 0 (map fieldsOf allKinds)) (suc row) 0)
+  unfolding ofRow
+  types = rw (getD-take noRow (places 0 (map fieldsOf allKinds)) row 0 row-there) (piece (map fieldsOf allKinds) row row-there)
+
+  pub type-within : getD firsts row 0 + j < 33
+  unfolding flatten
+  type-within = omega (arith, piece-length types, count-fields row, types .from-to, types .to-end)
+
+  pub type-here : TypeOf row j (getD codes (getD firsts row 0 + j) 0)
+  unfolding fieldType
+  type-here =
+      record {
+        means =
+            sym (List·getD-map fieldType codes (getD firsts row 0 + j) 0)
+            ∙ ap (λ (l : List Field). getD l (getD firsts row 0 + j) (Text Ident)) codes-types
+            ∙ piece-entry types j (Text Ident) (omega (arith, count-fields row));
+        listed = small-entry codes codes-small (getD firsts row 0 + j);
+      }
+
+pub type-past : (row j : ℕ) → countOf row ≤ j → TypeOf row j 0
+unfolding fieldType
+type-past row j h =
+    record {
+      means = sym (List·getD-eq-default (fieldsAt row) (Text Ident) (omega (arith, count-fields row)));
+      listed = lit< tt;
+    }

@@ -1,0 +1,5 @@
+pub mod Rows
+pub mod Codes
+pub mod Pieces
+pub mod Arrays
+pub mod Search

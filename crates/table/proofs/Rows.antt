@@ -1,0 +1,115 @@
+-- Rows and kinds: each row is that of one kind, and a look-up answers what is said of that kind.
+-- Assumes nothing.
+use Prim.Native.Nat.{ℕ, _≤_, _<_}
+use mathlib.Core.Path.{_≡_, refl, sym, ap, ap₂, _∙_}
+use mathlib.Core.Bool.{Bool, true, false, _||_, Bool·beq}
+use mathlib.Core.Option.{Option, none, some}
+use mathlib.Core.List.{List, [], _∷_, map}
+use native.Mathlib.Omega.{arith}
+use lib.ListN.{getD, List·getD-eq-default}
+use lib.Dec.{T, eqb, ltb, eqb→eq, ltb→lt, nltb→le, lit<}
+use borrow.Author.Tests.{ne-eqb}
+use Rattle.text.specs.Text.{same}
+use Rattle.text.proofs.Tests.{allBelow, below, by-test}
+use Rattle.format.specs.Kinds.{Kind, SMMAN, SMID, KMCID, ECDSA, ECDH, REQ, RESP, name, allKinds, pubkeyKinds, among}
+use Rattle.table.specs.Table.{rowOf, noRow, rowFor, ofRow, isPubkey, rowAmong}
+
+pub less-or {ℓ} : {X : Type ℓ} (a b : ℕ) → (a < b → X) → (b ≤ a → X) → X
+less-or a b f g = by-test (ltb a b) (λ h. f (ltb→lt a b h)) (λ h. g (nltb→le a b h))
+
+-- ---- the kind of a row
+
+abbrev pub kindAt : ℕ → Kind
+kindAt row = getD allKinds row SMMAN
+
+pub at-row : (k : Kind) → kindAt (rowOf k) ≡ k
+at-row SMMAN = refl
+at-row SMID = refl
+at-row KMCID = refl
+at-row ECDSA = refl
+at-row ECDH = refl
+at-row REQ = refl
+at-row RESP = refl
+
+pub row-small : (k : Kind) → rowOf k < noRow
+row-small SMMAN = lit< tt
+row-small SMID = lit< tt
+row-small KMCID = lit< tt
+row-small ECDSA = lit< tt
+row-small ECDH = lit< tt
+row-small REQ = lit< tt
+row-small RESP = lit< tt
+
+pub row-at : (row : ℕ) → row < noRow → rowOf (kindAt row) ≡ row
+unfolding allBelow
+row-at row h = eqb→eq (rowOf (kindAt row)) row (below noRow (λ n. eqb (rowOf (kindAt n)) n) tt row h)
+
+pub row-inj : (k j : Kind) → rowOf k ≡ rowOf j → k ≡ j
+row-inj k j e = sym (at-row k) ∙ ap kindAt e ∙ at-row j
+
+-- ---- what is said of a row
+
+module _ {ℓ} {A : Type ℓ} (f : Kind → A) (z : A) where
+  pub of-kind : (k : Kind) → ofRow f z (rowOf k) ≡ f k
+  unfolding ofRow
+  of-kind SMMAN = refl
+  of-kind SMID = refl
+  of-kind KMCID = refl
+  of-kind ECDSA = refl
+  of-kind ECDH = refl
+  of-kind REQ = refl
+  of-kind RESP = refl
+
+  pub in-row : (row : ℕ) → row < noRow → ofRow f z row ≡ f (kindAt row)
+  in-row row h = ap (ofRow f z) (sym (row-at row h)) ∙ of-kind (kindAt row)
+
+  pub past-rows : (row : ℕ) → noRow ≤ row → ofRow f z row ≡ z
+  unfolding ofRow
+  past-rows row h = List·getD-eq-default (map f allKinds) z h
+
+-- ---- the row that a search finds
+
+pub record Found (o : Option Kind) (row : ℕ) : Type 0 where
+  pub kind : Kind
+  pub is : o ≡ some kind
+  pub at : row ≡ rowOf kind
+
+pub found : (o : Option Kind) (row : ℕ) → row ≡ rowFor o → (row ≡ noRow → ⊥) → Found o row
+found none row e h = absurd (h e)
+found (some k) row e h = record { kind = k; is = refl; at = e }
+
+pub not-found : (o : Option Kind) (row : ℕ) → row ≡ rowFor o → row ≡ noRow → o ≡ none
+not-found none row e h = refl
+not-found (some k) row e h = absurd (omega (arith, row-small k))
+
+-- ---- tests by rows
+
+pub same-bools : (a b : Bool) → T (Bool·beq a b) → a ≡ b
+same-bools true true t = refl
+same-bools true false t = absurd t
+same-bools false true t = absurd t
+same-bools false false t = refl
+
+pub pubkey-rows : (row : ℕ) → (eqb row 3 || eqb row 4) ≡ isPubkey row
+unfolding allBelow ofRow
+pubkey-rows row =
+    less-or row noRow
+    (λ h. same-bools (eqb row 3 || eqb row 4) (isPubkey row) (below noRow (λ n. Bool·beq (eqb n 3 || eqb n 4) (isPubkey n)) tt row h))
+    (past row)
+  where
+    past : (n : ℕ) → noRow ≤ n → (eqb n 3 || eqb n 4) ≡ isPubkey n
+    past n l = rw (ne-eqb n 3 (λ z. omega arith), ne-eqb n 4 (λ z. omega arith), past-rows (λ k. among k pubkeyKinds) false n l)
+
+-- no two kinds have one name: a test of each row against each
+same-names : (k j : Kind) → same (name k) (name j) ≡ eqb (rowOf k) (rowOf j)
+unfolding allBelow
+same-names k j =
+    ap₂ (λ (x y : Kind). same (name x) (name y)) (sym (at-row k)) (sym (at-row j))
+    ∙ same-bools _ _ (below noRow (alike (rowOf k)) (below noRow (λ a. allBelow noRow (alike a)) tt (rowOf k) (row-small k)) (rowOf j) (row-small j))
+  where
+    alike : ℕ → ℕ → Bool
+    alike a b = Bool·beq (same (name (kindAt a)) (name (kindAt b))) (eqb a b)
+
+pub among-row : (k : Kind) (ks : List Kind) → rowAmong (rowOf k) ks ≡ among k ks
+among-row k [] = refl
+among-row k (j ∷ ks) = ap₂ _||_ (sym (same-names k j)) (among-row k ks)

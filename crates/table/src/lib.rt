@@ -1,0 +1,266 @@
+// The one table of kinds (document 01, "Seven kinds of record"): names, marks, field counts and field types, which reader
+// and builder both consult. A kind is the number of its row. Every look-up takes any number and says what it answers for
+// a row, a field or a code that is not there.
+ghost use mathlib.Core.Path.{_≡_};
+ghost use mathlib.Core.Bool.{false};
+ghost use Prim.Native.Nat.{_<_};
+ghost use lib.ListN.{take, drop};
+ghost use Rattle.text.specs.Text.{same};
+ghost use Rattle.format.specs.Kinds.{name, identityKinds, allKinds};
+ghost use Rattle.format.specs.Read.{kindIn};
+ghost use Rattle.table.specs.Table.{noRow, rowFor, ofRow, markOf, countOf, isPubkey, isKind, named, kindsFrom, fieldType, TypeOf, isIdentity, mayBeEmpty, permitted, rowAmong};
+
+// ---- the rows
+
+pub const SMMAN: usize = 0;
+
+pub const SMID: usize = 1;
+
+pub const KMCID: usize = 2;
+
+pub const ECDSA: usize = 3;
+
+pub const ECDH: usize = 4;
+
+pub const REQ: usize = 5;
+
+pub const RESP: usize = 6;
+
+// The number of rows, which is no row's number.
+pub const NONE: usize = 7;
+
+// The names one after another, where each starts, and where the last ends.
+const NAMES: [u8; 64] = *b"SMMAN.1SMID.1KMCID.1PK.ECDSA.1PK.ECDH.1VKLOAD.REQ.1VKLOAD.RESP.1";
+
+const STARTS: [usize; 8] = [0, 7, 13, 20, 30, 39, 51, 64];
+
+const MARKS: [u8; 7] = [b':', b':', b':', b'|', b'|', b'|', b'|'];
+
+const COUNTS: [usize; 7] = [4, 4, 4, 5, 5, 7, 4];
+
+// ---- the field types by their codes
+
+pub const IDENT: u8 = 0;
+
+pub const TIMESTAMP: u8 = 1;
+
+pub const PRINT: u8 = 2;
+
+pub const POINT: u8 = 3;
+
+pub const MAC: u8 = 4;
+
+pub const SIG_OR_EMPTY: u8 = 5;
+
+pub const ID_SMMAN: u8 = 6;
+
+pub const ID_SMID: u8 = 7;
+
+pub const ID_KMCID: u8 = 8;
+
+pub const ID_SMID_OR_KMCID: u8 = 9;
+
+pub const ID_SMMAN_OR_EMPTY: u8 = 10;
+
+// Where each kind's field types start.
+const FIRSTS: [usize; 7] = [0, 4, 8, 12, 17, 22, 29];
+
+const TYPES: [u8; 33] = [
+    // SMMAN.1
+    IDENT, // 1 Manufacturer
+    IDENT, // 2 MID
+    TIMESTAMP, // 3 GNT
+    PRINT, // 4 Fingerprint
+    // SMID.1, as SMMAN.1
+    IDENT,
+    IDENT,
+    TIMESTAMP,
+    PRINT,
+    // KMCID.1, as SMMAN.1
+    IDENT,
+    IDENT,
+    TIMESTAMP,
+    PRINT,
+    // PK.ECDSA.1
+    ID_SMMAN, // 1 Subject
+    POINT, // 2 Q
+    TIMESTAMP, // 3 Expiry
+    ID_SMMAN_OR_EMPTY, // 4 Issuer
+    SIG_OR_EMPTY, // 5 Signature
+    // PK.ECDH.1, as PK.ECDSA.1 but for the Subject
+    ID_SMID_OR_KMCID,
+    POINT,
+    TIMESTAMP,
+    ID_SMMAN_OR_EMPTY,
+    SIG_OR_EMPTY,
+    // VKLOAD.REQ.1
+    ID_SMID, // 1 ID_SM
+    ID_KMCID, // 2 ID_KMC
+    TIMESTAMP, // 3 TVP
+    IDENT, // 4 HWID
+    IDENT, // 5 FWID
+    POINT, // 6 QE
+    MAC, // 7 MacTag
+    // VKLOAD.RESP.1
+    ID_KMCID, // 1 ID_KMC
+    ID_SMID, // 2 ID_SM
+    TIMESTAMP, // 3 TVP
+    MAC, // 4 MacTag
+];
+
+// ---- what a row has
+
+// 0 for a row that is not there.
+pub fn mark_of(row: usize) -> u8
+    ensures { λ r. ⌜ r ≡ markOf row ⌝ }
+{
+    if row < NONE {
+        return MARKS[row];
+    }
+    0
+}
+
+// 0 for a row that is not there.
+pub fn count_of(row: usize) -> usize
+    ensures { λ r. ⌜ r ≡ countOf row ⌝ }
+{
+    if row < NONE {
+        return COUNTS[row];
+    }
+    0
+}
+
+// The code of the type of field j, from 0; IDENT for a row or a field that is not there.
+pub fn type_of(row: usize, j: usize) -> u8
+    ensures { λ r. ⌜ TypeOf row j r ⌝ }
+{
+    if count_of(row) <= j {
+        return IDENT;
+    }
+    let at = FIRSTS[row] + j;
+    TYPES[at]
+}
+
+// The row is a public key, whose Issuer and Signature go together.
+pub fn is_pubkey(row: usize) -> bool
+    ensures { λ r. ⌜ r ≡ isPubkey row ⌝ }
+{
+    if row == ECDSA {
+        return true;
+    }
+    row == ECDH
+}
+
+// ---- the row that has a name
+
+fn is_named(row: usize, title: &[u8]) -> bool
+    requires { ⌜ row < noRow ⌝ }
+    ensures { λ r. ⌜ r ≡ ofRow (λ k. same (now (title .entry)) (name k)) false row ⌝ }
+{
+    let start = STARTS[row];
+    let end = STARTS[row + 1];
+    text::are_same(title, &NAMES[start..end])
+}
+
+fn is_kind(row: usize, title: &[u8], mark: u8) -> bool
+    requires { ⌜ row < noRow ⌝ }
+    ensures { λ r. ⌜ r ≡ ofRow (isKind (now (title .entry)) mark) false row ⌝ }
+{
+    if !is_named(row, title) {
+        return false;
+    }
+    mark == MARKS[row]
+}
+
+// The row from `from` to before `to` that has this name and this mark, or NONE.
+pub fn row_in(title: &[u8], mark: u8, from: usize, to: usize) -> usize
+    ensures { λ r. ⌜ r ≡ rowFor (kindIn (drop from (take to allKinds)) (now (title .entry)) mark) ⌝ }
+{
+    let mut row = from;
+    while row < NONE {
+        if to <= row {
+            return NONE;
+        }
+        if is_kind(row, title, mark) {
+            return row;
+        }
+        row += 1;
+    }
+    NONE
+}
+
+// The row of an identity kind, or NONE.
+pub fn identity_kind(title: &[u8], mark: u8) -> usize
+    ensures { λ r. ⌜ r ≡ rowFor (kindIn identityKinds (now (title .entry)) mark) ⌝ }
+{
+    row_in(title, mark, SMMAN, ECDSA)
+}
+
+// The row of a record kind from `from` to before `to`, or NONE.
+pub fn record_kind(title: &[u8], mark: u8, from: usize, to: usize) -> usize
+    ensures { λ r. ⌜ r ≡ rowFor (kindIn (kindsFrom from to) (now (title .entry)) mark) ⌝ }
+{
+    if from < ECDSA {
+        return row_in(title, mark, ECDSA, to);
+    }
+    row_in(title, mark, from, to)
+}
+
+// The row of a kind by its name alone, or NONE.
+pub fn kind_named(title: &[u8]) -> usize
+    ensures { λ r. ⌜ r ≡ rowFor (named allKinds (now (title .entry))) ⌝ }
+{
+    let mut row: usize = 0;
+    while row < NONE {
+        if is_named(row, title) {
+            return row;
+        }
+        row += 1;
+    }
+    NONE
+}
+
+// ---- what a field type says, by its code
+
+pub fn is_identity(code: u8) -> bool
+    ensures { λ r. ⌜ r ≡ isIdentity (fieldType code) ⌝ }
+{
+    if code < ID_SMMAN {
+        return false;
+    }
+    code <= ID_SMMAN_OR_EMPTY
+}
+
+pub fn may_be_empty(code: u8) -> bool
+    ensures { λ r. ⌜ r ≡ mayBeEmpty (fieldType code) ⌝ }
+{
+    if code == SIG_OR_EMPTY {
+        return true;
+    }
+    code == ID_SMMAN_OR_EMPTY
+}
+
+// The field type permits identities of the kind of this row.
+pub fn does_permit(code: u8, row: usize) -> bool
+    ensures { λ r. ⌜ r ≡ rowAmong row (permitted (fieldType code)) ⌝ }
+{
+    if code == ID_SMID {
+        return row == SMID;
+    }
+    if code == ID_KMCID {
+        return row == KMCID;
+    }
+    if code == ID_SMID_OR_KMCID {
+        if row == SMID {
+            return true;
+        }
+        return row == KMCID;
+    }
+    if code == ID_SMMAN {
+        return row == SMMAN;
+    }
+    if code == ID_SMMAN_OR_EMPTY {
+        return row == SMMAN;
+    }
+    false
+}
