@@ -111,9 +111,6 @@ module _ (m : ℕ) (s : Bytes) (k i : ℕ) (w : Walk m s k i) (h : i < length s)
   unfolding partOf
   walk-part e q = rw q (sym (sym (rw add-zero at (getD-drop k (cut m s) 0 [])) ∙ ap (λ (x : List Bytes). getD x 0 []) this))
 
-  pub walk-more : length (cut m s) ≡ k + suc (length (cut m (drop (nextMark m s i + 1) s)))
-  walk-more = omega (arith, length-drop k (cut m s), ap length this)
-
 pub walk-start : (m : ℕ) (s : Bytes) → Walk m s 0 0
 walk-start m s = record { parts = refl; few = omega arith; many = omega arith }
 

@@ -1,48 +1,14 @@
 -- Each contract is an equation on its call's answer, so any two answers are equal.
 -- Assumes nothing.
-use Prim.Native.Nat.{ℕ, _+_, _<_}
+use Prim.Native.Nat.{ℕ}
 use mathlib.Core.Path.{_≡_, sym, ap, _∙_}
-use mathlib.Core.List.{List, [], _∷_}
-use lib.Dec.{eqb, eqb→eq}
 use Rattle.crc16.specs.declared.Crc.{Crc}
-use Rattle.text.specs.Text.{TextType, Ident, Timestamp, Point, Sig, Mac, Print, Hex}
-use Rattle.text.proofs.Tests.{allBelow, below}
-use Rattle.format.specs.Kinds.{Kind, Field, Text, Identity, OrEmpty}
-use Rattle.table.specs.Table.{rowOf, fieldType}
+use Rattle.table.proofs.Codes.{one-code}
 use Rattle.promises.specs.Determined.{Determined}
 
 -- two states with one number are one state
 one-state : (x y : Crc) (n : ℕ) → x .state ≡ n → y .state ≡ n → x ≡ y
 one-state x y n p q = ap {B = Crc} (λ (m : ℕ). record { state = m }) (p ∙ sym q)
-
--- the codes of text types, of identities by the permitted kinds, and of field types: so no two codes have one type
-abbrev textCode : TextType → ℕ
-textCode Ident = 0
-textCode Timestamp = 1
-textCode Print = 2
-textCode Point = 3
-textCode Mac = 4
-textCode Sig = 11
-textCode (Hex n) = 11
-
-abbrev identityCode : List Kind → ℕ
-identityCode [] = 11
-identityCode (k ∷ []) = 6 + rowOf k
-identityCode (j ∷ k ∷ ks) = 9
-
-abbrev codeOf : Field → ℕ
-codeOf (Text t) = textCode t
-codeOf (Identity ks) = identityCode ks
-codeOf (OrEmpty (Text t)) = 5
-codeOf (OrEmpty (Identity ks)) = 10
-codeOf (OrEmpty (OrEmpty t)) = 11
-
-code-back : (c : ℕ) → c < 11 → codeOf (fieldType c) ≡ c
-unfolding allBelow fieldType
-code-back c h = eqb→eq (codeOf (fieldType c)) c (below 11 (λ c. eqb (codeOf (fieldType c)) c) tt c h)
-
-one-code : (c d : ℕ) → c < 11 → d < 11 → fieldType c ≡ fieldType d → c ≡ d
-one-code c d hc hd e = sym (code-back c hc) ∙ ap codeOf e ∙ code-back d hd
 
 pub determined : Determined
 determined = record {
@@ -93,4 +59,25 @@ determined = record {
   record-field-part = λ κs a x y s t p q. p .its-part ∙ sym (q .its-part);
   record-field-no = λ κs a x y s t p q. p .its-no ∙ sym (q .its-no);
   record-field-field = λ κs a x y s t p q. p .its-field ∙ sym (q .its-field);
+  refuse = λ κs a x y s t p q. p ∙ sym q;
+  put-next = λ κs a x y s t p q. p .answers ∙ sym (q .answers);
+  put-out = λ κs a x y s t p q. p .leaves ∙ sym (q .leaves);
+  put-byte-next = λ κs a x y s t p q. p .answers ∙ sym (q .answers);
+  put-byte-out = λ κs a x y s t p q. p .leaves ∙ sym (q .leaves);
+  build-said = λ κs a x y s t p q. p .said ∙ sym (q .said);
+  build-out = λ κs a x y s t p q. p .left ∙ sym (q .left);
+  text-item-part = λ κs a x y s t p q. p .part-so ∙ sym (q .part-so);
+  text-item-no = λ κs a x y s t p q. p .number-so ∙ sym (q .number-so);
+  shared-info-said = λ κs a x y s t p q. p .said ∙ sym (q .said);
+  shared-info-out = λ κs a x y s t p q. p .left ∙ sym (q .left);
+  module-text-said = λ κs a x y s t p q. p .said ∙ sym (q .said);
+  module-text-out = λ κs a x y s t p q. p .left ∙ sym (q .left);
+  centre-text-said = λ κs a x y s t p q. p .said ∙ sym (q .said);
+  centre-text-out = λ κs a x y s t p q. p .left ∙ sym (q .left);
+  line-at = λ κs a x y s t p q. p ∙ sym q;
+  count = λ κs a x y s t p q. p ∙ sym q;
+  step-from = λ κs a x y s t p q. p ∙ sym q;
+  newer-part = λ κs a x y s t p q. p .part-so ∙ sym (q .part-so);
+  newer-no = λ κs a x y s t p q. p .number-so ∙ sym (q .number-so);
+  newer-field = λ κs a x y s t p q. p .field-so ∙ sym (q .field-so);
 }

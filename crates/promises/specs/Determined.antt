@@ -45,6 +45,18 @@ use Rattle.reading.proofs.read_record.Reads as read-record
 use Rattle.reading.proofs.identity_field.Reads as identity-field
 use Rattle.reading.proofs.field_of.Reads as field-of
 use Rattle.reading.proofs.record_field.Reads as record-field
+use Rattle.put.proofs.put.Reads as put
+use Rattle.put.proofs.put_byte.Reads as put-byte
+use Rattle.put.proofs.refuse.Reads as refuse
+use Rattle.items.proofs.text_item.Reads as text-item
+use Rattle.building.proofs.build.Reads as build
+use Rattle.agreement.proofs.shared_info.Reads as shared-info
+use Rattle.agreement.proofs.module_text.Reads as module-text
+use Rattle.agreement.proofs.centre_text.Reads as centre-text
+use Rattle.files.proofs.line_at.Reads as line-at
+use Rattle.files.proofs.count.Reads as count
+use Rattle.files.proofs.step_from.Reads as step-from
+use Rattle.newer.proofs.newer.Reads as newer
 
 -- any two results x and y that the contract Q allows for the same lifetimes κs and arguments a are equal
 abbrev pub OneAnswer : {K : Type 0} {A R S : K → Type 0} → ((κs : K) → A κs → R κs → S κs → Type 0) → Type 0
@@ -112,3 +124,30 @@ pub record Determined : Type 0 where
   pub record-field-part : OnePart record-field.Post
   pub record-field-no : OneLeft record-field.Post (λ κs s. now (s .1 .1 .0))
   pub record-field-field : OneLeft record-field.Post (λ κs s. now (s .1 .1 .1 .0))
+  -- put
+  pub refuse : OneAnswer refuse.Post
+  pub put-next : OneAnswer put.Post
+  pub put-out : OneLeft put.Post (λ κs s. now (s .0))
+  pub put-byte-next : OneAnswer put-byte.Post
+  pub put-byte-out : OneLeft put-byte.Post (λ κs s. now (s .0))
+  -- building
+  pub build-said : OneAnswer build.Post
+  pub build-out : OneLeft build.Post (λ κs s. now (s .1 .1 .1 .0))
+  -- items
+  pub text-item-part : OnePart text-item.Post
+  pub text-item-no : OneLeft text-item.Post (λ κs s. now (s .1 .1 .0))
+  -- agreement
+  pub shared-info-said : OneAnswer shared-info.Post
+  pub shared-info-out : OneLeft shared-info.Post (λ κs s. now (s .1 .0))
+  pub module-text-said : OneAnswer module-text.Post
+  pub module-text-out : OneLeft module-text.Post (λ κs s. now (s .1 .0))
+  pub centre-text-said : OneAnswer centre-text.Post
+  pub centre-text-out : OneLeft centre-text.Post (λ κs s. now (s .1 .0))
+  -- files
+  pub line-at : OneAnswer line-at.Post
+  pub count : OneAnswer count.Post
+  pub step-from : OneAnswer step-from.Post
+  -- newer
+  pub newer-part : OnePart newer.Post
+  pub newer-no : OneLeft newer.Post (λ κs s. now (s .1 .1 .0))
+  pub newer-field : OneLeft newer.Post (λ κs s. now (s .1 .1 .1 .0))

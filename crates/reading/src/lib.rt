@@ -1,12 +1,13 @@
-// The reading calls: document 01, "Numbers given back". Each takes any bytes and has no `requires`. The order is 1, 2,
-// 3, 4, 5, then the fields from left to right (6, or 7 before 9), then 8; `form_no` has 2 to 5, `field_no` a field's
-// number, `whole_no` the number of the fields together.
+// The reading calls: document 01, "Numbers given back". Each takes any bytes; no public one has a `requires`. The order
+// is 1, 2, 3, 4, 5, then the fields from left to right (6, or 7 before 9), then 8: `form_no` has 2 to 5, `field_no` a
+// field's number, `whole_no` the number of the fields together.
 ghost use mathlib.Core.Path.{_≡_};
 ghost use mathlib.Core.Bool.{cond, _&&_};
 ghost use mathlib.Core.List.{List};
 ghost use Prim.Native.Nat.{_<_};
 ghost use lib.ListN.{length};
 ghost use Rattle.text.specs.Text.{Bytes, isOf};
+ghost use Rattle.format.specs.Numbers.{wrongText};
 ghost use Rattle.format.specs.Kinds.{Kind};
 ghost use Rattle.format.specs.Build.{empty};
 ghost use Rattle.format.specs.Read.{Outcome, accepted, refused, passing, fieldAnswer, identityAnswer, readIdentity, readOf, readRecord};
@@ -77,6 +78,7 @@ fn answered(no: u8, field: u8, row: usize) -> Answer
 
 // ---- numbers 2 to 5
 
+// By the row that the title and its mark have.
 fn form_no(row: usize, s: &[u8]) -> u8
     ensures { λ r. ⌜ r ≡ formNo row (now (s .entry)) ⌝ }
 {
@@ -96,6 +98,7 @@ fn form_no(row: usize, s: &[u8]) -> u8
 
 // ---- a field that is a text: number 6
 
+// Of the text type of this code; a code that names none is taken for IDENT's.
 fn is_text(code: u8, field: &[u8]) -> bool
     ensures { λ r. ⌜ r ≡ isOf (textIn (fieldType code)) (now (field .entry)) ⌝ }
 {
@@ -118,7 +121,7 @@ fn is_text(code: u8, field: &[u8]) -> bool
 }
 
 fn text_no(code: u8, field: &[u8]) -> u8
-    ensures { λ r. ⌜ r ≡ cond (isOf (textIn (fieldType code)) (now (field .entry))) 0 6 ⌝ }
+    ensures { λ r. ⌜ r ≡ cond (isOf (textIn (fieldType code)) (now (field .entry))) 0 wrongText ⌝ }
 {
     if is_text(code, field) {
         return ACCEPTED;
@@ -128,7 +131,7 @@ fn text_no(code: u8, field: &[u8]) -> u8
 
 // ---- the identity call
 
-// The fields of an identity, which are texts, from left to right.
+// The fields of an identity, which are texts, from left to right. The identity kinds are the rows below 3.
 fn identity_fields(row: usize, body: &[u8]) -> Refusal
     requires { ⌜ (row < 3) × (length (fieldsBy row (now body)) ≡ countOf row) ⌝ }
     ensures { λ r. ⌜ FirstRefused noInner row (fieldsBy row (now (body .entry))) (r .no) (r .field) ⌝ }
@@ -152,6 +155,8 @@ fn identity_fields(row: usize, body: &[u8]) -> Refusal
     }
 }
 
+// Reads an identity. Over 1,024 bytes answer 1, a title and mark that are no identity kind's 2, and so on in the order
+// above; a field that is not of its text type answers 6 with its number.
 pub fn read_identity(identity: &[u8]) -> Answer
     ensures { λ r. ⌜ r ≡ answerOf (readIdentity (now (identity .entry))) ⌝ }
 {
@@ -169,7 +174,7 @@ pub fn read_identity(identity: &[u8]) -> Answer
 
 // ---- a field of a record
 
-// Numbers 7 and 9.
+// 7 where the field is no accepted identity, then 9 where its kind is not permitted here.
 fn identity_no(code: u8, field: &[u8]) -> u8
     ensures { λ r. ⌜ r ≡ identityAnswer (permitted (fieldType code)) (readIdentity (now (field .entry))) ⌝ }
 {
@@ -193,7 +198,8 @@ fn is_left_empty(code: u8, field: &[u8]) -> bool
     table::may_be_empty(code)
 }
 
-// The number of one field by the code of its type: 6, 7, 9, or 0. Reader and builder both ask here.
+// The number of one field by the code of its type: 6 for a text, 7 or 9 for an identity, or 0. A field that may be empty
+// and is answers 0. Reader and builder both ask here.
 pub fn field_no(code: u8, field: &[u8]) -> u8
     ensures { λ r. ⌜ r ≡ fieldAnswer readIdentity (fieldType code) (now (field .entry)) ⌝ }
 {
@@ -230,7 +236,8 @@ fn record_fields(row: usize, body: &[u8]) -> Refusal
     }
 }
 
-// The number of the fields together, after each of them: 8, or 0. Reader and builder both ask here.
+// The number of the fields together, after each of them: 8 for a public key with only one of Issuer and Signature, or 0.
+// Reader and builder both ask here.
 pub fn whole_no(row: usize, issuer: &[u8], signature: &[u8]) -> u8
     ensures { λ r. ⌜ r ≡ wholeNo row (now (issuer .entry)) (now (signature .entry)) ⌝ }
 {
@@ -253,7 +260,8 @@ fn body_no(row: usize, body: &[u8]) -> u8
 
 // ---- the record calls
 
-// Reads the record kinds of the table's rows from `from` to before `to`; a row that is no record kind's is not read.
+// Reads a record of the kinds in the table's rows from `from` to before `to`. Every other kind answers 2 in its place,
+// and so does an identity, whatever the rows.
 pub fn read_of(from: usize, to: usize, record: &[u8]) -> Answer
     ensures { λ r. ⌜ r ≡ answerOf (readOf (kindsFrom from to) (now («record» .entry))) ⌝ }
 {
@@ -273,7 +281,7 @@ pub fn read_of(from: usize, to: usize, record: &[u8]) -> Answer
     answered(body_no(row, body), 0, row)
 }
 
-// Reads all four record kinds.
+// Reads a record of any of the four record kinds.
 pub fn read_record(record: &[u8]) -> Answer
     ensures { λ r. ⌜ r ≡ answerOf (readRecord (now («record» .entry))) ⌝ }
 {
@@ -282,6 +290,7 @@ pub fn read_record(record: &[u8]) -> Answer
 
 // ---- one field
 
+// A refusal's own number, and 12 for a field that the accepted kind hasn't.
 fn wanted_no(answer: Answer, wanted: usize) -> u8
     ensures { λ r. ⌜ ((o : Outcome) (ks : List Kind) (s : Bytes) → Within ks s o → answer ≡ answerOf o → r ≡ wantedNo o wanted) ⌝ }
 {
@@ -316,7 +325,8 @@ fn field_from<'a>(
     frame::part(table::mark_of(answer.kind), frame::body_of(s), wanted)
 }
 
-// The wanted field of an identity, counted from 1, as a part of the caller's own bytes; an empty part with a refusal.
+// The wanted field of an identity, counted from 1, as a part of the caller's own bytes; `no` and `field` are the numbers
+// that `read_identity` answers. A number that the kind hasn't is 12, after every other. With a refusal the part is empty.
 pub fn identity_field<'a>(
     identity: &'a [u8],
     wanted: usize,
@@ -328,7 +338,7 @@ pub fn identity_field<'a>(
     field_from(read_identity(identity), identity, wanted, no, field)
 }
 
-// The same of a record, where the kinds of some rows are read, as `read_of` does.
+// The same of a record, with the numbers that `read_of` answers.
 pub fn field_of<'a>(
     from: usize,
     to: usize,
@@ -342,7 +352,7 @@ pub fn field_of<'a>(
     field_from(read_of(from, to, record), record, wanted, no, field)
 }
 
-// The same of a record of any kind.
+// The same of a record of any of the four record kinds.
 pub fn record_field<'a>(record: &'a [u8], wanted: usize, no: &mut u8, field: &mut u8) -> &'a [u8]
     ensures { λ r. ⌜ FieldSaid (readRecord (now («record» .entry))) wanted (now r) (now (no .exit)) (now (field .exit)) ⌝ }
 {

@@ -10,7 +10,7 @@ use lib.ListN.{getD, List·getD-eq-default}
 use lib.Dec.{T, eqb, ltb, eqb→eq, ltb→lt, nltb→le, lit<}
 use borrow.Author.Tests.{ne-eqb}
 use Rattle.text.specs.Text.{same}
-use Rattle.text.proofs.Tests.{allBelow, below, by-test}
+use Rattle.text.proofs.Tests.{allBelow, below, by-test, or-last}
 use Rattle.format.specs.Kinds.{Kind, SMMAN, SMID, KMCID, ECDSA, ECDH, REQ, RESP, name, allKinds, pubkeyKinds, among}
 use Rattle.table.specs.Table.{rowOf, noRow, rowFor, ofRow, isPubkey, rowAmong}
 
@@ -109,6 +109,9 @@ same-names k j =
   where
     alike : ℕ → ℕ → Bool
     alike a b = Bool·beq (same (name (kindAt a)) (name (kindAt b))) (eqb a b)
+
+pub among-one : (k j : Kind) → T (among k (j ∷ [])) → k ≡ j
+among-one k j t = row-inj k j (eqb→eq (rowOf k) (rowOf j) (rw (or-last, same-names k j) at t))
 
 pub among-row : (k : Kind) (ks : List Kind) → rowAmong (rowOf k) ks ≡ among k ks
 among-row k [] = refl

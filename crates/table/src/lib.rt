@@ -141,7 +141,7 @@ pub fn type_of(row: usize, j: usize) -> u8
     TYPES[at]
 }
 
-// The row is a public key, whose Issuer and Signature go together.
+// The row is a public key's, whose Issuer and Signature go together; false for a row that is not there.
 pub fn is_pubkey(row: usize) -> bool
     ensures { λ r. ⌜ r ≡ isPubkey row ⌝ }
 {
@@ -222,6 +222,7 @@ pub fn kind_named(title: &[u8]) -> usize
 
 // ---- what a field type says, by its code
 
+// An identity, or nothing in its place; false for a number that is no code.
 pub fn is_identity(code: u8) -> bool
     ensures { λ r. ⌜ r ≡ isIdentity (fieldType code) ⌝ }
 {
@@ -231,6 +232,7 @@ pub fn is_identity(code: u8) -> bool
     code <= ID_SMMAN_OR_EMPTY
 }
 
+// False for a number that is no code.
 pub fn may_be_empty(code: u8) -> bool
     ensures { λ r. ⌜ r ≡ mayBeEmpty (fieldType code) ⌝ }
 {
@@ -240,7 +242,7 @@ pub fn may_be_empty(code: u8) -> bool
     code == ID_SMMAN_OR_EMPTY
 }
 
-// The field type permits identities of the kind of this row.
+// The field type permits identities of the kind of this row; false for a number that is no code or no row.
 pub fn does_permit(code: u8, row: usize) -> bool
     ensures { λ r. ⌜ r ≡ rowAmong row (permitted (fieldType code)) ⌝ }
 {

@@ -1,0 +1,73 @@
+-- What is known of an accepted request: its kind, its fields, and that they go into a text.
+-- Assumes nothing.
+use Prim.Native.Nat.{ℕ, zero, suc, _+_, _≤_, _<_}
+use mathlib.Core.Path.{_≡_, refl, sym, ap, ap₂, _∙_}
+use mathlib.Core.Logic.{inl, inr}
+use mathlib.Core.List.{List, [], _∷_}
+use native.Mathlib.Omega.{arith}
+use native.Mathlib.Nat.{le-trans}
+use lib.ListN.{length, getD, List·getD-eq-default}
+use lib.Seq.{getD-drop}
+use lib.Dec.{leb, ltb, leb→le, ltb→lt, nltb→le}
+use Rattle.text.specs.Text.{Bytes, Ident, shortest, longest}
+use Rattle.text.proofs.Tests.{by-test, between-high, allBelow, below}
+use Rattle.text.proofs.Types.{lengths, point-hex}
+use Rattle.format.specs.Kinds.{REQ, Field, Text, Identity, OrEmpty, mark, fieldsOf}
+use Rattle.format.specs.Build.{Fits, FitAll, IsIdentity, Permitted}
+use Rattle.format.specs.Read.{Outcome, accepted, body, cut, fieldsIn, readOf}
+use Rattle.format.proofs.Table.{all-among, longestOf}
+use Rattle.format.proofs.Fields.{fit-length}
+use Rattle.format.proofs.Exactly.{identity-tame, read-exact}
+use Rattle.frame.specs.Frame.{partOf}
+use Rattle.reading.specs.Reading.{answerOf}
+use Rattle.reading.specs.declared.Answer.{Answer}
+use Rattle.reading.proofs.Within.{taken, of-within}
+use Rattle.agreement.specs.Steps.{Suited}
+
+-- ---- its kind and its fields
+
+pub request-read : (s : Bytes) (a : Answer) → a ≡ answerOf (readOf (REQ ∷ []) s) → a .no ≡ 0 → readOf (REQ ∷ []) s ≡ accepted REQ (fieldsIn REQ s)
+request-read s a e z =
+    let t = taken (REQ ∷ []) s (readOf (REQ ∷ []) s) a (of-within (REQ ∷ []) s) e z in
+    let k = all-among (λ j. j ≡ REQ) (REQ ∷ []) (refl, tt) (t .kind) (t .inside .of-kind) in
+    t .is ∙ ap₂ {C = Outcome} accepted k (t .inside .its-fields ∙ ap (λ j. fieldsIn j s) k)
+
+-- part 0 is the kind's name; b is the body as the code has it
+pub field-part : (s b : Bytes) (n : ℕ) → b ≡ body s → partOf (mark REQ) b (n + 1) ≡ getD (fieldsIn REQ s) n []
+unfolding partOf
+field-part s b n e = let z : n + 1 ≡ 1 + n = omega arith in rw (e, z) (sym (getD-drop 1 (cut (mark REQ) (body s)) n []))
+
+-- ---- its fields go into a text
+
+field-short : (t : Field) (f : Bytes) → Fits IsIdentity t f → length f ≤ longestOf t
+unfolding Fits
+field-short (Text t) f h = between-high (shortest t) (longest t) (length f) (lengths t f h)
+field-short (Identity ks) f h = identity-tame 0 tt (h .0) f (h .2) .1
+field-short (OrEmpty t) [] h = omega arith
+field-short (OrEmpty t) (c ∷ f) (inl h) = absurd h
+field-short (OrEmpty t) (c ∷ f) (inr h) = field-short t (c ∷ f) h
+
+fit-at : (ts : List Field) (fs : List Bytes) → FitAll IsIdentity ts fs → (n : ℕ) → n < length ts → Fits IsIdentity (getD ts n (Text Ident)) (getD fs n [])
+unfolding FitAll
+fit-at [] fs h n l = absurd (omega arith)
+fit-at (t ∷ ts) [] h n l = absurd h
+fit-at (t ∷ ts) (f ∷ fs) h zero l = h .0
+fit-at (t ∷ ts) (f ∷ fs) h (suc n) l = fit-at ts fs (h .1) n (omega arith)
+
+pub permitted-suited : (fs : List Bytes) → Permitted REQ fs → Suited fs
+unfolding allBelow Fits
+permitted-suited fs p =
+    let fit = fit-at (fieldsOf REQ) fs (p .fit) in
+    let t : ℕ → Field = λ n. getD (fieldsOf REQ) n (Text Ident) in
+    record {
+      short = λ n.
+          by-test (ltb n 7)
+          (λ l.
+          let h = ltb→lt n 7 l in
+          le-trans (field-short (t n) (getD fs n []) (fit n h)) (leb→le (longestOf (t n)) 255 (below 7 (λ m. leb (longestOf (t m)) 255) tt n h)))
+          (λ l. rw (List·getD-eq-default fs [] {n = n} (omega (arith, nltb→le n 7 l, fit-length IsIdentity (fieldsOf REQ) fs (p .fit)))) (omega arith));
+      point = point-hex (getD fs 5 []) (fit 5 (omega arith));
+    }
+
+pub request-suited : (s : Bytes) (a : Answer) → a ≡ answerOf (readOf (REQ ∷ []) s) → a .no ≡ 0 → Suited (fieldsIn REQ s)
+request-suited s a e z = permitted-suited (fieldsIn REQ s) (read-exact (REQ ∷ []) s REQ (fieldsIn REQ s) .0 (request-read s a e z) .permitted)

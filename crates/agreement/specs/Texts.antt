@@ -1,0 +1,63 @@
+-- The three key agreement texts: document 01, "Key agreement texts"; STS 600-4-2, clause 5.6. The request's own refusal comes
+-- first (any kind but VKLOAD.REQ.1 answers 2, in its normal place), then 10.
+-- Assumes nothing.
+use Prim.Native.Nat.{ℕ}
+use mathlib.Core.Bool.{cond}
+use mathlib.Core.List.{List, [], _∷_}
+use lib.ListN.{length, getD}
+use lib.Dec.{leb}
+use Rattle.text.specs.Text.{Bytes, ascii}
+use Rattle.text.specs.Base16.{base16Decode}
+use Rattle.format.specs.Numbers.{noRoom}
+use Rattle.format.specs.Kinds.{REQ}
+use Rattle.format.specs.Read.{Outcome, accepted, refused, readOf}
+use Rattle.items.specs.Items.{lvConcat}
+use Rattle.put.specs.Made.{Made, made, denied}
+
+-- ---- the fields of a request, by their names in the table of kinds
+
+abbrev pub idSm : List Bytes → Bytes
+idSm fs = getD fs 0 []
+
+abbrev pub idKmc : List Bytes → Bytes
+idKmc fs = getD fs 1 []
+
+abbrev pub tvp : List Bytes → Bytes
+tvp fs = getD fs 2 []
+
+abbrev pub hwid : List Bytes → Bytes
+hwid fs = getD fs 3 []
+
+abbrev pub fwid : List Bytes → Bytes
+fwid fs = getD fs 4 []
+
+-- QE goes in as 97 decoded bytes; all else as the request's own bytes
+abbrev pub qe : List Bytes → Bytes
+qe fs = base16Decode (getD fs 5 [])
+
+-- ---- the items
+
+abbrev pub sharedItems : List Bytes → List Bytes
+sharedItems fs = ascii "STS.KAA.1" ∷ idSm fs ∷ idKmc fs ∷ tvp fs ∷ []
+
+abbrev pub moduleItems : List Bytes → List Bytes
+moduleItems fs = ascii "U_2" ∷ idSm fs ∷ idKmc fs ∷ qe fs ∷ tvp fs ∷ hwid fs ∷ fwid fs ∷ []
+
+abbrev pub centreItems : List Bytes → List Bytes
+centreItems fs = ascii "V2" ∷ idKmc fs ∷ idSm fs ∷ tvp fs ∷ qe fs ∷ []
+
+-- ---- the calls: what the text of these items is of a request, for an output of length `room`
+
+abbrev pub textMade : (List Bytes → List Bytes) → ℕ → Outcome → Made
+textMade items room (accepted k fs) =
+    cond (leb (length (lvConcat (items fs))) room) (made (lvConcat (items fs))) (denied noRoom 0)
+textMade items room (refused n i) = denied n i
+
+unfoldable pub sharedInfo : Bytes → ℕ → Made
+sharedInfo request room = textMade sharedItems room (readOf (REQ ∷ []) request)
+
+unfoldable pub moduleText : Bytes → ℕ → Made
+moduleText request room = textMade moduleItems room (readOf (REQ ∷ []) request)
+
+unfoldable pub centreText : Bytes → ℕ → Made
+centreText request room = textMade centreItems room (readOf (REQ ∷ []) request)

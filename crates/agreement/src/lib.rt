@@ -1,0 +1,172 @@
+// The three key agreement texts of a load request (STS 600-4-2, clause 5.6): the number of items, then of each item its
+// length and its bytes. The request is read once, and its fields go in as parts of its own bytes; only QE is decoded.
+ghost use mathlib.Core.Path.{_≡_};
+ghost use mathlib.Core.List.{[], _∷_};
+ghost use Prim.Native.Nat.{_+_, _*_, _≤_};
+ghost use lib.ListN.{length, getD};
+ghost use lib.Dec.{T};
+ghost use Rattle.text.specs.Text.{hexadecimal, isHex};
+ghost use Rattle.text.specs.Base16.{hexValue, base16Decode};
+ghost use Rattle.format.specs.Kinds.{REQ};
+ghost use Rattle.format.specs.Read.{fieldsIn, readOf};
+ghost use Rattle.items.specs.Items.{lvConcat};
+ghost use Rattle.put.specs.Put.{Put};
+ghost use Rattle.put.specs.Made.{Writes};
+ghost use Rattle.agreement.specs.Texts.{textMade, sharedInfo, moduleText, centreText};
+ghost use Rattle.agreement.specs.Steps.{lvItem, itemFor, itemsBy, Small, Suited};
+
+const NO_ROOM: u8 = 10;
+
+// ---- the fields of a request by their places in the table of kinds, from 0
+
+const ID_SM: u8 = 0;
+
+const ID_KMC: u8 = 1;
+
+const TVP: u8 = 2;
+
+const HWID: u8 = 3;
+
+const FWID: u8 = 4;
+
+const QE: u8 = 5;
+
+// A decoded point has so many bytes.
+const POINT_BYTES: usize = 97;
+
+// A part of the request's own bytes; part 0 of its body is the kind's name.
+fn field<'a>(request: &'a [u8], n: u8) -> &'a [u8]
+    ensures { λ r. ⌜ now r ≡ getD (fieldsIn REQ (now (request .entry))) n [] ⌝ }
+{
+    frame::part(b'|', frame::body_of(request), n as usize + 1)
+}
+
+// ---- items
+
+// The length of the item, and its bytes.
+fn put_item(out: &mut [u8], at: usize, item: &[u8]) -> usize
+    requires { ⌜ (length (now item) ≤ 255) × (at + 1 + length (now item) ≤ length (now out)) ⌝ }
+    ensures { λ r. ⌜ Put (now (out .entry)) at (lvItem (now (item .entry))) (now (out .exit)) r ⌝ }
+{
+    let next = put::put_byte(out, at, item.len() as u8);
+    put::put(out, next, item)
+}
+
+// The byte of two hexadecimal characters.
+fn byte_of(high: u8, low: u8) -> u8
+    requires { ⌜ T (hexadecimal high) × T (hexadecimal low) ⌝ }
+    ensures { λ r. ⌜ r ≡ 16 * hexValue high + hexValue low ⌝ }
+{
+    16 * text::hex_value(high) + text::hex_value(low)
+}
+
+// A point, decoded, as an item.
+fn put_point(out: &mut [u8], at: usize, point: &[u8]) -> usize
+    requires { ⌜ T (isHex 194 (now point)) × (at + 98 ≤ length (now out)) ⌝ }
+    ensures { λ r. ⌜ Put (now (out .entry)) at (lvItem (base16Decode (now (point .entry)))) (now (out .exit)) r ⌝ }
+{
+    let mut next = put::put_byte(out, at, POINT_BYTES as u8);
+    let mut i = 0;
+    while i < POINT_BYTES {
+        next = put::put_byte(out, next, byte_of(point[2 * i], point[2 * i + 1]));
+        i += 1;
+    }
+    next
+}
+
+// Field n as an item: QE is decoded, all else goes in as it stands.
+fn put_field(out: &mut [u8], at: usize, request: &[u8], n: u8) -> usize
+    requires { ⌜ Suited (fieldsIn REQ (now request)) × (at + 1 + length (itemFor (fieldsIn REQ (now request)) n) ≤ length (now out)) ⌝ }
+    ensures { λ r. ⌜ Put (now (out .entry)) at (lvItem (itemFor (fieldsIn REQ (now (request .entry))) n)) (now (out .exit)) r ⌝ }
+{
+    let bytes = field(request, n);
+    if n == QE {
+        return put_point(out, at, bytes);
+    }
+    put_item(out, at, bytes)
+}
+
+// The length of that item, without the byte that tells it.
+fn field_length(request: &[u8], n: u8) -> usize
+    requires { ⌜ Suited (fieldsIn REQ (now request)) ⌝ }
+    ensures { λ r. ⌜ r ≡ length (itemFor (fieldsIn REQ (now (request .entry))) n) ⌝ }
+{
+    if n != QE {
+        return field(request, n).len();
+    }
+    POINT_BYTES
+}
+
+// ---- texts
+
+// The length of the text that has this label and these fields.
+fn text_length(label: &[u8], fields: &[u8], request: &[u8]) -> usize
+    requires { ⌜ Small (now label) (now fields) × Suited (fieldsIn REQ (now request)) ⌝ }
+    ensures { λ r. ⌜ r ≡ length (lvConcat (itemsBy (now (label .entry)) (now (fields .entry)) (fieldsIn REQ (now (request .entry))))) ⌝ }
+{
+    let mut total = 2 + label.len();
+    let mut i = 0;
+    while i < fields.len() {
+        total += 1 + field_length(request, fields[i]);
+        i += 1;
+    }
+    total
+}
+
+// That text, from the front of an output that has room for it.
+fn put_text(out: &mut [u8], label: &[u8], fields: &[u8], request: &[u8]) -> usize
+    requires { ⌜ Small (now label) (now fields) × Suited (fieldsIn REQ (now request)) × (length (lvConcat (itemsBy (now label) (now fields) (fieldsIn REQ (now request)))) ≤ length (now out)) ⌝ }
+    ensures { λ r. ⌜ Put (now (out .entry)) 0 (lvConcat (itemsBy (now (label .entry)) (now (fields .entry)) (fieldsIn REQ (now (request .entry))))) (now (out .exit)) r ⌝ }
+{
+    let next = put::put_byte(out, 0, (1 + fields.len()) as u8);
+    let mut at = put_item(out, next, label);
+    let mut i = 0;
+    while i < fields.len() {
+        at = put_field(out, at, request, fields[i]);
+        i += 1;
+    }
+    at
+}
+
+// The request's own refusal comes first, then NO_ROOM; only then is anything written.
+fn write_text(label: &[u8], fields: &[u8], request: &[u8], out: &mut [u8]) -> put::Written
+    requires { ⌜ Small (now label) (now fields) ⌝ }
+    ensures { λ r. ⌜ Writes (textMade (itemsBy (now (label .entry)) (now (fields .entry))) (length (now (out .entry))) (readOf (REQ ∷ []) (now (request .entry)))) (now (out .entry)) (now (out .exit)) r ⌝ }
+{
+    let answer = reading::read_of(table::REQ, table::RESP, request);
+    if answer.no != reading::ACCEPTED {
+        return put::refuse(answer.no, answer.field);
+    }
+    if out.len() < text_length(label, fields, request) {
+        return put::refuse(NO_ROOM, 0);
+    }
+    let len = put_text(out, label, fields, request);
+    put::Written {
+        no: reading::ACCEPTED,
+        field: 0,
+        len,
+    }
+}
+
+// ---- the calls: each writes from the front of a lent output, or refuses and leaves it untouched
+
+// SharedInfo.
+pub fn shared_info(request: &[u8], out: &mut [u8]) -> put::Written
+    ensures { λ r. ⌜ Writes (sharedInfo (now (request .entry)) (length (now (out .entry)))) (now (out .entry)) (now (out .exit)) r ⌝ }
+{
+    write_text(b"STS.KAA.1", &[ID_SM, ID_KMC, TVP], request, out)
+}
+
+// The module text, MacData_SM.
+pub fn module_text(request: &[u8], out: &mut [u8]) -> put::Written
+    ensures { λ r. ⌜ Writes (moduleText (now (request .entry)) (length (now (out .entry)))) (now (out .entry)) (now (out .exit)) r ⌝ }
+{
+    write_text(b"U_2", &[ID_SM, ID_KMC, QE, TVP, HWID, FWID], request, out)
+}
+
+// The centre text, MacData_KMC.
+pub fn centre_text(request: &[u8], out: &mut [u8]) -> put::Written
+    ensures { λ r. ⌜ Writes (centreText (now (request .entry)) (length (now (out .entry)))) (now (out .entry)) (now (out .exit)) r ⌝ }
+{
+    write_text(b"V2", &[ID_KMC, ID_SM, TVP, QE], request, out)
+}

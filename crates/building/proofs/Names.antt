@@ -1,0 +1,36 @@
+-- A kind is known by its name alone.
+-- Assumes nothing.
+use Prim.Native.Nat.{ℕ, _≤_}
+use mathlib.Core.Path.{_≡_, refl, ap, sym, _∙_}
+use mathlib.Core.Option.{some}
+use mathlib.Core.List.{List, [], _∷_}
+use native.Mathlib.Omega.{arith}
+use lib.ListN.{length}
+use lib.Dec.{leb, leb→le}
+use Rattle.text.specs.Text.{Bytes, same}
+use Rattle.text.proofs.Tests.{by-test, cond-yes, cond-no, same→eq}
+use Rattle.format.specs.Kinds.{Kind, SMMAN, SMID, KMCID, ECDSA, ECDH, REQ, RESP, name, allKinds}
+use Rattle.format.proofs.Table.{every-kind}
+use Rattle.table.specs.Table.{named}
+
+pub named-some : (ks : List Kind) (t : Bytes) (k : Kind) → named ks t ≡ some k → t ≡ name k
+named-some [] t k e = absurd (let z : _≡_ {A = ℕ} 0 1 = cc in omega arith)
+named-some (j ∷ ks) t k e =
+    by-test (same t (name j))
+    (λ h.
+    let e₁ : some j ≡ some k = sym (cond-yes (same t (name j)) (some j) (named ks t) h) ∙ e in
+    let e₂ : j ≡ k = cc in
+    same→eq t (name j) h ∙ ap name e₂)
+    (λ h. named-some ks t k (sym (cond-no (same t (name j)) (some j) (named ks t) h) ∙ e))
+
+pub named-known : (k : Kind) → named allKinds (name k) ≡ some k
+named-known SMMAN = refl
+named-known SMID = refl
+named-known KMCID = refl
+named-known ECDSA = refl
+named-known ECDH = refl
+named-known REQ = refl
+named-known RESP = refl
+
+pub name-short : (k : Kind) → length (name k) ≤ 13
+name-short k = leb→le (length (name k)) 13 (every-kind (λ j. leb (length (name j)) 13) tt k)

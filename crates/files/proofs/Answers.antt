@@ -1,0 +1,30 @@
+-- What the file call answers at a place, by the end of its line.
+-- Assumes nothing.
+use Prim.Native.Nat.{ℕ, _+_, _-_, _≤_, _<_}
+use mathlib.Core.Path.{_≡_, ap, sym, _∙_}
+use lib.ListN.{length, take, drop}
+use Rattle.text.specs.Text.{Bytes}
+use Rattle.format.specs.Read.{readRecord}
+use Rattle.format.specs.Files.{lineAt}
+use Rattle.format.proofs.Lines.{Feed, at-end, at-line, at-unfinished}
+use Rattle.frame.specs.Frame.{nextMark}
+use Rattle.reading.specs.declared.Answer.{Answer}
+use Rattle.reading.specs.Reading.{answerOf}
+use Rattle.files.specs.Walk.{lineEnd, lineSaid}
+use Rattle.files.specs.declared.Line.the-variants.{Finished, Read}
+
+pub says-finished : (file : Bytes) (place : ℕ) → length file ≤ place → Finished place ≡ lineSaid (lineAt file place)
+says-finished file place h = sym (ap lineSaid (at-end file place h))
+
+module _ (file : Bytes) (place e : ℕ) (q : e ≡ lineEnd file place) where
+  feed : Feed file place e
+  unfolding nextMark
+  feed = q
+
+  pub says-unfinished : place < length file → length file ≤ e → Read 11 0 7 place (e - place) (length file) ≡ lineSaid (lineAt file place)
+  says-unfinished l h = sym (ap lineSaid (at-unfinished file place e feed l h))
+
+  -- a is the record call's answer for the line
+  pub says-line : e < length file → (a : Answer) → a ≡ answerOf (readRecord (take (e - place) (drop place file)))
+      → Read (a .no) (a .field) (a .kind) place (e - place) (e + 1) ≡ lineSaid (lineAt file place)
+  says-line h a r = ap (λ (x : Answer). Read (x .no) (x .field) (x .kind) place (e - place) (e + 1)) r ∙ sym (ap lineSaid (at-line file place e feed h))

@@ -1,0 +1,87 @@
+-- A reader gives the file call's answers, so a new one gives all lines of the file, each once, in order, and then says that the
+-- file is finished.
+-- Assumes nothing.
+use denote.Ref.{now}
+use Prim.Native.Nat.{ℕ, zero, suc, _+_, _≤_}
+use mathlib.Core.Path.{_≡_, refl, ap, ap₂, sym, _∙_}
+use mathlib.Core.List.{List, [], _∷_, _++_, map}
+use native.Mathlib.Nat.{add-zero, add-suc}
+use native.Mathlib.Omega.{arith}
+use lib.ListN.{length, replicate}
+use Rattle.text.specs.Text.{Bytes}
+use Rattle.format.specs.Files as files
+use Rattle.format.specs.Files.{Said, finished, read, lineAt, walk}
+use Rattle.format.proofs.Lines.{lineTo, unfinishedTo, at-end, at-line, at-unfinished, by-place, next-inside, rest, rest-walk, rest-onward, rest-step}
+use Rattle.files.specs.Walk.{lineSaid, nextOf}
+use Rattle.files.specs.Steps.{Stepped, Steps, none, more, answersFrom}
+use Rattle.files.specs.declared.Line.{Line}
+use Rattle.files.specs.declared.Line.the-variants.{Finished}
+use Rattle.files.specs.declared.Reader.{Reader}
+
+-- ---- the file call
+
+abbrev pub answerOf : files.Line → Line
+answerOf l = lineSaid (read l)
+
+module _ (file : Bytes) where
+  step-read : (n place : ℕ) (l : files.Line) → lineAt file place ≡ read l → answersFrom (suc n) file place ≡ answerOf l ∷ answersFrom n file (l .next)
+  unfolding answersFrom
+  step-read n place l e = rw e
+
+  at-finished : (n : ℕ) → answersFrom n file (length file) ≡ replicate n (Finished (length file))
+  unfolding answersFrom
+  at-finished zero = refl
+  at-finished (suc n) = rw (at-end file (length file) (omega arith)) (ap (_∷_ (Finished (length file))) (at-finished n))
+
+  some-left : (place : ℕ) (l : files.Line) → lineAt file place ≡ read l → rest file place ≡ [] → ⊥
+  some-left place l e r =
+      let z : l ∷ rest file (l .next) ≡ [] = sym (rest-step file place l e) ∙ r in
+      let o : _≡_ {A = ℕ} 0 1 = cc in
+      omega arith
+
+  none-left : (place : ℕ) → rest file place ≡ [] → length file ≤ place
+  none-left place r =
+      by-place file place (λ h. h)
+      (λ e f h. absurd (some-left place (lineTo file place e) (at-line file place e f h) r))
+      (λ e f l h. absurd (some-left place (unfinishedTo file place e) (at-unfinished file place e f l h) r))
+
+  first-left : (place : ℕ) (l : files.Line) (ls : List files.Line) → rest file place ≡ l ∷ ls → (lineAt file place ≡ read l) × (rest file (l .next) ≡ ls)
+  first-left place l ls r = go (lineAt file place) refl
+    where
+      go : (s : Said) → lineAt file place ≡ s → (lineAt file place ≡ read l) × (rest file (l .next) ≡ ls)
+      go (finished p) e = absurd (let z : l ∷ ls ≡ [] = sym r ∙ rest-onward file place ∙ rw e in let o : _≡_ {A = ℕ} 0 1 = cc in omega arith)
+      go (read k) e =
+          let z : k ∷ rest file (k .next) ≡ l ∷ ls = sym (rest-step file place k e) ∙ r in
+          let same : k ≡ l = cc in
+          (e ∙ ap read same, rw (← same) (cc))
+
+  -- from a place on: the lines ls that are left, and then n times that the file is finished
+  from-place : (n place : ℕ) → place ≤ length file → (ls : List files.Line) → rest file place ≡ ls
+      → answersFrom (n + length ls) file place ≡ map answerOf ls ++ replicate n (Finished (length file))
+  from-place n place h [] r = let end : place ≡ length file = omega (arith, none-left place r) in rw (end, add-zero) (at-finished n)
+  from-place n place h (l ∷ ls) r =
+      let (is, left) = first-left place l ls r in
+      ap (λ m. answersFrom m file place) (add-suc n (length ls)) ∙ step-read (n + length ls) place l is ∙ ap (_∷_ (answerOf l)) (from-place n (l .next) (next-inside file place l is) ls left)
+
+  pub walk-answers : (n : ℕ) → answersFrom (n + length (walk file)) file 0 ≡ map answerOf (walk file) ++ replicate n (Finished (length file))
+  walk-answers n = from-place n 0 (omega arith) (walk file) (rest-walk file)
+
+-- ---- a reader
+
+pub reader-steps : {before after : Reader} {said : List Line} → Steps before said after
+    → said ≡ answersFrom (length said) (now (before .file)) (before .place)
+unfolding answersFrom
+reader-steps none = refl
+reader-steps (more {said = a} s t) = rw (← s .its-line, ← s .same-file, ← s .its-place) (ap (_∷_ a) (reader-steps t))
+
+-- the answers of a new reader
+pub reader-walks : {before after : Reader} {said : List Line} → Steps before said after → before .place ≡ 0
+    → (n : ℕ) → length said ≡ n + length (walk (now (before .file)))
+    → said ≡ map answerOf (walk (now (before .file))) ++ replicate n (Finished (length (now (before .file))))
+reader-walks {before} {after} {said} t z n e = reader-steps t ∙ rw (e, z) (walk-answers (now (before .file)) n)
+
+-- any two answers to a step are equal, and so are the readers afterwards
+pub step-same : {before after after′ : Reader} {said said′ : Line} → Stepped before said after → Stepped before said′ after′ → (said ≡ said′) × (after ≡ after′)
+step-same {said = said} {said′ = said′} s t =
+    let same : said ≡ said′ = s .its-line ∙ sym (t .its-line) in
+    (same, ap₂ {C = Reader} (λ f p. record { file = f; place = p }) (s .same-file ∙ sym (t .same-file)) (s .its-place ∙ ap nextOf same ∙ sym (t .its-place)))

@@ -1,0 +1,143 @@
+// A file of records, line by line: document 01, "Files of records and the newer key". No public call has a `requires`:
+// any bytes and any place have an answer.
+ghost use mathlib.Core.Path.{_≡_};
+ghost use Prim.Native.Nat.{_≤_};
+ghost use lib.ListN.{length};
+ghost use Rattle.format.specs.Files.{lineAt, walk};
+ghost use Rattle.files.specs.Walk.{lineEnd, lineSaid, nextOf, totalsOf};
+ghost use Rattle.files.specs.Steps.{Stepped};
+
+// An unfinished last line, whatever it holds.
+const UNFINISHED: u8 = 11;
+
+// What stands at a place of a file.
+pub enum Line {
+    // A place at or past the end, which is its start and its next place; its length is 0.
+    Finished {
+        place: usize,
+    },
+    // A line: the record call's number, field number and row of the kind (table::NONE with a refusal), its start, its
+    // length without line feed, and the next place.
+    Read {
+        no: u8,
+        field: u8,
+        kind: usize,
+        start: usize,
+        len: usize,
+        next: usize,
+    },
+}
+
+// How many lines a file has, and how many of them are accepted records.
+pub struct Totals {
+    pub lines: usize,
+    pub accepted: usize,
+}
+
+// The first line feed at or after the place, or the end of the bytes when none follows.
+fn line_end(file: &[u8], place: usize) -> usize
+    requires { ⌜ place ≤ length (now file) ⌝ }
+    ensures { λ r. ⌜ r ≡ lineEnd (now (file .entry)) place ⌝ }
+{
+    let mut i = place;
+    let at = loop {
+        if i >= file.len() {
+            break file.len();
+        }
+        if file[i] == b'\n' {
+            break i;
+        }
+        i += 1;
+    };
+    at
+}
+
+// The line at a place.
+pub fn line_at(file: &[u8], place: usize) -> Line
+    ensures { λ r. ⌜ r ≡ lineSaid (lineAt (now (file .entry)) place) ⌝ }
+{
+    if file.len() <= place {
+        return Line::Finished { place };
+    }
+    let end = line_end(file, place);
+    if file.len() <= end {
+        return Line::Read {
+            no: UNFINISHED,
+            field: 0,
+            kind: table::NONE,
+            start: place,
+            len: end - place,
+            next: file.len(),
+        };
+    }
+    let answer = reading::read_record(&file[place..end]);
+    Line::Read {
+        no: answer.no,
+        field: answer.field,
+        kind: answer.kind,
+        start: place,
+        len: end - place,
+        next: end + 1,
+    }
+}
+
+// The place after a line, or the place itself where the file is finished.
+fn next_of(line: Line) -> usize
+    ensures { λ r. ⌜ r ≡ nextOf line ⌝ }
+{
+    match line {
+        Line::Finished { place } => place,
+        Line::Read { next, .. } => next,
+    }
+}
+
+// The lines of a file, counted from its start to its end.
+pub fn count(file: &[u8]) -> Totals
+    ensures { λ r. ⌜ r ≡ totalsOf (walk (now (file .entry))) ⌝ }
+{
+    let mut lines: usize = 0;
+    let mut accepted: usize = 0;
+    let mut place: usize = 0;
+    loop {
+        let Line::Read { no, next, .. } = line_at(file, place) else {
+            return Totals { lines, accepted };
+        };
+        if no == reading::ACCEPTED {
+            accepted += 1;
+        }
+        lines += 1;
+        place = next;
+    }
+}
+
+// A reader holds the lent bytes and the place of the next line.
+pub struct Reader<'a> {
+    pub file: &'a [u8],
+    pub place: usize,
+}
+
+impl<'a> Reader<'a> {
+    // At the start of the file.
+    pub fn new(file: &'a [u8]) -> Reader<'a>
+        ensures { λ r. ⌜ (r .file ≡ file .entry) × (r .place ≡ 0) ⌝ }
+    {
+        Reader { file, place: 0 }
+    }
+
+    // The line at the reader's place, where `line_at` does the work; the reader goes on to the next line.
+    pub fn step(&mut self) -> Line
+        ensures { λ r. ⌜ Stepped (now (self .entry)) r (now (self .exit)) ⌝ }
+    {
+        let line = line_at(self.file, self.place);
+        self.place = next_of(line);
+        line
+    }
+}
+
+// One step of a reader that stands at the place. Its parameters are plain, so a caller's proof needs no walk by hand.
+pub fn step_from(file: &[u8], place: usize) -> Line
+    ensures { λ r. ⌜ r ≡ lineSaid (lineAt (now (file .entry)) place) ⌝ }
+{
+    let mut reader = Reader { file, place };
+    reader.step()
+}

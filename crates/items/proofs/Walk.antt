@@ -1,0 +1,145 @@
+-- The walk over the items of a text.
+-- Assumes nothing.
+use Prim.Native.Nat.{ℕ, zero, suc, _+_, _-_, _≤_, _<_}
+use mathlib.Core.Path.{_≡_, refl, sym, ap, _∙_, subst}
+use mathlib.Core.Bool.{cond}
+use mathlib.Core.Option.{Option, none, some}
+use mathlib.Core.List.{List, [], _∷_}
+use native.Mathlib.Omega.{arith}
+use native.Mathlib.Numerals.{add-one}
+use lib.Dec.{leb, ltb, ltb→lt, nltb→le}
+use lib.ListN.{length, take, drop, getD, length-drop, drop-of-length-le}
+use lib.Seq.{drop-cons, drop-drop}
+use borrow.Author.Tests.{le-leb, lt-leb}
+use Rattle.text.specs.Text.{Bytes}
+use Rattle.text.proofs.Tests.{by-test}
+use Rattle.items.specs.Items.{after, itemsIn, itemsOf, nth, nthOf, textItem}
+use Rattle.items.specs.Span.{nowhere, Spans}
+use Rattle.items.specs.declared.Span.{Span}
+
+pub spans-none : {s : Bytes} {w : ℕ} (r : Span) → r ≡ nowhere → textItem s w ≡ none → Spans s w r
+spans-none {s} {w} r q e =
+    subst (Spans s w) (sym q) (record { up = omega arith; inside = omega arith; bytes = rw e; number = rw e })
+
+pub no-text : (s : Bytes) (w : ℕ) → length s ≡ 0 → textItem s w ≡ none
+unfolding textItem
+no-text [] w e = refl
+no-text (c ∷ s) w e = absurd (omega arith)
+
+pub number-zero : (s : Bytes) (w : ℕ) → w ≡ 0 → textItem s w ≡ none
+unfolding textItem
+number-zero s w e = rw e (of (itemsOf s))
+  where
+    of : (o : Option (List Bytes)) → nthOf 0 o ≡ none
+    of none = refl
+    of (some []) = refl
+    of (some (i ∷ is)) = refl
+
+-- the item x, if the rest has items
+abbrev given : Bytes → Option (List Bytes) → Option Bytes
+given x none = none
+given x (some is) = some x
+
+-- i of n items are passed, and place p is reached; item w, if it is among them, stands from a to e
+pub record Walked (s : Bytes) (w n i p a e : ℕ) : Type 0 where
+  pub wanted : 1 ≤ w
+  pub inside : i ≤ n
+  pub place : p ≤ length s
+  pub early : i < w → textItem s w ≡ nthOf (w - i) (itemsIn (n - i) (drop p s))
+  pub up : a ≤ e
+  pub end : e ≤ length s
+  pub late : w ≤ i → textItem s w ≡ given (take (e - a) (drop a s)) (itemsIn (n - i) (drop p s))
+
+pub walked-none : (s : Bytes) (w : ℕ) → (length s ≡ 0 → ⊥) → (w ≡ 0 → ⊥) → Walked s w (getD s 0 0) 0 1 0 0
+unfolding textItem
+walked-none [] w h z = absurd (h refl)
+walked-none (n ∷ s) w h z = record {
+  wanted = omega (arith, z);
+  inside = omega arith;
+  place = omega arith;
+  early = λ k. rw (let e : w - 0 ≡ w = omega arith in e, let e : n - 0 ≡ n = omega arith in e);
+  up = omega arith;
+  end = omega arith;
+  late = λ k. absurd (omega (arith, z));
+}
+
+nth-later : (m : ℕ) (x : Bytes) (o : Option (List Bytes)) → nthOf (suc (suc m)) (after x o) ≡ nthOf (suc m) o
+nth-later m x none = refl
+nth-later m x (some is) = refl
+
+nth-here : (x : Bytes) (o : Option (List Bytes)) → nthOf 1 (after x o) ≡ given x o
+nth-here x none = refl
+nth-here x (some is) = refl
+
+given-after : (x y : Bytes) (o : Option (List Bytes)) → given x (after y o) ≡ given x o
+given-after x y none = refl
+given-after x y (some is) = refl
+
+nth-none : (m : ℕ) → nthOf m (some []) ≡ none
+nth-none zero = refl
+nth-none (suc zero) = refl
+nth-none (suc (suc m)) = refl
+
+-- one item more, of which the length stands at place p
+item-at : (s : Bytes) (k m p : ℕ) → k ≡ suc m → p < length s
+    → itemsIn k (drop p s) ≡ cond (leb (getD s p 0) (length (drop (p + 1) s))) (after (take (getD s p 0) (drop (p + 1) s)) (itemsIn m (drop (p + 1 + getD s p 0) s))) none
+item-at s k m p e h = rw (e, drop-cons s p 0 h, add-one, drop-drop)
+
+module _ {s : Bytes} {w n i p a e : ℕ} (d : Walked s w n i p a e) where
+  -- where the rest has no items, there is no answer
+  broken : itemsIn (n - i) (drop p s) ≡ none → textItem s w ≡ none
+  broken z = by-test (ltb i w) (λ t. d .early (ltb→lt i w t) ∙ rw z) (λ t. d .late (nltb→le i w t) ∙ rw z)
+
+  pub no-length : i < n → length s ≤ p → textItem s w ≡ none
+  no-length h z = broken (rw (let e : n - i ≡ suc (n - (i + 1)) = omega arith in e, drop-of-length-le s {i = p} z))
+
+  pub no-bytes : i < n → p < length s → length s - (p + 1) < getD s p 0 → textItem s w ≡ none
+  no-bytes h k z =
+      broken (item-at s (n - i) (n - (i + 1)) p (omega arith) k ∙ rw (lt-leb (getD s p 0) (length (drop (p + 1) s)) (omega (arith, length-drop (p + 1) s))))
+
+  pub bytes-behind : n ≤ i → p < length s → textItem s w ≡ none
+  bytes-behind h k = broken (rw (let e : n - i ≡ 0 = omega arith in e, drop-cons s p 0 k))
+
+  last : n ≤ i → length s ≤ p → itemsIn (n - i) (drop p s) ≡ some []
+  last h k = rw (let e : n - i ≡ 0 = omega arith in e, drop-of-length-le s {i = p} k)
+
+  pub too-few : n ≤ i → length s ≤ p → n < w → textItem s w ≡ none
+  too-few h k z = d .early (omega arith) ∙ rw (last h k) (nth-none (w - i))
+
+  pub found : n ≤ i → length s ≤ p → w ≤ n → Spans s w (record { no = 0; start = a; end = e })
+  found h k z =
+      let x : textItem s w ≡ some (take (e - a) (drop a s)) = d .late (omega arith) ∙ rw (last h k) in
+      record { up = d .up; inside = d .end; bytes = rw x; number = rw x }
+
+  module _ (h : i < n) (k : p < length s) (y : getD s p 0 ≤ length s - (p + 1)) where
+    passed : itemsIn (n - i) (drop p s) ≡ after (take (getD s p 0) (drop (p + 1) s)) (itemsIn (n - (i + 1)) (drop (p + 1 + getD s p 0) s))
+    passed =
+        item-at s (n - i) (n - (i + 1)) p (omega arith) k ∙ rw (le-leb (getD s p 0) (length (drop (p + 1) s)) (omega (arith, length-drop (p + 1) s)))
+
+    -- item i + 1 is not the wanted one
+    pub walked-more : (i + 1 ≡ w → ⊥) → Walked s w n (i + 1) (p + 1 + getD s p 0) a e
+    walked-more z = record {
+      wanted = d .wanted;
+      inside = omega arith;
+      place = omega arith;
+      early = λ q.
+          d .early (omega arith) ∙ ap (nthOf (w - i)) passed
+          ∙ rw (let e : w - i ≡ suc (suc (w - (i + 2))) = omega arith in e, nth-later, let e : w - (i + 1) ≡ suc (w - (i + 2)) = omega arith in e);
+      up = d .up;
+      end = d .end;
+      late = λ q. d .late (omega (arith, z)) ∙ rw (passed, given-after);
+    }
+
+    -- item i + 1 is the wanted one
+    pub walked-there : i + 1 ≡ w → Walked s w n (i + 1) (p + 1 + getD s p 0) (p + 1) (p + 1 + getD s p 0)
+    walked-there z = record {
+      wanted = d .wanted;
+      inside = omega arith;
+      place = omega arith;
+      early = λ q. absurd (omega arith);
+      up = omega arith;
+      end = omega arith;
+      late = λ q.
+          d .early (omega arith) ∙ ap (nthOf (w - i)) passed
+          ∙ rw (let e : w - i ≡ 1 = omega arith in e, nth-here, let e : p + 1 + getD s p 0 - (p + 1) ≡ getD s p 0 = omega arith in e);
+    }

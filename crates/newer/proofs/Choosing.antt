@@ -1,0 +1,151 @@
+-- The choice step by step, as the code makes it: the two records' own refusals, then number 13, then the later GNT.
+-- Assumes nothing.
+use Prim.Native.Nat.{ℕ, zero, suc}
+use mathlib.Core.Path.{_≡_, refl, sym, ap, ap₂, _∙_}
+use mathlib.Core.Bool.{Bool, true, false, cond}
+use mathlib.Core.List.{[]}
+use native.Mathlib.Omega.{arith}
+use lib.Dec.{T}
+use Rattle.text.specs.Text.{Bytes}
+use Rattle.text.proofs.Tests.{by-test, cond-yes, cond-no}
+use Rattle.format.specs.Numbers.{notAlike}
+use Rattle.format.specs.Kinds.{pubkeyKinds}
+use Rattle.format.specs.Read.{Outcome, accepted, refused, answer, place, readOf}
+use Rattle.format.proofs.Outcomes.{never}
+use Rattle.reading.specs.Reading.{answerOf}
+use Rattle.reading.specs.Steps.{Within}
+use Rattle.reading.specs.declared.Answer.{Answer}
+use Rattle.reading.proofs.Within.{of-within, taken, untaken}
+use Rattle.newer.specs.Newer.{alike, after, later, Choice, theFirst, theSecond, denied, byRecords, newer, choicePart, choiceNo, Chosen}
+use Rattle.newer.specs.Steps.{inTurn, subjectIn, gntIn, alikeTexts, Numbered}
+use Rattle.newer.proofs.Later.{timestamp-looks, later-by-bytes}
+use Rattle.newer.proofs.Keys.{Key, gntOf, key, its-title, its-name, its-gnt}
+
+-- the numbers of an answer
+told : (o : Outcome) (r : Answer) → r ≡ answerOf o → (r .no ≡ answer o) × (r .field ≡ place o)
+told (accepted k fs) r e = (ap (λ (x : Answer). x .no) e, ap (λ (x : Answer). x .field) e)
+told (refused n i) r e = (ap (λ (x : Answer). x .no) e, ap (λ (x : Answer). x .field) e)
+
+-- ---- one record after the other
+
+module _ (a b : Bytes) where
+  abbrev both : Outcome
+  both = inTurn (readOf pubkeyKinds a) (readOf pubkeyKinds b)
+
+  module _ (r : Answer) (e : r ≡ answerOf (readOf pubkeyKinds a)) where
+    pub turn-stop : (r .no ≡ 0 → ⊥) → r ≡ answerOf both
+    turn-stop z = e ∙ rw (untaken (readOf pubkeyKinds a) r e z)
+
+    pub turn-on : r .no ≡ 0 → both ≡ readOf pubkeyKinds b
+    turn-on z = rw (taken pubkeyKinds a (readOf pubkeyKinds a) r (of-within pubkeyKinds a) e z .is)
+
+  both-denied : {n i : ℕ} → both ≡ refused n i → newer a b ≡ denied n i
+  unfolding newer
+  both-denied {n} {i} = go (readOf pubkeyKinds a) (readOf pubkeyKinds b)
+    where
+      go : (o p : Outcome) → inTurn o p ≡ refused n i → byRecords o p ≡ denied n i
+      go (accepted k fs) (accepted j gs) e = absurd (never (sym e))
+      go (accepted k fs) (refused m j) e = ap (λ (o : Outcome). denied (answer o) (place o)) e
+      go (refused m j) p e = ap (λ (o : Outcome). denied (answer o) (place o)) e
+
+  both-keys : answer both ≡ 0 → Key a × Key b
+  both-keys = go (readOf pubkeyKinds a) (readOf pubkeyKinds b) refl refl (of-within pubkeyKinds a) (of-within pubkeyKinds b)
+    where
+      go : (o p : Outcome) → readOf pubkeyKinds a ≡ o → readOf pubkeyKinds b ≡ p → Within pubkeyKinds a o → Within pubkeyKinds b p
+          → answer (inTurn o p) ≡ 0 → Key a × Key b
+      go (accepted k fs) (accepted j gs) e f v w z = (key a k fs e, key b j gs f)
+      go (accepted k fs) (refused zero i) e f v w z = absurd w
+      go (accepted k fs) (refused (suc n) i) e f v w z = absurd (omega arith)
+      go (refused zero i) p e f v w z = absurd v
+      go (refused (suc n) i) p e f v w z = absurd (omega arith)
+
+  -- ---- two accepted public keys
+
+  module _ (p : Key a) (q : Key b) where
+    abbrev agree : Bool
+    agree = alike (p .who) (p .names) (q .who) (q .names)
+
+    abbrev by-gnt : Choice
+    by-gnt = cond (later (gntOf q) (gntOf p)) theSecond theFirst
+
+    both-read : both ≡ accepted (q .kind) (q .fields)
+    both-read = rw (p .is, q .is)
+
+    pub newer-keys : newer a b ≡ cond agree by-gnt (denied notAlike 0)
+    unfolding newer
+    newer-keys = rw (p .is, q .is, p .known, q .known)
+
+    alike-keys : alikeTexts (subjectIn a) (subjectIn b) ≡ agree
+    unfolding alikeTexts
+    alike-keys = rw (its-title a p, its-title b q, its-name a p 0, its-name b q 0, its-name a p 1, its-name b q 1)
+
+    later-keys : after (gntIn b) (gntIn a) ≡ later (gntOf q) (gntOf p)
+    later-keys = ap₂ after (its-name b q 2) (its-name a p 2) ∙ later-by-bytes _ _ (timestamp-looks _ (its-gnt b q)) (timestamp-looks _ (its-gnt a p))
+
+    alike-numbered : alikeTexts (subjectIn a) (subjectIn b) ≡ true → Numbered (newer a b) 0 0
+    alike-numbered t = rw (newer-keys, sym alike-keys ∙ t) (go (later (gntOf q) (gntOf p)))
+      where
+        go : (l : Bool) → Numbered (cond l theSecond theFirst) 0 0
+        go true = record { its-no = refl; its-field = refl }
+        go false = record { its-no = refl; its-field = refl }
+
+    unlike-numbered : alikeTexts (subjectIn a) (subjectIn b) ≡ false → Numbered (newer a b) notAlike 0
+    unlike-numbered t = rw (newer-keys, sym alike-keys ∙ t) record { its-no = refl; its-field = refl }
+
+  -- ---- the numbers, by the answer to the two records
+
+  module _ (r : Answer) (e : r ≡ answerOf both) where
+    pub judged-refused : (r .no ≡ 0 → ⊥) → Numbered (newer a b) (r .no) (r .field)
+    judged-refused z = rw (both-denied (untaken both r e z)) record { its-no = refl; its-field = refl }
+
+    module _ (z : r .no ≡ 0) where
+      keys : Key a × Key b
+      keys = both-keys (sym (told both r e .0) ∙ z)
+
+      pub judged-alike : alikeTexts (subjectIn a) (subjectIn b) ≡ true → Numbered (newer a b) (r .no) (r .field)
+      judged-alike t = rw (z, told both r e .1 ∙ ap place (both-read (keys .0) (keys .1))) (alike-numbered (keys .0) (keys .1) t)
+
+      pub judged-unlike : alikeTexts (subjectIn a) (subjectIn b) ≡ false → Numbered (newer a b) notAlike 0
+      judged-unlike = unlike-numbered (keys .0) (keys .1)
+
+  -- ---- a choice with no number
+
+  module _ (z : choiceNo (newer a b) ≡ 0) where
+    pub chosen-keys : Key a × Key b
+    chosen-keys = both-keys (go both refl)
+      where
+        go : (o : Outcome) → both ≡ o → answer both ≡ 0
+        go (accepted k fs) e = ap answer e
+        go (refused n i) e = ap answer e ∙ sym (ap choiceNo (both-denied e)) ∙ z
+
+    module _ (p : Key a) (q : Key b) where
+      pub chosen-agree : T (agree p q)
+      chosen-agree =
+          by-test (agree p q)
+          (λ t. t)
+          (λ t.
+          let n : notAlike ≡ 0 = sym (ap choiceNo (newer-keys p q ∙ cond-no (agree p q) (by-gnt p q) (denied notAlike 0) t)) ∙ z in
+          absurd (omega arith))
+
+      pub chosen-later : newer a b ≡ by-gnt p q
+      chosen-later = newer-keys p q ∙ cond-yes (agree p q) (by-gnt p q) (denied notAlike 0) chosen-agree
+
+    by-bytes : newer a b ≡ cond (after (gntIn b) (gntIn a)) theSecond theFirst
+    by-bytes = chosen-later (chosen-keys .0) (chosen-keys .1) ∙ rw (later-keys (chosen-keys .0) (chosen-keys .1))
+
+  -- ---- the part handed back
+
+  none-chosen : (c : Choice) (n i : ℕ) → Numbered c n i → (n ≡ 0 → ⊥) → Chosen c a b [] n i
+  none-chosen theFirst n i h z = absurd (z (h .its-no))
+  none-chosen theSecond n i h z = absurd (z (h .its-no))
+  none-chosen (denied m j) n i h z = record { part-so = refl; number-so = h .its-no; field-so = h .its-field }
+
+  module _ (n i : ℕ) (h : Numbered (newer a b) n i) where
+    pub chosen-none : (n ≡ 0 → ⊥) → Chosen (newer a b) a b [] n i
+    chosen-none = none-chosen (newer a b) n i h
+
+    pub chosen-one : n ≡ 0 → (l : Bool) → after (gntIn b) (gntIn a) ≡ l
+        → Chosen (newer a b) a b (choicePart (cond l theSecond theFirst) a b) n i
+    chosen-one z l e =
+        let c : newer a b ≡ cond l theSecond theFirst = by-bytes (sym (h .its-no) ∙ z) ∙ rw e in
+        record { part-so = sym (ap (λ (x : Choice). choicePart x a b) c); number-so = h .its-no; field-so = h .its-field }

@@ -1,0 +1,159 @@
+-- Of two texts with the pattern of a TIMESTAMP the one that is later byte by byte is later by the parts of its date. The pattern
+-- alone counts, and not the ranges of the parts.
+-- Assumes nothing.
+use Prim.Native.Nat.{ℕ, zero, suc, _+_, _-_, _*_, _<_}
+use mathlib.Core.Path.{_≡_, refl, sym, ap, ap₂, _∙_}
+use mathlib.Core.Bool.{Bool, not}
+use mathlib.Core.List.{List, [], _∷_, _++_}
+use native.Mathlib.Omega.{arith}
+use lib.ListN.{length, take, drop, take-append-drop}
+use lib.Seq.{drop-drop}
+use lib.Dec.{T, eqb, eqb→eq}
+use mir.Facts.{and-yes, yes-and}
+use Rattle.text.specs.Text.{Bytes, ascii, oneOf, every, part, decimal, fits, looks, numberFrom, number, isTimestamp}
+use Rattle.text.proofs.Tests.{T-true, cond-yes, cond-no, between-low, between-high}
+use Rattle.text.proofs.Loops.{looks-pairwise, pairwise-length}
+use Rattle.newer.specs.Newer.{instant, after, later}
+use Rattle.newer.proofs.Order.{by-order, after-less, after-equal, after-more}
+
+-- ---- digits: two numbers of as many digits compare as their digits do
+
+digits-less : (u v : Bytes) → length u ≡ length v → T (every decimal u) → T (every decimal v) → (m n : ℕ) → m < n
+    → numberFrom m u < numberFrom n v
+unfolding numberFrom
+digits-less [] [] l hu hv m n h = h
+digits-less [] (d ∷ v) l hu hv m n h = absurd (omega arith)
+digits-less (c ∷ u) [] l hu hv m n h = absurd (omega arith)
+digits-less (c ∷ u) (d ∷ v) l hu hv m n h =
+    let hu′ = and-yes (decimal c) (every decimal u) hu in
+    let hv′ = and-yes (decimal d) (every decimal v) hv in
+    digits-less u v (omega arith) (hu′ .1) (hv′ .1) (10 * m + (c - 48)) (10 * n + (d - 48)) (omega (arith, between-high 48 57 c (hu′ .0)))
+
+module _ (s t : Bytes) (xs ys : List ℕ) (rest : after s t ≡ after xs ys) where
+  digits-first : (u v : Bytes) → length u ≡ length v → T (every decimal u) → T (every decimal v) → (n : ℕ)
+      → after (u ++ s) (v ++ t) ≡ after (numberFrom n u ∷ xs) (numberFrom n v ∷ ys)
+  unfolding numberFrom
+  digits-first [] [] l hu hv n = rest ∙ sym (after-equal n n xs ys refl)
+  digits-first [] (d ∷ v) l hu hv n = absurd (omega arith)
+  digits-first (c ∷ u) [] l hu hv n = absurd (omega arith)
+  digits-first (c ∷ u) (d ∷ v) l hu hv n =
+      let hu′ = and-yes (decimal c) (every decimal u) hu in
+      let hv′ = and-yes (decimal d) (every decimal v) hv in
+      let l′ : length u ≡ length v = omega arith in
+      let lc = between-low 48 57 c (hu′ .0) in
+      let ld = between-low 48 57 d (hv′ .0) in
+      let x : ℕ = 10 * n + (c - 48) in
+      let y : ℕ = 10 * n + (d - 48) in
+      by-order c d
+      (λ h. after-less c d (u ++ s) (v ++ t) h
+      ∙ sym (after-less (numberFrom x u) (numberFrom y v) xs ys (digits-less u v l′ (hu′ .1) (hv′ .1) x y (omega arith))))
+      (λ e. after-equal c d (u ++ s) (v ++ t) e
+      ∙ digits-first u v l′ (hu′ .1) (hv′ .1) x
+      ∙ ap (λ (z : ℕ). after (numberFrom x u ∷ xs) (numberFrom z v ∷ ys)) (omega arith))
+      (λ h. after-more c d (u ++ s) (v ++ t) h
+      ∙ sym (after-more (numberFrom x u) (numberFrom y v) xs ys (digits-less v u (sym l′) (hv′ .1) (hu′ .1) y x (omega arith))))
+
+letters-first : (u s t : Bytes) → after (u ++ s) (u ++ t) ≡ after s t
+letters-first [] s t = refl
+letters-first (c ∷ u) s t = after-equal c c (u ++ s) (u ++ t) refl ∙ letters-first u s t
+
+-- ---- a pattern, part by part
+
+looks-drop : (i : ℕ) (p s : Bytes) → T (looks p s) → T (looks (drop i p) (drop i s))
+unfolding looks
+looks-drop zero p s h = h
+looks-drop (suc i) [] [] h = h
+looks-drop (suc i) [] (c ∷ s) h = absurd h
+looks-drop (suc i) (q ∷ p) [] h = absurd h
+looks-drop (suc i) (q ∷ p) (c ∷ s) h = looks-drop i p s (and-yes (fits q c) (looks p s) h .1)
+
+looks-take : (n : ℕ) (p s : Bytes) → T (looks p s) → T (looks (take n p) (take n s))
+unfolding looks
+looks-take zero p s h = tt
+looks-take (suc n) [] [] h = h
+looks-take (suc n) [] (c ∷ s) h = absurd h
+looks-take (suc n) (q ∷ p) [] h = absurd h
+looks-take (suc n) (q ∷ p) (c ∷ s) h =
+    let h′ = and-yes (fits q c) (looks p s) h in
+    yes-and (fits q c) (looks (take n p) (take n s)) (h′ .0) (looks-take n p s (h′ .1))
+
+-- a letter of a pattern that stands for itself
+abbrev literal : ℕ → Bool
+literal p = oneOf (ascii "TZ") p
+
+looks-digits : (p s : Bytes) → T (every (λ q. not (literal q)) p) → T (looks p s) → T (every decimal s)
+unfolding looks
+looks-digits [] [] d h = tt
+looks-digits [] (c ∷ s) d h = absurd h
+looks-digits (q ∷ p) [] d h = absurd h
+looks-digits (q ∷ p) (c ∷ s) d h =
+    let d′ = and-yes (not (literal q)) (every (λ r. not (literal r)) p) d in
+    let h′ = and-yes (fits q c) (looks p s) h in
+    yes-and (decimal c) (every decimal s) (rw (cond-no (literal q) (eqb c q) (decimal c) (d′ .0)) at (h′ .0)) (looks-digits p s (d′ .1) (h′ .1))
+
+looks-letters : (p s : Bytes) → T (every literal p) → T (looks p s) → s ≡ p
+unfolding looks
+looks-letters [] [] d h = refl
+looks-letters [] (c ∷ s) d h = absurd h
+looks-letters (q ∷ p) [] d h = absurd h
+looks-letters (q ∷ p) (c ∷ s) d h =
+    let d′ = and-yes (literal q) (every literal p) d in
+    let h′ = and-yes (fits q c) (looks p s) h in
+    ap₂ {C = Bytes} (λ x r. x ∷ r) (eqb→eq c q (rw (cond-yes (literal q) (eqb c q) (decimal c) (d′ .0)) at (h′ .0))) (looks-letters p s (d′ .1) (h′ .1))
+
+-- ---- two texts of one pattern
+
+-- n bytes from place i on, and what follows them
+from-place : (i n : ℕ) (s : Bytes) → drop i s ≡ part i n s ++ drop (i + n) s
+from-place i n s = sym (take-append-drop n (drop i s)) ∙ ap (λ (r : Bytes). part i n s ++ r) (drop-drop n i s)
+
+module _ (p s t : Bytes) (hs : T (looks p s)) (ht : T (looks p t)) where
+  looks-part : (i n : ℕ) (r : Bytes) → T (looks p r) → T (looks (part i n p) (part i n r))
+  looks-part i n r h = looks-take n (drop i p) (drop i r) (looks-drop i p r h)
+
+  as-long : (i n : ℕ) (r : Bytes) → T (looks p r) → length (part i n p) ≡ length (part i n r)
+  as-long i n r h = pairwise-length fits looks looks-pairwise (part i n p) (part i n r) (T-true _ (looks-part i n r h))
+
+  number-at : (i n : ℕ) → T (every (λ q. not (literal q)) (part i n p)) → (xs ys : List ℕ)
+      → after (drop (i + n) s) (drop (i + n) t) ≡ after xs ys
+      → after (drop i s) (drop i t) ≡ after (number (part i n s) ∷ xs) (number (part i n t) ∷ ys)
+  number-at i n d xs ys e =
+      ap₂ after (from-place i n s) (from-place i n t)
+      ∙ digits-first (drop (i + n) s) (drop (i + n) t) xs ys e (part i n s) (part i n t) (sym (as-long i n s hs) ∙ as-long i n t ht)
+      (looks-digits (part i n p) (part i n s) d (looks-part i n s hs)) (looks-digits (part i n p) (part i n t) d (looks-part i n t ht)) 0
+
+  letters-at : (i n : ℕ) → T (every literal (part i n p)) → after (drop i s) (drop i t) ≡ after (drop (i + n) s) (drop (i + n) t)
+  letters-at i n d =
+      ap₂ after (from-place i n s) (from-place i n t)
+      ∙ ap₂ (λ (u v : Bytes). after (u ++ drop (i + n) s) (v ++ drop (i + n) t))
+      (looks-letters (part i n p) (part i n s) d (looks-part i n s hs)) (looks-letters (part i n p) (part i n t) d (looks-part i n t ht))
+      ∙ letters-first (part i n p) (drop (i + n) s) (drop (i + n) t)
+
+-- ---- TIMESTAMPs
+
+abbrev pub stamp : Bytes
+stamp = ascii "YYYYMMDDThhmmssZ"
+
+pub timestamp-looks : (s : Bytes) → T (isTimestamp s) → T (looks stamp s)
+unfolding isTimestamp
+timestamp-looks s t = and-yes (looks stamp s) _ t .0
+
+stamp-end : (s : Bytes) → T (looks stamp s) → drop 16 s ≡ []
+unfolding looks
+stamp-end s h = looks-letters [] (drop 16 s) tt (looks-drop 16 stamp s h)
+
+pub later-by-bytes : (s t : Bytes) → T (looks stamp s) → T (looks stamp t) → after s t ≡ later s t
+unfolding later
+later-by-bytes s t hs ht =
+    let number = number-at stamp s t hs ht in
+    let letters = letters-at stamp s t hs ht in
+    let xs = instant s in
+    let ys = instant t in
+    number 0 4 tt (drop 1 xs) (drop 1 ys)
+    (number 4 2 tt (drop 2 xs) (drop 2 ys)
+    (number 6 2 tt (drop 3 xs) (drop 3 ys)
+    (letters 8 1 tt
+    ∙ number 9 2 tt (drop 4 xs) (drop 4 ys)
+    (number 11 2 tt (drop 5 xs) (drop 5 ys)
+    (number 13 2 tt [] []
+    (letters 15 1 tt ∙ ap₂ after (stamp-end s hs) (stamp-end t ht)))))))

@@ -1,0 +1,5 @@
+pub mod Order
+pub mod Later
+pub mod Keys
+pub mod Choosing
+pub mod Chosen

@@ -1,0 +1,20 @@
+-- `newer::subject_of` meets its contract.
+-- Assumes nothing.
+use mathlib.Core.Path.{ap, _∙_}
+use Rattle.text.specs.Text.{Bytes}
+use Rattle.frame.specs.Frame.{partOf}
+use borrow.Author.Needs.{needs}
+use Rattle.newer.proofs.subject_of.Statement.{statement}
+use Rattle.newer.proofs.subject_of.Tie as tie
+
+body-of-requires : tie.Need-body-of-requires
+body-of-requires c κs = search needs
+
+part-requires : tie.Need-part-requires
+part-requires c κs = search needs
+
+returns : tie.Need-returns
+returns c = c .part .ensures ∙ ap (λ (b : Bytes). partOf 124 b 1) (c .before .body-of .ensures)
+
+pub subject-of-spec : {M : Type 1} → statement M
+subject-of-spec = tie.close (tie.spec body-of-requires part-requires returns)

@@ -1,0 +1,89 @@
+-- The newer of two public keys: document 01, "Files of records and the newer key", number 13. The one whose Subject has the later
+-- GNT, the first when equal. The first record's refusals come before the second's, then 13.
+-- Assumes nothing.
+use Prim.Native.Nat.{ℕ}
+use mathlib.Core.Path.{_≡_}
+use mathlib.Core.Bool.{Bool, true, false, cond, _&&_, _||_}
+use mathlib.Core.List.{List, [], _∷_}
+use lib.ListN.{getD}
+use lib.Dec.{ltb, eqb}
+use Rattle.text.specs.Text.{Bytes, same, year, month, day, hour, minute, second}
+use Rattle.format.specs.Numbers.{notAlike}
+use Rattle.format.specs.Kinds.{Kind, name, pubkeyKinds}
+use Rattle.format.specs.Read.{Outcome, accepted, refused, readIdentity, readOf}
+
+-- ---- the Subject of a public key, and what is compared of it
+
+abbrev pub subject : List Bytes → Bytes
+subject fs = getD fs 0 []
+
+abbrev pub manufacturer : List Bytes → Bytes
+manufacturer fs = getD fs 0 []
+
+abbrev pub mid : List Bytes → Bytes
+mid fs = getD fs 1 []
+
+abbrev pub gnt : List Bytes → Bytes
+gnt fs = getD fs 2 []
+
+-- the two Subjects agree in kind, Manufacturer and MID (no two kinds have one name)
+abbrev pub alike : Kind → List Bytes → Kind → List Bytes → Bool
+alike j fs k gs = same (name j) (name k) && (same (manufacturer fs) (manufacturer gs) && same (mid fs) (mid gs))
+
+-- ---- later as an instant: by the parts of the date, the greatest first
+
+abbrev pub instant : Bytes → List ℕ
+instant s = year s ∷ month s ∷ day s ∷ hour s ∷ minute s ∷ second s ∷ []
+
+-- the first part that differs decides
+abbrev pub after : List ℕ → List ℕ → Bool
+after [] ys = false
+after (x ∷ xs) [] = true
+after (x ∷ xs) (y ∷ ys) = ltb y x || (eqb x y && after xs ys)
+
+-- s is later than t
+unfoldable pub later : Bytes → Bytes → Bool
+later s t = after (instant s) (instant t)
+
+-- ---- the call
+
+pub data Choice : Type 0 where
+  theFirst theSecond : Choice
+  denied : ℕ → ℕ → Choice
+
+-- by the identity call's outcomes of the two Subjects
+abbrev pub bySubjects : Outcome → Outcome → Choice
+bySubjects (accepted j fs) (accepted k gs) =
+    cond (alike j fs k gs) (cond (later (gnt gs) (gnt fs)) theSecond theFirst) (denied notAlike 0)
+bySubjects (accepted j fs) (refused n i) = denied n i
+bySubjects (refused n i) o = denied n i
+
+-- by the record call's outcomes of the two records
+abbrev pub byRecords : Outcome → Outcome → Choice
+byRecords (accepted j fs) (accepted k gs) = bySubjects (readIdentity (subject fs)) (readIdentity (subject gs))
+byRecords (accepted j fs) (refused n i) = denied n i
+byRecords (refused n i) o = denied n i
+
+unfoldable pub newer : Bytes → Bytes → Choice
+newer a b = byRecords (readOf pubkeyKinds a) (readOf pubkeyKinds b)
+
+-- the record handed back, whole; an empty part with a refusal
+abbrev pub choicePart : Choice → Bytes → Bytes → Bytes
+choicePart theFirst a b = a
+choicePart theSecond a b = b
+choicePart (denied n i) a b = []
+
+abbrev pub choiceNo : Choice → ℕ
+choiceNo theFirst = 0
+choiceNo theSecond = 0
+choiceNo (denied n i) = n
+
+abbrev pub choiceField : Choice → ℕ
+choiceField theFirst = 0
+choiceField theSecond = 0
+choiceField (denied n i) = i
+
+pub record Chosen (c : Choice) (a b part : Bytes) (no field : ℕ) : Type 0 where
+  pub part-so : part ≡ choicePart c a b
+  pub number-so : no ≡ choiceNo c
+  pub field-so : field ≡ choiceField c

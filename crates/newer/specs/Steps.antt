@@ -1,0 +1,35 @@
+-- What the private functions of the crate answer. No clause of a document stands here.
+-- Assumes nothing.
+use Prim.Native.Nat.{ℕ}
+use Prim.Native.Char.{code}
+use mathlib.Core.Path.{_≡_}
+use mathlib.Core.Bool.{Bool, _&&_}
+use Rattle.text.specs.Text.{Bytes, same}
+use Rattle.format.specs.Read.{Outcome, accepted, refused, title, body}
+use Rattle.frame.specs.Frame.{partOf}
+use Rattle.newer.specs.Newer.{Choice, choiceNo, choiceField}
+
+-- the first record's refusal, and otherwise the second record's outcome
+abbrev pub inTurn : Outcome → Outcome → Outcome
+inTurn (accepted k fs) o = o
+inTurn (refused n i) o = refused n i
+
+-- the Subject of a public key, and field n, from 1, of an identity, by their places
+abbrev pub subjectIn : Bytes → Bytes
+subjectIn s = partOf (code "|") (body s) 1
+
+abbrev pub identityPart : Bytes → ℕ → Bytes
+identityPart s n = partOf (code ":") (body s) n
+
+abbrev pub gntIn : Bytes → Bytes
+gntIn s = identityPart (subjectIn s) 3
+
+-- two identities agree in what stands before the first mark, in Manufacturer and in MID
+unfoldable pub alikeTexts : Bytes → Bytes → Bool
+alikeTexts s t =
+    same (title s) (title t) && (same (identityPart s 1) (identityPart t 1) && same (identityPart s 2) (identityPart t 2))
+
+-- the numbers of a choice
+pub record Numbered (c : Choice) (no field : ℕ) : Type 0 where
+  pub its-no : no ≡ choiceNo c
+  pub its-field : field ≡ choiceField c

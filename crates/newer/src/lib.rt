@@ -1,0 +1,136 @@
+// The newer of two public keys: document 01, "Files of records and the newer key", number 13. The call takes any bytes
+// and has no `requires`.
+ghost use mathlib.Core.Path.{_≡_};
+ghost use Rattle.text.specs.Text.{same};
+ghost use Rattle.format.specs.Kinds.{pubkeyKinds};
+ghost use Rattle.format.specs.Read.{readOf};
+ghost use Rattle.reading.specs.Reading.{answerOf};
+ghost use Rattle.newer.specs.Newer.{after, newer, Chosen};
+ghost use Rattle.newer.specs.Steps.{inTurn, subjectIn, identityPart, gntIn, alikeTexts, Numbered};
+
+const NOT_ALIKE: u8 = 13;
+
+// ---- the fields compared: the Subject of a public key, and what stands in an identity
+
+const SUBJECT: usize = 1;
+
+const MANUFACTURER: usize = 1;
+
+const MID: usize = 2;
+
+const GNT: usize = 3;
+
+fn subject_of<'a>(key: &'a [u8]) -> &'a [u8]
+    ensures { λ r. ⌜ now r ≡ subjectIn (now (key .entry)) ⌝ }
+{
+    frame::part(b'|', frame::body_of(key), SUBJECT)
+}
+
+fn field_in<'a>(identity: &'a [u8], n: usize) -> &'a [u8]
+    ensures { λ r. ⌜ now r ≡ identityPart (now (identity .entry)) n ⌝ }
+{
+    frame::part(b':', frame::body_of(identity), n)
+}
+
+fn gnt_of<'a>(key: &'a [u8]) -> &'a [u8]
+    ensures { λ r. ⌜ now r ≡ gntIn (now (key .entry)) ⌝ }
+{
+    field_in(subject_of(key), GNT)
+}
+
+// ---- comparing
+
+// The two identities have the same field n.
+fn do_agree(s: &[u8], t: &[u8], n: usize) -> bool
+    ensures { λ r. ⌜ r ≡ same (identityPart (now (s .entry)) n) (identityPart (now (t .entry)) n) ⌝ }
+{
+    text::are_same(field_in(s, n), field_in(t, n))
+}
+
+// The two identities agree in kind, Manufacturer and MID.
+fn are_alike(s: &[u8], t: &[u8]) -> bool
+    ensures { λ r. ⌜ r ≡ alikeTexts (now (s .entry)) (now (t .entry)) ⌝ }
+{
+    if !text::are_same(frame::title_of(s), frame::title_of(t)) {
+        return false;
+    }
+    if !do_agree(s, t, MANUFACTURER) {
+        return false;
+    }
+    do_agree(s, t, MID)
+}
+
+// The first byte that differs decides. Two TIMESTAMPs have digits and letters in the same places, the greatest part
+// of the date first, so this is their order in time.
+fn is_later(s: &[u8], t: &[u8]) -> bool
+    ensures { λ r. ⌜ r ≡ after (now (s .entry)) (now (t .entry)) ⌝ }
+{
+    let mut i = 0;
+    while i < s.len() {
+        if t.len() <= i {
+            return true;
+        }
+        if s[i] != t[i] {
+            return t[i] < s[i];
+        }
+        i += 1;
+    }
+    false
+}
+
+// ---- the refusals
+
+// Reads public keys alone: the rows from ECDSA to before REQ.
+fn read_key(key: &[u8]) -> reading::Answer
+    ensures { λ r. ⌜ r ≡ answerOf (readOf pubkeyKinds (now (key .entry))) ⌝ }
+{
+    reading::read_of(table::ECDSA, table::REQ, key)
+}
+
+// The first one's refusal comes before the second one's.
+fn read_both(first: &[u8], second: &[u8]) -> reading::Answer
+    ensures { λ r. ⌜ r ≡ answerOf (inTurn (readOf pubkeyKinds (now (first .entry))) (readOf pubkeyKinds (now (second .entry)))) ⌝ }
+{
+    let answer = read_key(first);
+    if answer.no != reading::ACCEPTED {
+        return answer;
+    }
+    read_key(second)
+}
+
+// The refusal of the two records together, or an answer with no number.
+fn judge(first: &[u8], second: &[u8]) -> reading::Answer
+    ensures { λ r. ⌜ Numbered (newer (now (first .entry)) (now (second .entry))) (r .no) (r .field) ⌝ }
+{
+    let answer = read_both(first, second);
+    if answer.no != reading::ACCEPTED {
+        return answer;
+    }
+    if are_alike(subject_of(first), subject_of(second)) {
+        return answer;
+    }
+    reading::Answer {
+        no: NOT_ALIKE,
+        field: 0,
+        kind: table::NONE,
+    }
+}
+
+// ---- the call
+
+// The record whose Subject has the later GNT, whole, as the caller's own bytes: the first when equal, and an empty part
+// with a refusal.
+pub fn newer<'a>(first: &'a [u8], second: &'a [u8], no: &mut u8, field: &mut u8) -> &'a [u8]
+    ensures { λ r. ⌜ Chosen (newer (now (first .entry)) (now (second .entry))) (now (first .entry)) (now (second .entry)) (now r) (now (no .exit)) (now (field .exit)) ⌝ }
+{
+    let answer = judge(first, second);
+    *no = answer.no;
+    *field = answer.field;
+    if answer.no != reading::ACCEPTED {
+        return &first[0..0];
+    }
+    if is_later(gnt_of(second), gnt_of(first)) {
+        return second;
+    }
+    first
+}

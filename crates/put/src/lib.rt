@@ -1,0 +1,46 @@
+// Writing into a lent output, one piece after another.
+ghost use mathlib.Core.Path.{_≡_};
+ghost use mathlib.Core.List.{[], _∷_};
+ghost use Rattle.put.specs.Put.{Puts};
+ghost use Rattle.put.specs.Made.{denied, says};
+
+// What a call that writes into a lent output answers: its number, the field's number (0 where none is named), and the
+// length written from the front, 0 with a refusal.
+pub struct Written {
+    pub no: u8,
+    pub field: u8,
+    pub len: usize,
+}
+
+// The answer of a call that refuses.
+pub fn refuse(no: u8, field: u8) -> Written
+    ensures { λ r. ⌜ r ≡ says (denied no field) ⌝ }
+{
+    Written { no, field, len: 0 }
+}
+
+// Writes the piece at place `at` and answers the place after it. Where it does not fit, nothing is written and the answer
+// is `at`.
+pub fn put(out: &mut [u8], at: usize, piece: &[u8]) -> usize
+    ensures { λ r. ⌜ Puts (now (out .entry)) at (now (piece .entry)) (now (out .exit)) r ⌝ }
+{
+    if out.len() < at {
+        return at;
+    }
+    if out.len() - at < piece.len() {
+        return at;
+    }
+    let mut i = 0;
+    while i < piece.len() {
+        out[at + i] = piece[i];
+        i += 1;
+    }
+    at + i
+}
+
+// The same for one byte.
+pub fn put_byte(out: &mut [u8], at: usize, byte: u8) -> usize
+    ensures { λ r. ⌜ Puts (now (out .entry)) at (byte ∷ []) (now (out .exit)) r ⌝ }
+{
+    put(out, at, &[byte])
+}
