@@ -18,7 +18,7 @@ use Rattle.items.specs.Items.{lvItems, lvConcat, shortItems, concats, af
 
 -- ---- what is built is read
 
-items-back : (is : List Bytes) → itemsIn (length is) (lvItems is) ≡ some is
+pub items-back : (is : List Bytes) → itemsIn (length is) (lvItems is) ≡ some is
 items-back [] = refl
 items-back (i ∷ is) =
     cond-yes (leb (length i) (length (i ++ lvItems is))) _ _ (le→leb (length i) (length (i ++ lvItems is)) (omega (arith, length-append i (lvItems is))))

@@ -17,9 +17,10 @@ use Rattle.reading.specs.Steps.{Within}
 use Rattle.reading.specs.declared.Answer.{Answer}
 use Rattle.reading.proofs.Within.{of-within, taken, untaken}
 use Rattle.newer.specs.Newer.{alike, after, later, Choice, theFirst, theSecond, denied, byRecords, newer, choicePart, choiceNo, Chosen}
+use Rattle.newer.specs.Keys.{Key, gntOf}
 use Rattle.newer.specs.Steps.{inTurn, subjectIn, gntIn, alikeTexts, Numbered}
 use Rattle.newer.proofs.Later.{timestamp-looks, later-by-bytes}
-use Rattle.newer.proofs.Keys.{Key, gntOf, key, its-title, its-name, its-gnt}
+use Rattle.newer.proofs.Keys.{key, its-title, its-name, its-gnt}
 
 -- the numbers of an answer
 told : (o : Outcome) (r : Answer) → r ≡ answerOf o → (r .no ≡ answer o) × (r .field ≡ place o)

@@ -14,10 +14,10 @@ use Rattle.text.specs.Text.{Bytes, same, isTimestamp}
 use Rattle.text.proofs.Tests.{T-true, T-false, by-test, same→eq, same-refl}
 use Rattle.format.specs.Kinds.{name}
 use Rattle.format.proofs.Table.{name-inj}
-use Rattle.newer.specs.Newer.{manufacturer, mid, instant, later, Choice, theFirst, theSecond, denied, newer, choicePart, choiceNo, Chosen}
+use Rattle.newer.specs.Newer.{manufacturer, instant, later, Choice, theFirst, theSecond, denied, newer, choicePart, choiceNo, Chosen}
+use Rattle.newer.specs.Keys.{Key, gntOf, Agreed}
 use Rattle.newer.proofs.Order.{after-itself, after-one-way, after-neither}
 use Rattle.newer.proofs.Later.{timestamp-looks, later-by-bytes}
-use Rattle.newer.proofs.Keys.{Key, gntOf}
 use Rattle.newer.proofs.Choosing.{newer-keys, chosen-keys, chosen-agree, chosen-later}
 
 -- ---- later is an order of TIMESTAMPs
@@ -37,13 +37,6 @@ later-neither s t hs ht e f =
     after-neither s t (later-by-bytes s t ps pt ∙ e) (later-by-bytes t s pt ps ∙ f)
 
 -- ---- what the call says
-
-pub record Agreed (a b : Bytes) : Type 0 where
-  pub one : Key a
-  pub other : Key b
-  pub kinds : one .who ≡ other .who
-  pub manufacturers : manufacturer (one .names) ≡ manufacturer (other .names)
-  pub mids : mid (one .names) ≡ mid (other .names)
 
 same-self : (s : Bytes) → same s s ≡ true
 same-self s = T-true (same s s) (same-refl s)

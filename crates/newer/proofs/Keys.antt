@@ -11,27 +11,16 @@ use lib.Dec.{T, lit<}
 use Rattle.text.specs.Text.{Bytes, Ident, isTimestamp}
 use Rattle.format.specs.Kinds.{Kind, Field, Text, name, mark, identityKinds, pubkeyKinds}
 use Rattle.format.specs.Build.{Fits, FitAll, IsIdentity, Built}
-use Rattle.format.specs.Read.{accepted, title, readIdentity, readOf}
+use Rattle.format.specs.Read.{accepted, title, readOf}
 use Rattle.format.proofs.Table.{all-among, identity-row, pubkey-row}
 use Rattle.format.proofs.Parts.{built-title}
 use Rattle.format.proofs.Exactly.{ask-complete, identity-exact, read-exact}
 use Rattle.reading.specs.Steps.{Inside}
 use Rattle.reading.proofs.Within.{identity-within, of-within}
 use Rattle.reading.proofs.Wanted.{field-part}
-use Rattle.newer.specs.Newer.{subject, gnt}
+use Rattle.newer.specs.Newer.{subject}
+use Rattle.newer.specs.Keys.{Key, gntOf}
 use Rattle.newer.specs.Steps.{subjectIn, identityPart}
-
--- s is accepted as a public key, and the Subject in it is an identity of kind `who` with the fields `names`
-pub record Key (s : Bytes) : Type 0 where
-  pub kind : Kind
-  pub fields : List Bytes
-  pub is : readOf pubkeyKinds s ≡ accepted kind fields
-  pub who : Kind
-  pub names : List Bytes
-  pub known : readIdentity (subject fields) ≡ accepted who names
-
-abbrev pub gntOf : {s : Bytes} → Key s → Bytes
-gntOf k = gnt (k .names)
 
 -- each field is as the table says
 fit-at : (I : Kind → Bytes → Type 0) (ts : List Field) (fs : List Bytes) → FitAll I ts fs → (j : ℕ) → j < length ts

@@ -1,2 +1,3 @@
 pub mod Newer
+pub mod Keys
 pub mod Steps

@@ -98,7 +98,7 @@ fn read_both(first: &[u8], second: &[u8]) -> reading::Answer
     read_key(second)
 }
 
-// The refusal of the two records together, or an answer with no number.
+// Every refusal in its order: the first record's, the second's, then NOT_ALIKE.
 fn judge(first: &[u8], second: &[u8]) -> reading::Answer
     ensures { λ r. ⌜ Numbered (newer (now (first .entry)) (now (second .entry))) (r .no) (r .field) ⌝ }
 {
@@ -119,7 +119,7 @@ fn judge(first: &[u8], second: &[u8]) -> reading::Answer
 // ---- the call
 
 // The record whose Subject has the later GNT, whole, as the caller's own bytes: the first when equal, and an empty part
-// with a refusal.
+// with a refusal. The two lenders share one lifetime: docs/DECISIONS.md.
 pub fn newer<'a>(first: &'a [u8], second: &'a [u8], no: &mut u8, field: &mut u8) -> &'a [u8]
     ensures { λ r. ⌜ Chosen (newer (now (first .entry)) (now (second .entry))) (now (first .entry)) (now (second .entry)) (now r) (now (no .exit)) (now (field .exit)) ⌝ }
 {

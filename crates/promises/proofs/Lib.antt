@@ -3,3 +3,8 @@ pub mod Determined
 pub mod Check
 pub mod TextTypes
 pub mod Reading
+pub mod Building
+pub mod Agreement
+pub mod Files
+pub mod Demand3
+pub mod Newer

@@ -1,6 +1,12 @@
 pub mod Worked
 pub mod Starred
 pub mod Determined
+pub mod Calls
 pub mod Check
 pub mod TextTypes
 pub mod Reading
+pub mod Building
+pub mod Agreement
+pub mod Files
+pub mod Demand3
+pub mod Newer

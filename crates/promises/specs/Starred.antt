@@ -7,16 +7,20 @@ use mathlib.Core.Bool.{Bool, true, false}
 use mathlib.Core.List.{List, [], _∷_}
 use Rattle.crc16.specs.Crc.{crcOf}
 use lib.ListN.{length}
-use Rattle.text.specs.Text.{ascii, isTimestamp, isHex}
-use Rattle.promises.specs.Worked.{idSm, idKmc, centreKey, request, response}
+use Rattle.text.specs.Text.{Bytes, ascii, isTimestamp, isHex}
+use Rattle.items.specs.Items.{lvConcat}
+use Rattle.agreement.specs.Texts.{sharedItems, moduleItems, centreItems}
+use Rattle.promises.specs.Worked.{idSm, idKmc, centreKey, requestFields, request, response}
 
 -- what is computed, and what it must be
 pub data Star : Type 0 where
   number : ℕ → ℕ → Star
+  bytes : Bytes → Bytes → Star
   test : Bool → Bool → Star
 
 abbrev pub Comes : Star → Type 0
 Comes (number n m) = n ≡ m
+Comes (bytes s t) = s ≡ t
 Comes (test b c) = b ≡ c
 
 abbrev pub AllStarred : List Star → Type 0
@@ -33,6 +37,13 @@ starred =
     ∷ number (length centreKey) 302
     ∷ number (length request) 434
     ∷ number (length response) 219
+    ∷ bytes (lvConcat (ascii "AB" ∷ ascii "C" ∷ [])) (0x02 ∷ 0x02 ∷ 0x41 ∷ 0x42 ∷ 0x01 ∷ 0x43 ∷ [])
+    ∷ bytes (lvConcat (ascii "A" ∷ ascii "BC" ∷ [])) (0x02 ∷ 0x01 ∷ 0x41 ∷ 0x02 ∷ 0x42 ∷ 0x43 ∷ [])
+    ∷ bytes (lvConcat ([] ∷ [])) (0x01 ∷ 0x00 ∷ [])
+    ∷ bytes (lvConcat []) (0x00 ∷ [])
+    ∷ number (length (lvConcat (sharedItems requestFields))) 163
+    ∷ number (length (lvConcat (moduleItems requestFields))) 276
+    ∷ number (length (lvConcat (centreItems requestFields))) 254
     ∷ test (isTimestamp (ascii "20180110T230000Z")) true
     ∷ test (isTimestamp (ascii "20180110T240000Z")) false
     ∷ test (isHex 2 (ascii "0a")) false

@@ -1,0 +1,120 @@
+-- The promises of the key agreement texts, from the laws of format, items and agreement.
+-- Assumes nothing.
+use Prim.Native.Nat.{ℕ, _≤_}
+use mathlib.Core.Path.{_≡_, refl, sym, ap, _∙_, subst}
+use mathlib.Core.Logic.{_↔_, _≢_}
+use mathlib.Core.Bool.{Bool, true, false, cond}
+use mathlib.Core.Option.{Option, none, some}
+use mathlib.Core.List.{List, [], _∷_}
+use native.Mathlib.Omega.{arith}
+use lib.ListN.{length, drop}
+use lib.Dec.{T, leb, leb→le, le→leb}
+use Rattle.text.specs.Text.{Bytes}
+use Rattle.text.proofs.Tests.{by-test, cond-yes, cond-no}
+use Rattle.format.specs.Numbers.{noRoom}
+use Rattle.format.specs.Kinds.{Kind, REQ}
+use Rattle.format.specs.Build.{Built}
+use Rattle.format.specs.Read.{Outcome, accepted, refused, answer, readOf}
+use Rattle.format.proofs.Exactly.{read-exact, read-honest}
+use Rattle.table.proofs.Rows.{among-one}
+use Rattle.put.specs.Made.{Made, made, denied, says, leaves, Writes}
+use Rattle.put.specs.declared.Written.{Written}
+use Rattle.items.specs.Items.{lvConcat, itemsOf, nth, nthOf, textItem, partOf, numberOf, Handed}
+use Rattle.items.proofs.OneToOne.{concat-inj, items-back, item-exact}
+use Rattle.agreement.specs.Texts.{textMade, sharedInfo, moduleText, centreText}
+use Rattle.agreement.proofs.Texts.{items-concat, qe-length}
+use Rattle.promises.specs.Agreement.{TextSaid, ItemSaid, Agreement}
+
+-- ---- a text
+
+-- a made text is that of an accepted request, and there is room
+pub record Fits (items : List Bytes → List Bytes) (room : ℕ) (o : Outcome) : Type 0 where
+  pub fs : List Bytes
+  pub k : Kind
+  pub is-accepted : o ≡ accepted k fs
+  pub room-so : length (lvConcat (items fs)) ≤ room
+
+module _ (items : List Bytes → List Bytes) (room : ℕ) where
+  made-yes : (k : Kind) (fs : List Bytes) → length (lvConcat (items fs)) ≤ room → textMade items room (accepted k fs) ≡ made (lvConcat (items fs))
+  made-yes k fs h = cond-yes (leb (length (lvConcat (items fs))) room) _ _ (le→leb (length (lvConcat (items fs))) room h)
+
+  made-zero : (o : Outcome) → (answer o ≡ 0 → (k : Kind) × (fs : List Bytes) × (o ≡ accepted k fs)) → says (textMade items room o) .no ≡ 0 → Fits items room o
+  made-zero (accepted k fs) h z =
+      by-test (leb (length (lvConcat (items fs))) room)
+      (λ t. record { fs = fs; k = k; is-accepted = refl; room-so = leb→le (length (lvConcat (items fs))) room t })
+      (λ t. absurd (omega (arith, sym (ap (λ (m : Made). says m .no) (cond-no (leb (length (lvConcat (items fs))) room) (made (lvConcat (items fs))) (denied noRoom 0) t)) ∙ z)))
+  made-zero (refused n i) h z = let (k, fs, e) = h z in absurd (let o : _≡_ {A = ℕ} 0 1 = cc in omega arith)
+
+  made-kept : (o : Outcome) (out : Bytes) → says (textMade items room o) .no ≢ 0
+      → (says (textMade items room o) .len ≡ 0) × (leaves (textMade items room o) out ≡ out)
+  made-kept (accepted k fs) out n =
+      by-test (leb (length (lvConcat (items fs))) room)
+      (λ t. absurd (n (ap (λ (m : Made). says m .no) (cond-yes (leb (length (lvConcat (items fs))) room) (made (lvConcat (items fs))) (denied noRoom 0) t))))
+      (λ t.
+      let e = cond-no (leb (length (lvConcat (items fs))) room) (made (lvConcat (items fs))) (denied noRoom 0) t in
+      (ap (λ (m : Made). says m .len) e, ap (λ (m : Made). leaves m out) e))
+  made-kept (refused m i) out n = (refl, refl)
+
+text-said : (items : List Bytes → List Bytes) (request out out′ : Bytes) (r : Written)
+    → Writes (textMade items (length out) (readOf (REQ ∷ []) request)) out out′ r → TextSaid items request out out′ r
+text-said items request out out′ r w =
+    let o : Outcome = readOf (REQ ∷ []) request in
+    let q : r .no ≡ says (textMade items (length out) o) .no = ap (λ (x : Written). x .no) (w .said) in
+    let yes : (fs : List Bytes) → Built (REQ ∷ []) request REQ fs → length (lvConcat (items fs)) ≤ length out
+    → textMade items (length out) o ≡ made (lvConcat (items fs)) =
+    λ fs b h. ap (textMade items (length out)) (read-exact (REQ ∷ []) request REQ fs .1 b) ∙ made-yes items (length out) REQ fs h in
+    record {
+      exactly = (
+        λ z.
+            let f = made-zero items (length out) o (read-honest (REQ ∷ []) request) (sym q ∙ z) in
+            let b = read-exact (REQ ∷ []) request (f .k) (f .fs) .0 (f .is-accepted) in
+            (f .fs, subst (λ (k : Kind). Built (REQ ∷ []) request k (f .fs)) (among-one (f .k) REQ (b .of-kind)) b, f .room-so),
+        λ b. q ∙ ap (λ (m : Made). says m .no) (yes (b .0) (b .1) (b .2)),
+      );
+      written = λ fs b h.
+          let e = yes fs b h in
+          (ap (λ (x : Written). x .len) (w .said ∙ ap says e), w .left ∙ ap (λ (m : Made). leaves m out) e);
+      untouched = λ n.
+          let e = made-kept items (length out) o out (λ z. n (q ∙ z)) in
+          (ap (λ (x : Written). x .len) (w .said) ∙ e .0, w .left ∙ e .1);
+    }
+
+-- ---- an item
+
+found : (o : Option Bytes) → numberOf o ≡ 0 → (x : Bytes) × (o ≡ some x)
+found none z = absurd (omega arith)
+found (some x) z = (x, refl)
+
+only : (o : Option Bytes) → numberOf o ≢ 0 → (numberOf o ≡ 12) × (partOf o ≡ [])
+only none n = (refl, refl)
+only (some x) n = absurd (n refl)
+
+item-said : (text : Bytes) (wanted : ℕ) (part : Bytes) (m : ℕ) → Handed (textItem text wanted) part m → ItemSaid text wanted part m
+unfolding textItem
+item-said text wanted part m h = record {
+  exactly = λ b. (
+    λ z.
+        let (x, e) = found (textItem text wanted) (sym (h .number-so) ∙ z) in
+        let (is, c, q, n) = item-exact text wanted x b .0 e in
+        (is, c, q, (x, n)),
+    λ g. h .number-so ∙ ap numberOf (item-exact text wanted (g .3 .0) b .1 (g .0, g .1, g .2, g .3 .1)),
+  );
+  its-item = λ is x q n. h .part-so ∙ ap (λ (o : Option (List Bytes)). partOf (nthOf wanted o)) (ap itemsOf q ∙ items-back is) ∙ ap partOf n;
+  only-12 = λ n.
+      let e = only (textItem text wanted) (λ z. n (h .number-so ∙ z)) in
+      (h .number-so ∙ e .0, h .part-so ∙ e .1);
+}
+
+pub agreement : Agreement
+unfolding sharedInfo moduleText centreText
+agreement = record {
+  shared-info = λ κs a r s w. text-said _ _ _ _ r w;
+  module-text = λ κs a r s w. text-said _ _ _ _ r w;
+  centre-text = λ κs a r s w. text-said _ _ _ _ r w;
+  item = λ κs a r s h. item-said _ _ _ _ h;
+  one-to-one = concat-inj;
+  read-back = items-back;
+  taken = items-concat;
+  decoded = λ fs p. qe-length p;
+  very-bytes = λ fs. (refl, refl, refl, refl, refl, refl, refl, refl);
+}

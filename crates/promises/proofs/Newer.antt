@@ -1,0 +1,19 @@
+-- The promises about the newer key, from the laws of newer.
+-- Assumes nothing.
+use Prim.Native.Nat.{ℕ}
+use Rattle.text.specs.Text.{Bytes}
+use Rattle.newer.specs.Newer as newer
+use Rattle.newer.specs.Newer.{Chosen}
+use Rattle.newer.proofs.Chosen.{chosen-exactly, refused-empty, not-earlier, first-when-equal, later-neither}
+use Rattle.promises.specs.Newer.{NewerSaid, Newer}
+
+newer-said : (a b part : Bytes) (n i : ℕ) → Chosen (newer.newer a b) a b part n i → NewerSaid a b part n
+newer-said a b part n i c = record {
+  exactly = chosen-exactly a b part n i c;
+  not-earlier = not-earlier a b part n i c;
+  first-when-equal = first-when-equal a b part n i c;
+  nothing = refused-empty a b part n i c;
+}
+
+pub newest : Newer
+newest = record { said = λ κs a r s c. newer-said _ _ _ _ _ c; neither = later-neither }

@@ -1,0 +1,59 @@
+-- The key agreement texts are the standard's own, and no two different lists of items share one (demand 2); a refused call leaves the
+-- output as it was (demand 1).
+-- Assumes nothing.
+use Prim.Native.Nat.{ℕ, suc, _≤_}
+use mathlib.Core.Path.{_≡_}
+use mathlib.Core.Logic.{_↔_, _≢_}
+use mathlib.Core.Option.{Option, some}
+use mathlib.Core.List.{List, [], _∷_, _++_}
+use lib.ListN.{length, drop, getD}
+use lib.Dec.{T}
+use denote.Ref.{RefT, now}
+use Rattle.crc16.specs.Damage.{AreBytes}
+use Rattle.text.specs.Text.{Bytes}
+use Rattle.format.specs.Kinds.{REQ}
+use Rattle.format.specs.Build.{recordOf, Permitted, Built}
+use Rattle.put.specs.declared.Written.{Written}
+use Rattle.items.specs.Items.{lvConcat, concats, nth, itemsOf}
+use Rattle.items.proofs.text_item.Reads as text-item
+use Rattle.agreement.specs.Texts.{idSm, idKmc, qe, sharedItems, moduleItems, centreItems}
+use Rattle.agreement.proofs.shared_info.Reads as shared-info
+use Rattle.agreement.proofs.module_text.Reads as module-text
+use Rattle.agreement.proofs.centre_text.Reads as centre-text
+use Rattle.promises.specs.Calls.{Holds}
+
+-- a call that makes the text of these items was lent the request and the output out, left it as out′ and answered r
+pub record TextSaid (items : List Bytes → List Bytes) (request out out′ : Bytes) (r : Written) : Type 0 where
+  -- 0 exactly for an accepted request, where there is room for its text
+  pub exactly : (r .no ≡ 0) ↔ ((fs : List Bytes) × Built (REQ ∷ []) request REQ fs × (length (lvConcat (items fs)) ≤ length out))
+  -- then the text stands at the front, and every byte past it stays
+  pub written : (fs : List Bytes) → Built (REQ ∷ []) request REQ fs → length (lvConcat (items fs)) ≤ length out
+      → (r .len ≡ length (lvConcat (items fs))) × (out′ ≡ lvConcat (items fs) ++ drop (length (lvConcat (items fs))) out)
+  -- demand 1
+  pub untouched : r .no ≢ 0 → (r .len ≡ 0) × (out′ ≡ out)
+
+-- the item call: 0 exactly for a text that LVCONCAT writes, of a list that has an item of this number, and then it hands back that item
+pub record ItemSaid (text : Bytes) (wanted : ℕ) (part : Bytes) (number : ℕ) : Type 0 where
+  pub exactly : AreBytes text → (number ≡ 0) ↔ ((is : List Bytes) × T (concats is) × (text ≡ lvConcat is) × ((x : Bytes) × (nth wanted is ≡ some x)))
+  pub its-item : (is : List Bytes) (x : Bytes) → text ≡ lvConcat is → nth wanted is ≡ some x → part ≡ x
+  pub only-12 : number ≢ 0 → (number ≡ 12) × (part ≡ [])
+
+pub record Agreement : Type 0 where
+  pub shared-info : Holds shared-info.Post (λ κs a r s. TextSaid sharedItems (now (a .0)) (now (a .1 .0)) (now (s .1 .0)) r)
+  pub module-text : Holds module-text.Post (λ κs a r s. TextSaid moduleItems (now (a .0)) (now (a .1 .0)) (now (s .1 .0)) r)
+  pub centre-text : Holds centre-text.Post (λ κs a r s. TextSaid centreItems (now (a .0)) (now (a .1 .0)) (now (s .1 .0)) r)
+  pub item : Holds text-item.Post (λ κs a r s. ItemSaid (now (a .0)) (a .1 .0) (now r) (now (s .1 .1 .0)))
+  -- no two different lists of items share a text
+  pub one-to-one : (is js : List Bytes) → lvConcat is ≡ lvConcat js → is ≡ js
+  -- each text, read back, has its items
+  pub read-back : (is : List Bytes) → itemsOf (lvConcat is) ≡ some is
+  -- which are lists that LVCONCAT takes
+  pub taken : (fs : List Bytes) → Permitted REQ fs → T (concats (sharedItems fs)) × T (concats (moduleItems fs)) × T (concats (centreItems fs))
+  -- QE goes in as 97 bytes
+  pub decoded : (fs : List Bytes) → Permitted REQ fs → length (qe fs) ≡ 97
+  -- ID_SM and ID_KMC are items of each text as they stand in the request: its very bytes
+  pub very-bytes : (fs : List Bytes)
+      → (nth 2 (sharedItems fs) ≡ some (idSm fs)) × (nth 3 (sharedItems fs) ≡ some (idKmc fs))
+      × (nth 2 (moduleItems fs) ≡ some (idSm fs)) × (nth 3 (moduleItems fs) ≡ some (idKmc fs))
+      × (nth 3 (centreItems fs) ≡ some (idSm fs)) × (nth 2 (centreItems fs) ≡ some (idKmc fs))
+      × (idSm fs ≡ getD fs 0 []) × (idKmc fs ≡ getD fs 1 [])

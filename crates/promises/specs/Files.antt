@@ -1,0 +1,43 @@
+-- Walking a file lists all its lines, each once, in order; the totals are counts of those lines; a reader gives the plain call's
+-- answers. Stated on the file as lines: each of ls has its line feed, and t has none.
+-- Assumes nothing.
+use Prim.Native.Nat.{ℕ, _+_, _<_, _≤_}
+use mathlib.Core.Path.{_≡_}
+use mathlib.Core.List.{List, [], _∷_, _++_, map}
+use lib.ListN.{length, replicate}
+use lib.Dec.{T}
+use denote.Ref.{now}
+use Rattle.text.specs.Text.{Bytes, without}
+use Rattle.format.specs.Build.{joined}
+use Rattle.format.specs.Files as format
+use Rattle.format.specs.Files.{lineFeed, read, lineAt, walk, linesFrom, acceptedLines}
+use Rattle.format.proofs.Parts.{WithoutAll}
+use Rattle.files.specs.Walk.{lineSaid}
+use Rattle.files.specs.Steps.{Stepped, Steps}
+use Rattle.files.specs.declared.Line.{Line}
+use Rattle.files.specs.declared.Line.the-variants.{Finished}
+use Rattle.files.specs.declared.Reader.{Reader}
+use Rattle.files.specs.declared.Totals.{Totals}
+use Rattle.files.proofs.line_at.Reads as line-at
+use Rattle.files.proofs.count.Reads as count
+use Rattle.promises.specs.Calls.{Holds}
+
+pub record Files : Type 0 where
+  -- every file is such lines
+  pub as-lines : (file : Bytes)
+      → (ls : List Bytes) × (t : Bytes) × WithoutAll lineFeed ls × T (without lineFeed t) × (file ≡ joined lineFeed ls ++ t)
+  -- and walking from place 0 lists them
+  pub all-lines : (ls : List Bytes) (t : Bytes) → WithoutAll lineFeed ls → T (without lineFeed t)
+      → walk (joined lineFeed ls ++ t) ≡ linesFrom 0 ls t
+  -- the file call's answer at a place is that of the walk's line there; the next place lies beyond the place, and not past the end
+  pub plain-call : Holds line-at.Post (λ κs a r s. r ≡ lineSaid (lineAt (now (a .0)) (a .1 .0)))
+  pub beyond : (file : Bytes) (place : ℕ) (l : format.Line) → lineAt file place ≡ read l → (place < l .next) × (l .next ≤ length file)
+  -- both totals equal the counts of lines and of accepted lines
+  pub totals : Holds count.Post (λ κs a r s. (r .lines ≡ length (walk (now (a .0)))) × (r .accepted ≡ acceptedLines (walk (now (a .0)))))
+  -- the steps of a new reader give the answers of the walk's lines, and then that the file is finished
+  pub reader : {before after : Reader} {said : List Line} → Steps before said after → before .place ≡ 0
+      → (n : ℕ) → length said ≡ n + length (walk (now (before .file)))
+      → said ≡ map (λ l. lineSaid (read l)) (walk (now (before .file))) ++ replicate n (Finished (length (now (before .file))))
+  -- a step has one answer, and leaves one reader
+  pub one-step : {before after after′ : Reader} {said said′ : Line} → Stepped before said after → Stepped before said′ after′
+      → (said ≡ said′) × (after ≡ after′)

@@ -1,0 +1,31 @@
+-- The newer of two public keys: document 01, "Files of records and the newer key", number 13.
+-- Assumes nothing.
+use Prim.Native.Nat.{ℕ}
+use mathlib.Core.Path.{_≡_}
+use mathlib.Core.Logic.{_↔_, _⊎_, _≢_}
+use mathlib.Core.Bool.{false}
+use mathlib.Core.List.{[]}
+use lib.Dec.{T}
+use denote.Ref.{now}
+use Rattle.text.specs.Text.{Bytes, isTimestamp}
+use Rattle.newer.specs.Newer.{later}
+use Rattle.newer.specs.Keys.{Key, gntOf, Agreed}
+use Rattle.newer.proofs.newer.Reads as call
+use Rattle.promises.specs.Calls.{Holds}
+
+-- a call that was lent the records a and b handed back the part with this number
+pub record NewerSaid (a b part : Bytes) (number : ℕ) : Type 0 where
+  -- 0 exactly for two accepted public keys whose Subjects agree in kind, Manufacturer and MID
+  pub exactly : (number ≡ 0) ↔ Agreed a b
+  -- then the part is one of the two records whole, and its GNT is not earlier than the other's
+  pub not-earlier : number ≡ 0 → (p : Key a) (q : Key b)
+      → ((part ≡ a) × (later (gntOf q) (gntOf p) ≡ false)) ⊎ ((part ≡ b) × (later (gntOf p) (gntOf q) ≡ false))
+  -- the first when equal
+  pub first-when-equal : number ≡ 0 → (p : Key a) (q : Key b) → gntOf p ≡ gntOf q → part ≡ a
+  -- demand 1
+  pub nothing : number ≢ 0 → part ≡ []
+
+pub record Newer : Type 0 where
+  pub said : Holds call.Post (λ κs a r s. NewerSaid (now (a .0)) (now (a .1 .0)) (now r) (now (s .1 .1 .0)))
+  -- later is an order of instants: by the parts of the date, and two TIMESTAMPs of which neither is later are one text
+  pub neither : (s t : Bytes) → T (isTimestamp s) → T (isTimestamp t) → later s t ≡ false → later t s ≡ false → s ≡ t
