@@ -9,11 +9,10 @@ ghost use Rattle.text.specs.Text.{hexadecimal, isHex};
 ghost use Rattle.text.specs.Base16.{hexValue, base16Decode};
 ghost use Rattle.format.specs.Kinds.{REQ};
 ghost use Rattle.format.specs.Read.{fieldsIn, readOf};
-ghost use Rattle.items.specs.Items.{lvConcat};
 ghost use Rattle.put.specs.Put.{Put};
 ghost use Rattle.put.specs.Made.{Writes};
 ghost use Rattle.agreement.specs.Texts.{textMade, sharedInfo, moduleText, centreText};
-ghost use Rattle.agreement.specs.Steps.{lvItem, itemFor, itemsBy, Small, Suited};
+ghost use Rattle.agreement.specs.Steps.{lvItem, itemFor, itemsBy, textOf, Small, Suited};
 
 const NO_ROOM: u8 = 10;
 
@@ -102,8 +101,9 @@ fn field_length(request: &[u8], n: u8) -> usize
 // The length of the text that has this label and these fields.
 fn text_length(label: &[u8], fields: &[u8], request: &[u8]) -> usize
     requires { ⌜ Small (now label) (now fields) × Suited (fieldsIn REQ (now request)) ⌝ }
-    ensures { λ r. ⌜ r ≡ length (lvConcat (itemsBy (now (label .entry)) (now (fields .entry)) (fieldsIn REQ (now (request .entry))))) ⌝ }
+    ensures { λ r. ⌜ r ≡ length (textOf (now (label .entry)) (now (fields .entry)) (now (request .entry))) ⌝ }
 {
+    // The count, and the label with its length.
     let mut total = 2 + label.len();
     let mut i = 0;
     while i < fields.len() {
@@ -115,8 +115,8 @@ fn text_length(label: &[u8], fields: &[u8], request: &[u8]) -> usize
 
 // That text, from the front of an output that has room for it.
 fn put_text(out: &mut [u8], label: &[u8], fields: &[u8], request: &[u8]) -> usize
-    requires { ⌜ Small (now label) (now fields) × Suited (fieldsIn REQ (now request)) × (length (lvConcat (itemsBy (now label) (now fields) (fieldsIn REQ (now request)))) ≤ length (now out)) ⌝ }
-    ensures { λ r. ⌜ Put (now (out .entry)) 0 (lvConcat (itemsBy (now (label .entry)) (now (fields .entry)) (fieldsIn REQ (now (request .entry))))) (now (out .exit)) r ⌝ }
+    requires { ⌜ Small (now label) (now fields) × Suited (fieldsIn REQ (now request)) × (length (textOf (now label) (now fields) (now request)) ≤ length (now out)) ⌝ }
+    ensures { λ r. ⌜ Put (now (out .entry)) 0 (textOf (now (label .entry)) (now (fields .entry)) (now (request .entry))) (now (out .exit)) r ⌝ }
 {
     let next = put::put_byte(out, 0, (1 + fields.len()) as u8);
     let mut at = put_item(out, next, label);

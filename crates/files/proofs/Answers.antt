@@ -1,16 +1,17 @@
--- What the file call answers at a place, by the end of its line.
+-- What the file call answers at a place, by the end of its line; the answer's values.
 -- Assumes nothing.
 use Prim.Native.Nat.{ℕ, _+_, _-_, _≤_, _<_}
 use mathlib.Core.Path.{_≡_, ap, sym, _∙_}
+use native.Mathlib.Omega.{arith}
 use lib.ListN.{length, take, drop}
 use Rattle.text.specs.Text.{Bytes}
 use Rattle.format.specs.Read.{readRecord}
-use Rattle.format.specs.Files.{lineAt}
-use Rattle.format.proofs.Lines.{Feed, at-end, at-line, at-unfinished}
+use Rattle.format.specs.Files.{read, lineAt}
+use Rattle.format.proofs.Lines.{Feed, unfinishedTo, at-end, at-line, at-unfinished, by-place}
 use Rattle.frame.specs.Frame.{nextMark}
 use Rattle.reading.specs.declared.Answer.{Answer}
 use Rattle.reading.specs.Reading.{answerOf}
-use Rattle.files.specs.Walk.{lineEnd, lineSaid}
+use Rattle.files.specs.Walk.{lineEnd, lineSaid, startOf, lengthOf, nextOf}
 use Rattle.files.specs.declared.Line.the-variants.{Finished, Read}
 
 pub says-finished : (file : Bytes) (place : ℕ) → length file ≤ place → Finished place ≡ lineSaid (lineAt file place)
@@ -21,10 +22,24 @@ module _ (file : Bytes) (place e : ℕ) (q : e ≡ lineEnd file place) where
   unfolding nextMark
   feed = q
 
-  pub says-unfinished : place < length file → length file ≤ e → Read 11 0 7 place (e - place) (length file) ≡ lineSaid (lineAt file place)
+  pub says-unfinished : place < length file → length file ≤ e → lineSaid (read (unfinishedTo file place e)) ≡ lineSaid (lineAt file place)
   says-unfinished l h = sym (ap lineSaid (at-unfinished file place e feed l h))
 
   -- a is the record call's answer for the line
   pub says-line : e < length file → (a : Answer) → a ≡ answerOf (readRecord (take (e - place) (drop place file)))
       → Read (a .no) (a .field) (a .kind) place (e - place) (e + 1) ≡ lineSaid (lineAt file place)
   says-line h a r = ap (λ (x : Answer). Read (x .no) (x .field) (x .kind) place (e - place) (e + 1)) r ∙ sym (ap lineSaid (at-line file place e feed h))
+
+-- ---- the answer's values: its start, those of a finished file, and that the next place lies beyond
+
+module _ (file : Bytes) (place : ℕ) where
+  pub starts-here : startOf (lineSaid (lineAt file place)) ≡ place
+  starts-here =
+      by-place file place (λ h. rw (at-end file place h)) (λ e f h. rw (at-line file place e f h)) (λ e f l h. rw (at-unfinished file place e f l h))
+
+  pub finished-values : length file ≤ place → (lengthOf (lineSaid (lineAt file place)) ≡ 0) × (nextOf (lineSaid (lineAt file place)) ≡ place)
+  finished-values h = (rw (at-end file place h), rw (at-end file place h))
+
+  pub goes-beyond : place < length file → place < nextOf (lineSaid (lineAt file place))
+  goes-beyond l =
+      by-place file place (λ h. absurd (omega arith)) (λ e f h. rw (at-line file place e f h) (omega arith)) (λ e f k h. rw (at-unfinished file place e f k h) l)

@@ -4,7 +4,7 @@
 use denote.Ref.{now}
 use Prim.Native.Nat.{ℕ, zero, suc, _+_, _≤_}
 use mathlib.Core.Path.{_≡_, refl, ap, ap₂, sym, _∙_}
-use mathlib.Core.List.{List, [], _∷_, _++_, map}
+use mathlib.Core.List.{List, [], _∷_, _++_}
 use native.Mathlib.Nat.{add-zero, add-suc}
 use native.Mathlib.Omega.{arith}
 use lib.ListN.{length, replicate}
@@ -13,18 +13,15 @@ use Rattle.format.specs.Files as files
 use Rattle.format.specs.Files.{Said, finished, read, lineAt, walk}
 use Rattle.format.proofs.Lines.{lineTo, unfinishedTo, at-end, at-line, at-unfinished, by-place, next-inside, rest, rest-walk, rest-onward, rest-step}
 use Rattle.files.specs.Walk.{lineSaid, nextOf}
-use Rattle.files.specs.Steps.{Stepped, Steps, none, more, answersFrom}
+use Rattle.files.specs.Steps.{Stepped, Steps, none, more, answersFrom, answersFor}
 use Rattle.files.specs.declared.Line.{Line}
 use Rattle.files.specs.declared.Line.the-variants.{Finished}
 use Rattle.files.specs.declared.Reader.{Reader}
 
 -- ---- the file call
 
-abbrev pub answerOf : files.Line → Line
-answerOf l = lineSaid (read l)
-
 module _ (file : Bytes) where
-  step-read : (n place : ℕ) (l : files.Line) → lineAt file place ≡ read l → answersFrom (suc n) file place ≡ answerOf l ∷ answersFrom n file (l .next)
+  step-read : (n place : ℕ) (l : files.Line) → lineAt file place ≡ read l → answersFrom (suc n) file place ≡ lineSaid (read l) ∷ answersFrom n file (l .next)
   unfolding answersFrom
   step-read n place l e = rw e
 
@@ -57,13 +54,13 @@ module _ (file : Bytes) where
 
   -- from a place on: the lines ls that are left, and then n times that the file is finished
   from-place : (n place : ℕ) → place ≤ length file → (ls : List files.Line) → rest file place ≡ ls
-      → answersFrom (n + length ls) file place ≡ map answerOf ls ++ replicate n (Finished (length file))
+      → answersFrom (n + length ls) file place ≡ answersFor ls ++ replicate n (Finished (length file))
   from-place n place h [] r = let end : place ≡ length file = omega (arith, none-left place r) in rw (end, add-zero) (at-finished n)
   from-place n place h (l ∷ ls) r =
       let (is, left) = first-left place l ls r in
-      ap (λ m. answersFrom m file place) (add-suc n (length ls)) ∙ step-read (n + length ls) place l is ∙ ap (_∷_ (answerOf l)) (from-place n (l .next) (next-inside file place l is) ls left)
+      ap (λ m. answersFrom m file place) (add-suc n (length ls)) ∙ step-read (n + length ls) place l is ∙ ap (_∷_ (lineSaid (read l))) (from-place n (l .next) (next-inside file place l is) ls left)
 
-  pub walk-answers : (n : ℕ) → answersFrom (n + length (walk file)) file 0 ≡ map answerOf (walk file) ++ replicate n (Finished (length file))
+  pub walk-answers : (n : ℕ) → answersFrom (n + length (walk file)) file 0 ≡ answersFor (walk file) ++ replicate n (Finished (length file))
   walk-answers n = from-place n 0 (omega arith) (walk file) (rest-walk file)
 
 -- ---- a reader
@@ -77,7 +74,7 @@ reader-steps (more {said = a} s t) = rw (← s .its-line, ← s .same-file, ← 
 -- the answers of a new reader
 pub reader-walks : {before after : Reader} {said : List Line} → Steps before said after → before .place ≡ 0
     → (n : ℕ) → length said ≡ n + length (walk (now (before .file)))
-    → said ≡ map answerOf (walk (now (before .file))) ++ replicate n (Finished (length (now (before .file))))
+    → said ≡ answersFor (walk (now (before .file))) ++ replicate n (Finished (length (now (before .file))))
 reader-walks {before} {after} {said} t z n e = reader-steps t ∙ rw (e, z) (walk-answers (now (before .file)) n)
 
 -- any two answers to a step are equal, and so are the readers afterwards

@@ -3,9 +3,10 @@
 use denote.Ref.{now}
 use Prim.Native.Nat.{ℕ, zero, suc}
 use mathlib.Core.Path.{_≡_}
-use mathlib.Core.List.{List, [], _∷_}
+use mathlib.Core.List.{List, [], _∷_, map}
 use Rattle.text.specs.Text.{Bytes}
-use Rattle.format.specs.Files.{lineAt}
+use Rattle.format.specs.Files as files
+use Rattle.format.specs.Files.{read, lineAt}
 use Rattle.files.specs.Walk.{lineSaid, nextOf}
 use Rattle.files.specs.declared.Line.{Line}
 use Rattle.files.specs.declared.Reader.{Reader}
@@ -26,3 +27,7 @@ pub data Steps : Reader → List Line → Reader → Type 0 where
 unfoldable pub answersFrom : ℕ → Bytes → ℕ → List Line
 answersFrom zero file place = []
 answersFrom (suc n) file place = lineSaid (lineAt file place) ∷ answersFrom n file (nextOf (lineSaid (lineAt file place)))
+
+-- the answers that say the lines ls
+abbrev pub answersFor : List files.Line → List Line
+answersFor ls = map (λ l. lineSaid (read l)) ls

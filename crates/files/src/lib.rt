@@ -7,7 +7,7 @@ ghost use Rattle.format.specs.Files.{lineAt, walk};
 ghost use Rattle.files.specs.Walk.{lineEnd, lineSaid, nextOf, totalsOf};
 ghost use Rattle.files.specs.Steps.{Stepped};
 
-// An unfinished last line, whatever it holds.
+// The number of an unfinished last line, whatever it holds.
 const UNFINISHED: u8 = 11;
 
 // What stands at a place of a file.
@@ -34,6 +34,8 @@ pub struct Totals {
     pub accepted: usize,
 }
 
+// ---- the plain calls
+
 // The first line feed at or after the place, or the end of the bytes when none follows.
 fn line_end(file: &[u8], place: usize) -> usize
     requires { ⌜ place ≤ length (now file) ⌝ }
@@ -52,7 +54,8 @@ fn line_end(file: &[u8], place: usize) -> usize
     at
 }
 
-// The line at a place.
+// The line at a place: the record call's answer for it (an empty line answers 2, one over 1,024 bytes 1), and where it
+// stands. An unfinished last line answers 11, before any other number and at any length; its next place is the end.
 pub fn line_at(file: &[u8], place: usize) -> Line
     ensures { λ r. ⌜ r ≡ lineSaid (lineAt (now (file .entry)) place) ⌝ }
 {
@@ -81,17 +84,7 @@ pub fn line_at(file: &[u8], place: usize) -> Line
     }
 }
 
-// The place after a line, or the place itself where the file is finished.
-fn next_of(line: Line) -> usize
-    ensures { λ r. ⌜ r ≡ nextOf line ⌝ }
-{
-    match line {
-        Line::Finished { place } => place,
-        Line::Read { next, .. } => next,
-    }
-}
-
-// The lines of a file, counted from its start to its end.
+// The lines of a file from its start to its end, an unfinished last line too, and those that are accepted.
 pub fn count(file: &[u8]) -> Totals
     ensures { λ r. ⌜ r ≡ totalsOf (walk (now (file .entry))) ⌝ }
 {
@@ -110,6 +103,18 @@ pub fn count(file: &[u8]) -> Totals
     }
 }
 
+// ---- a reader
+
+// The next place that an answer names.
+fn next_of(line: Line) -> usize
+    ensures { λ r. ⌜ r ≡ nextOf line ⌝ }
+{
+    match line {
+        Line::Finished { place } => place,
+        Line::Read { next, .. } => next,
+    }
+}
+
 // A reader holds the lent bytes and the place of the next line.
 pub struct Reader<'a> {
     pub file: &'a [u8],
@@ -124,7 +129,7 @@ impl<'a> Reader<'a> {
         Reader { file, place: 0 }
     }
 
-    // The line at the reader's place, where `line_at` does the work; the reader goes on to the next line.
+    // The line at the reader's place; the reader goes on to the next line.
     pub fn step(&mut self) -> Line
         ensures { λ r. ⌜ Stepped (now (self .entry)) r (now (self .exit)) ⌝ }
     {

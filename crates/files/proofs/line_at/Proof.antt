@@ -21,10 +21,10 @@ line-end-requires : tie.Need-line-end-requires
 line-end-requires c κs = search needs
 
 sub-t7 : tie.Need-sub-t7
-sub-t7 c = search needs
+sub-t7 c = omega (arith, from-place (c .before))
 
 returns-2 : tie.Need-returns-2
-returns-2 c = says-unfinished (now (c .before .before .before .before .args .file)) (c .before .before .before .before .args .place) _ (c .before .line-end .ensures) (c .before .before .if1 .left) (c .if2 .taken)
+returns-2 c = says-unfinished (now (c .before .before .before .before .args .file)) (c .before .before .before .before .args .place) _ (c .before .line-end .ensures) (c .before .before .if1 .left) (omega (arith, c .if2 .taken))
 
 sub-read-record : tie.Need-sub-read-record
 sub-read-record c = from-place (c .before)

@@ -1,0 +1,140 @@
+//! The table of the seven kinds: names, marks, and fields in order.
+
+use self::FieldType::{Ident, Identity, Mac, Point, Print, Sig, Timestamp};
+use self::Kind::{Kmcid, PkEcdh, PkEcdsa, Smid, Smman, VkloadReq, VkloadResp};
+
+/// A kind of record.
+#[derive(Clone, Copy, Debug, PartialEq, Eq)]
+pub enum Kind {
+    /// `SMMAN.1`, the identity of a manufacturer.
+    Smman,
+    /// `SMID.1`, the identity of a security module.
+    Smid,
+    /// `KMCID.1`, the identity of a key management centre.
+    Kmcid,
+    /// `PK.ECDSA.1`, a public key for signatures.
+    PkEcdsa,
+    /// `PK.ECDH.1`, a public key for key agreement.
+    PkEcdh,
+    /// `VKLOAD.REQ.1`, a load request.
+    VkloadReq,
+    /// `VKLOAD.RESP.1`, a load response.
+    VkloadResp,
+}
+
+/// What the text of a field must be.
+#[derive(Clone, Copy, Debug, PartialEq, Eq)]
+pub enum FieldType {
+    Ident,
+    Timestamp,
+    Print,
+    Point,
+    Sig,
+    Mac,
+    /// A finished identity of one of these kinds.
+    Identity(&'static [Kind]),
+}
+
+/// One field of a kind.
+#[derive(Clone, Copy, Debug, PartialEq, Eq)]
+pub struct Field {
+    pub name: &'static str,
+    pub field_type: FieldType,
+    pub may_be_empty: bool,
+}
+
+const fn full(name: &'static str, field_type: FieldType) -> Field {
+    Field { name, field_type, may_be_empty: false }
+}
+
+const fn or_empty(name: &'static str, field_type: FieldType) -> Field {
+    Field { name, field_type, may_be_empty: true }
+}
+
+const IDENTITY_FIELDS: &[Field] = &[
+    full("Manufacturer", Ident),
+    full("MID", Ident),
+    full("GNT", Timestamp),
+    full("Fingerprint", Print),
+];
+
+const PK_ECDSA_FIELDS: &[Field] = &[
+    full("Subject", Identity(&[Smman])),
+    full("Q", Point),
+    full("Expiry", Timestamp),
+    or_empty("Issuer", Identity(&[Smman])),
+    or_empty("Signature", Sig),
+];
+
+const PK_ECDH_FIELDS: &[Field] = &[
+    full("Subject", Identity(&[Smid, Kmcid])),
+    full("Q", Point),
+    full("Expiry", Timestamp),
+    or_empty("Issuer", Identity(&[Smman])),
+    or_empty("Signature", Sig),
+];
+
+const VKLOAD_REQ_FIELDS: &[Field] = &[
+    full("ID_SM", Identity(&[Smid])),
+    full("ID_KMC", Identity(&[Kmcid])),
+    full("TVP", Timestamp),
+    full("HWID", Ident),
+    full("FWID", Ident),
+    full("QE", Point),
+    full("MacTag", Mac),
+];
+
+const VKLOAD_RESP_FIELDS: &[Field] = &[
+    full("ID_KMC", Identity(&[Kmcid])),
+    full("ID_SM", Identity(&[Smid])),
+    full("TVP", Timestamp),
+    full("MacTag", Mac),
+];
+
+impl Kind {
+    /// All kinds, in the order of their numbers.
+    pub const ALL: [Kind; 7] = [Smman, Smid, Kmcid, PkEcdsa, PkEcdh, VkloadReq, VkloadResp];
+    /// The kinds that the identity call reads.
+    pub const IDENTITIES: [Kind; 3] = [Smman, Smid, Kmcid];
+    /// The kinds that the record call reads.
+    pub const RECORDS: [Kind; 4] = [PkEcdsa, PkEcdh, VkloadReq, VkloadResp];
+    /// The kinds that the chooser reads.
+    pub const PUBLIC_KEYS: [Kind; 2] = [PkEcdsa, PkEcdh];
+
+    /// The kind with this name.
+    pub fn from_name(name: &[u8]) -> Option<Kind> {
+        Kind::ALL.into_iter().find(|kind| kind.name().as_bytes() == name)
+    }
+
+    /// The kind name.
+    pub fn name(self) -> &'static str {
+        match self {
+            Smman => "SMMAN.1",
+            Smid => "SMID.1",
+            Kmcid => "KMCID.1",
+            PkEcdsa => "PK.ECDSA.1",
+            PkEcdh => "PK.ECDH.1",
+            VkloadReq => "VKLOAD.REQ.1",
+            VkloadResp => "VKLOAD.RESP.1",
+        }
+    }
+
+    /// The byte that ends the kind name and each field.
+    pub fn mark(self) -> u8 {
+        match self {
+            Smman | Smid | Kmcid => b':',
+            PkEcdsa | PkEcdh | VkloadReq | VkloadResp => b'|',
+        }
+    }
+
+    /// The fields, in order.
+    pub fn fields(self) -> &'static [Field] {
+        match self {
+            Smman | Smid | Kmcid => IDENTITY_FIELDS,
+            PkEcdsa => PK_ECDSA_FIELDS,
+            PkEcdh => PK_ECDH_FIELDS,
+            VkloadReq => VKLOAD_REQ_FIELDS,
+            VkloadResp => VKLOAD_RESP_FIELDS,
+        }
+    }
+}

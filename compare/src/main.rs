@@ -1,0 +1,103 @@
+//! Writes the case file and the answers to it: `compare CASES ANSWERS`.
+//!
+//! The same two files come out every time. The answers are those of this package; another
+//! implementation is right when it gives the same.
+
+mod cases;
+mod plan;
+mod random;
+mod sample;
+
+use cases::{Case, Op};
+use std::process::ExitCode;
+
+/// How often each call and each number must occur at least.
+const LEAST: usize = 20;
+/// The numbers given back: 0 to 13.
+const NUMBERS: usize = 14;
+const LONGEST_CASE_FILE: usize = 1_300_000;
+
+/// The two files, and the counts that end the second.
+struct Written {
+    cases: Vec<u8>,
+    answers: Vec<u8>,
+    counts: String,
+}
+
+/// Answers every case.
+///
+/// # Panics
+///
+/// When a call or a number occurs too seldom, or there are too few or too many cases.
+fn write(plan: &[Case]) -> Written {
+    let mut cases = Vec::new();
+    let mut answers = Vec::new();
+    let mut calls = [0; Op::ALL.len()];
+    let mut numbers = [0; NUMBERS];
+    for case in plan {
+        case.write(&mut cases);
+        let answer = case.answer();
+        assert!(!answer.line.contains(&b'\n'), "an answer is one line");
+        answers.extend_from_slice(&answer.line);
+        answers.push(b'\n');
+        calls[case.op as usize - 1] += 1;
+        if let Some(number) = answer.number {
+            numbers[usize::from(number)] += 1;
+        }
+    }
+
+    let mut counts = String::new();
+    for ((_, name), count) in Op::ALL.iter().zip(calls) {
+        assert!(count >= LEAST, "{name} occurs {count} times");
+        counts += &format!("calls {name} {count}\n");
+    }
+    for (number, count) in numbers.into_iter().enumerate() {
+        assert!(count >= LEAST, "number {number} occurs {count} times");
+        counts += &format!("number {number} {count}\n");
+    }
+    answers.extend_from_slice(counts.as_bytes());
+
+    assert!((3000..=6000).contains(&plan.len()), "{} cases", plan.len());
+    assert!(cases.len() <= LONGEST_CASE_FILE, "a case file of {} bytes", cases.len());
+    Written { cases, answers, counts }
+}
+
+fn main() -> ExitCode {
+    let arguments: Vec<_> = std::env::args_os().skip(1).collect();
+    let [case_file, answer_file] = &arguments[..] else {
+        eprintln!("usage: compare CASES ANSWERS");
+        return ExitCode::from(2);
+    };
+    let plan = plan::all();
+    let written = write(&plan);
+    for (path, bytes) in [(case_file, &written.cases), (answer_file, &written.answers)] {
+        if let Err(error) = std::fs::write(path, bytes) {
+            eprintln!("{}: {error}", path.to_string_lossy());
+            return ExitCode::FAILURE;
+        }
+    }
+    print!("{}", written.counts);
+    println!("cases {}", plan.len());
+    println!("bytes {} {}", written.cases.len(), written.answers.len());
+    ExitCode::SUCCESS
+}
+
+#[cfg(test)]
+mod tests {
+    use super::*;
+
+    #[test]
+    fn the_files_come_out_the_same_every_time() {
+        let (first, second) = (write(&plan::all()), write(&plan::all()));
+        assert!(first.cases == second.cases);
+        assert!(first.answers == second.answers);
+    }
+
+    #[test]
+    fn every_case_has_its_line() {
+        let plan = plan::all();
+        let written = write(&plan);
+        let lines = written.answers.iter().filter(|&&byte| byte == b'\n').count();
+        assert_eq!(lines, plan.len() + Op::ALL.len() + NUMBERS);
+    }
+}

@@ -1,0 +1,76 @@
+//! The cases, group by group. Each group has its own seed, so that a change in one leaves the
+//! others as they are.
+
+mod agreement;
+mod building;
+mod fields;
+mod files;
+mod newer;
+mod reading;
+mod types;
+
+use crate::cases::{Case, Op};
+use crate::random::Random;
+
+/// The cases so far, and the numbers that the group at work draws.
+pub struct Plan {
+    cases: Vec<Case>,
+    random: Random,
+}
+
+/// All cases, in order.
+pub fn all() -> Vec<Case> {
+    let groups: [fn(&mut Plan); 7] = [
+        types::add,
+        reading::add,
+        fields::add,
+        building::add,
+        agreement::add,
+        files::add,
+        newer::add,
+    ];
+    let mut plan = Plan { cases: Vec::new(), random: Random::with_seed(0) };
+    for (seed, add) in (1..).zip(groups) {
+        plan.random = Random::with_seed(seed);
+        add(&mut plan);
+    }
+    plan.cases
+}
+
+impl Plan {
+    fn case(&mut self, op: Op, n: u64, a: Vec<u8>, b: Vec<u8>, c: Vec<u8>) {
+        self.cases.push(Case { op, n, a, b, c });
+    }
+
+    /// A call that is given bytes.
+    fn call(&mut self, op: Op, a: impl Into<Vec<u8>>) {
+        self.case(op, 0, a.into(), Vec::new(), Vec::new());
+    }
+
+    /// A call that is given a number alone.
+    fn number(&mut self, op: Op, n: u64) {
+        self.case(op, n, Vec::new(), Vec::new(), Vec::new());
+    }
+
+    /// A call that is given bytes and a number.
+    fn numbered(&mut self, op: Op, n: u64, a: impl Into<Vec<u8>>) {
+        self.case(op, n, a.into(), Vec::new(), Vec::new());
+    }
+
+    /// A call that is given two byte strings.
+    fn pair(&mut self, op: Op, a: impl Into<Vec<u8>>, b: impl Into<Vec<u8>>) {
+        self.case(op, 0, a.into(), b.into(), Vec::new());
+    }
+
+    /// A building call with fields and their own lengths.
+    fn build(&mut self, room: usize, name: impl Into<Vec<u8>>, fields: &[Vec<u8>]) {
+        let lengths: Vec<u64> = fields.iter().map(|field| field.len() as u64).collect();
+        self.build_of(room, name, fields.concat(), &lengths);
+    }
+
+    /// A building call with field bytes and any lengths.
+    fn build_of(&mut self, room: usize, name: impl Into<Vec<u8>>, bytes: Vec<u8>, lengths: &[u64]) {
+        let lengths = lengths.iter().flat_map(|length| length.to_be_bytes()).collect();
+        self.case(Op::Build, room as u64, name.into(), bytes, lengths);
+    }
+}

@@ -1,0 +1,189 @@
+//! The choice of the newer key.
+
+use super::Plan;
+use crate::cases::Op;
+use crate::random::Random;
+use crate::sample::{self, Fault, Signed};
+use compare::kind::Kind;
+use compare::worked::{worked, IDENTITIES, RECORDS};
+
+pub fn add(plan: &mut Plan) {
+    worked_keys(plan);
+    times(plan);
+    equal_times(plan);
+    other_subjects(plan);
+    refusals(plan);
+    other_kinds(plan);
+}
+
+/// A Subject by its parts.
+#[derive(Clone)]
+struct Subject {
+    kind: Kind,
+    manufacturer: Vec<u8>,
+    mid: Vec<u8>,
+    gnt: Vec<u8>,
+}
+
+impl Subject {
+    fn any(random: &mut Random) -> Subject {
+        Subject {
+            kind: random.one_of(&Kind::IDENTITIES),
+            manufacturer: sample::any_ident(random),
+            mid: sample::any_ident(random),
+            gnt: sample::timestamp(random),
+        }
+    }
+
+    /// A public key of this Subject; all else in it is random.
+    fn key(&self, random: &mut Random) -> Vec<u8> {
+        let kind = match self.kind {
+            Kind::Smman => Kind::PkEcdsa,
+            _ => Kind::PkEcdh,
+        };
+        let signed = if random.once_in(8) { Signed::Yes } else { Signed::No };
+        let mut fields = sample::fields(random, kind, signed);
+        let (manufacturer, mid) = (self.manufacturer.clone(), self.mid.clone());
+        let print = sample::hex(random, 16);
+        fields[0] = sample::of_kind(self.kind, &[manufacturer, mid, self.gnt.clone(), print]);
+        sample::of_kind(kind, &fields)
+    }
+}
+
+impl Plan {
+    /// The chooser with keys of two Subjects, in this order.
+    fn choose(&mut self, first: &Subject, second: &Subject) {
+        let first = first.key(&mut self.random);
+        let second = second.key(&mut self.random);
+        self.pair(Op::Newer, first, second);
+    }
+}
+
+fn worked_keys(plan: &mut Plan) {
+    for (first, second) in [
+        ("PUBKEY_KMC", "PUBKEY_KMC"),
+        ("PUBKEY_MAN", "PUBKEY_MAN"),
+        ("PUBKEY_SM", "PUBKEY_SM_NOSIG"),
+        ("PUBKEY_SM_NOSIG", "PUBKEY_SM"),
+        ("PUBKEY_KMC", "PUBKEY_SM"),
+        ("PUBKEY_MAN", "PUBKEY_SM_NOSIG"),
+        ("PUBKEY_KMC", "PUBKEY_MAN"),
+    ] {
+        plan.pair(Op::Newer, worked(first), worked(second));
+    }
+}
+
+/// Two times that differ in one digit alone, in both orders; and any two times.
+fn times(plan: &mut Plan) {
+    for index in (0..8).chain(9..15) {
+        let mut early = Subject::any(&mut plan.random);
+        early.gnt = b"20180110T120000Z".to_vec();
+        let mut late = early.clone();
+        late.gnt[index] += 1;
+        plan.choose(&early, &late);
+        plan.choose(&late, &early);
+    }
+    for (first, second) in [
+        ("20180131T235959Z", "20180201T000000Z"),
+        ("20171231T235959Z", "20180101T000000Z"),
+        ("00010101T000000Z", "99991231T235959Z"),
+        ("20180110T095959Z", "20180110T100000Z"),
+    ] {
+        let subject = Subject::any(&mut plan.random);
+        let [first, second] =
+            [first, second].map(|gnt| Subject { gnt: gnt.into(), ..subject.clone() });
+        plan.choose(&first, &second);
+        plan.choose(&second, &first);
+    }
+    for _ in 0..8 {
+        let first = Subject::any(&mut plan.random);
+        let gnt = sample::timestamp(&mut plan.random);
+        plan.choose(&first, &Subject { gnt, ..first.clone() });
+    }
+}
+
+/// Equal times: the first, though the keys differ.
+fn equal_times(plan: &mut Plan) {
+    for kind in Kind::IDENTITIES.repeat(3) {
+        let subject = Subject { kind, ..Subject::any(&mut plan.random) };
+        plan.choose(&subject, &subject);
+    }
+    let key = Subject::any(&mut plan.random).key(&mut plan.random);
+    plan.pair(Op::Newer, key.clone(), key);
+}
+
+/// Subjects that differ in kind, Manufacturer or MID, at equal and other times.
+fn other_subjects(plan: &mut Plan) {
+    for later in [false, true] {
+        for kind in Kind::IDENTITIES {
+            let mut subject = Subject::any(&mut plan.random);
+            subject.kind = kind;
+            subject.gnt = b"20180110T120000Z".to_vec();
+            let mut others = Vec::new();
+            for other in Kind::IDENTITIES.into_iter().filter(|&other| other != kind) {
+                others.push(Subject { kind: other, ..subject.clone() });
+            }
+            let mut longer = subject.clone();
+            longer.manufacturer.resize(subject.manufacturer.len().min(31) + 1, b'a');
+            others.push(longer);
+            let mut changed = subject.clone();
+            changed.mid[0] = if changed.mid[0] == b'x' { b'X' } else { b'x' };
+            others.push(changed);
+            let (mid, manufacturer) = (subject.manufacturer.clone(), subject.mid.clone());
+            others.push(Subject { manufacturer, mid, ..subject.clone() });
+            for mut other in others {
+                if later {
+                    other.gnt = b"20180110T120001Z".to_vec();
+                }
+                plan.choose(&subject, &other);
+            }
+        }
+    }
+    // The same characters, cut in another place or in another case.
+    let cut = |manufacturer: &str, mid: &str| Subject {
+        kind: Kind::Smid,
+        manufacturer: manufacturer.into(),
+        mid: mid.into(),
+        gnt: b"20180110T120000Z".to_vec(),
+    };
+    plan.choose(&cut("AB", "C"), &cut("A", "BC"));
+    plan.choose(&cut("aB", "C"), &cut("AB", "C"));
+    plan.choose(&cut("AB", "c"), &cut("AB", "C"));
+    plan.choose(&cut("AB", "C"), &cut("AB", "C"));
+}
+
+/// Refusals of the first record hide those of the second, and both hide 13.
+fn refusals(plan: &mut Plan) {
+    for kind in Kind::PUBLIC_KEYS {
+        let faults = Fault::of(kind);
+        for (index, &fault) in faults.iter().enumerate() {
+            let bad = sample::faulty(&mut plan.random, kind, &[fault]);
+            let good = sample::short_fields(&mut plan.random, kind, Signed::No);
+            let good = sample::of_kind(kind, &good);
+            let other = faults[(index + 3) % faults.len()];
+            let other = sample::faulty(&mut plan.random, kind, &[other]);
+            plan.pair(Op::Newer, bad.clone(), good.clone());
+            plan.pair(Op::Newer, good, bad.clone());
+            plan.pair(Op::Newer, bad, other);
+        }
+    }
+}
+
+fn other_kinds(plan: &mut Plan) {
+    let key = worked("PUBKEY_KMC");
+    for name in IDENTITIES.iter().chain(&RECORDS[4..]) {
+        plan.pair(Op::Newer, key.clone(), worked(name));
+        plan.pair(Op::Newer, worked(name), key.clone());
+    }
+    // Their checks do not count.
+    for kind in [Kind::VkloadReq, Kind::VkloadResp] {
+        let bad = sample::faulty(&mut plan.random, kind, &[Fault::Check]);
+        plan.pair(Op::Newer, bad.clone(), key.clone());
+        plan.pair(Op::Newer, key.clone(), bad);
+    }
+    for bytes in ["", "PK.ECDH.1", "PK.ECDH.1|", "PK.ECDH.1:x", "PK.ECDSA.1|0000"] {
+        plan.pair(Op::Newer, bytes, key.clone());
+        plan.pair(Op::Newer, key.clone(), bytes);
+        plan.pair(Op::Newer, bytes, "");
+    }
+}

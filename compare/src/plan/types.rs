@@ -1,0 +1,321 @@
+//! Text types, agreement of byte strings, digits, checks and sums.
+
+use super::Plan;
+use crate::cases::Op;
+use crate::sample;
+use compare::worked::{worked, IDENTITIES, RECORDS};
+
+pub fn add(plan: &mut Plan) {
+    idents(plan);
+    timestamps(plan);
+    hexadecimal(plan);
+    fixed_lengths(plan);
+    same(plan);
+    digits_and_checks(plan);
+    sums(plan);
+}
+
+fn idents(plan: &mut Plan) {
+    for byte in 0..=255 {
+        plan.call(Op::Ident, [byte]);
+    }
+    for byte in (0..128).chain((128..=255).step_by(9)) {
+        plan.call(Op::Ident, [b'A', byte]);
+    }
+    for text in ["", "Prism", "A", "TEST1", "06000001", "sts-KeyAgreement-1.2", "A_-.,", "a,.-_"] {
+        plan.call(Op::Ident, text);
+    }
+    for name in ["HWID", "FWID", "TVP", "FINGERPRINT_SM", "ID_SM", "QE"] {
+        plan.call(Op::Ident, worked(name));
+    }
+    for length in (1..=40).chain([64, 98, 99, 100, 255, 256, 257, 1024]) {
+        let text = sample::ident(&mut plan.random, length);
+        plan.call(Op::Ident, text);
+    }
+    for index in 0..32 {
+        let mut text = sample::ident(&mut plan.random, 32);
+        text[index] = plan.random.one_of(b" :|#\n\r\0/@[`{+*;'\"\x7F\x80\xAD\xFF");
+        plan.call(Op::Ident, text);
+    }
+}
+
+fn timestamps(plan: &mut Plan) {
+    for text in [
+        "",
+        "T",
+        "00000101T000000Z",
+        "00010101T000000Z",
+        "00100101T000000Z",
+        "01000101T000000Z",
+        "10000101T000000Z",
+        "99991231T115959Z",
+        "99991231T235959Z",
+        "20180001T000000Z",
+        "20180101T000000Z",
+        "20180901T000000Z",
+        "20181001T000000Z",
+        "20181201T000000Z",
+        "20181301T000000Z",
+        "20182001T000000Z",
+        "20189901T000000Z",
+        "20180100T000000Z",
+        "20180109T000000Z",
+        "20180110T000000Z",
+        "20180120T000000Z",
+        "20180129T000000Z",
+        "20180130T000000Z",
+        "20180131T000000Z",
+        "20180132T000000Z",
+        "20180139T000000Z",
+        "20180140T000000Z",
+        "20180228T000000Z",
+        "20180230T000000Z",
+        "20180231T000000Z",
+        "20180431T000000Z",
+        "20180101T090000Z",
+        "20180101T100000Z",
+        "20180101T190000Z",
+        "20180101T200000Z",
+        "20180101T230000Z",
+        "20180101T235959Z",
+        "20180101T240000Z",
+        "20180101T290000Z",
+        "20180101T300000Z",
+        "20180101T005900Z",
+        "20180101T006000Z",
+        "20180101T009900Z",
+        "20180101T000059Z",
+        "20180101T000060Z",
+        "20180101T000061Z",
+        "20180101T000099Z",
+        "20180101t000000Z",
+        "20180101T000000z",
+        "20180101 000000Z",
+        "20180101T000000",
+        "20180101T00000Z",
+        "20180101T0000000Z",
+        "20180101T000000ZZ",
+        "120180101T000000Z",
+        "2018-01-01T00:00:00Z",
+        "2018011T0000000Z",
+        "2018010T1000000Z",
+        "T20180101000000Z",
+        "20180101T000000Z\n",
+        "20180101T000000Z:",
+    ] {
+        plan.call(Op::Timestamp, text);
+    }
+    for name in ["TVP", "HWID", "FINGERPRINT_KMC"] {
+        plan.call(Op::Timestamp, worked(name));
+    }
+    for _ in 0..25 {
+        let text = sample::timestamp(&mut plan.random);
+        plan.call(Op::Timestamp, text);
+    }
+    for index in 0..16 {
+        for bytes in [&b"/:"[..], b"09TZtzA \x80\xB0\0\n+-.,"] {
+            let mut text = sample::timestamp(&mut plan.random);
+            text[index] = plan.random.one_of(bytes);
+            plan.call(Op::Timestamp, text);
+        }
+    }
+}
+
+fn hexadecimal(plan: &mut Plan) {
+    for text in [
+        "",
+        "0",
+        "9",
+        "A",
+        "F",
+        "G",
+        "0A",
+        "0a",
+        "a0",
+        "0F",
+        "0f",
+        "0G",
+        "0g",
+        "0/",
+        "0:",
+        "0@",
+        "0`",
+        "/0",
+        ":0",
+        "@0",
+        "`0",
+        " 0",
+        "0 ",
+        "+1",
+        "-1",
+        "0x",
+        "09",
+        "90",
+        "AF",
+        "FA",
+        "00",
+        "FF",
+        "012",
+        "0123",
+        "ABCD",
+        "ABCd",
+        "4C31",
+        "4c31",
+        "0123456789ABCDEF",
+        "0123456789abcdef",
+    ] {
+        plan.numbered(Op::Hex, text.len() as u64, text);
+    }
+    for (text, n) in [
+        ("", 1),
+        ("", 1 << 63),
+        ("", u64::MAX),
+        ("", 1 << 32),
+        ("0A", 0),
+        ("0A", 1),
+        ("0A", 3),
+        ("0A", 4),
+        ("0A", (1 << 8) + 2),
+        ("0A", (1 << 16) + 2),
+        ("0A", (1 << 32) + 2),
+        ("0A", (1 << 63) + 2),
+        ("0A", u64::MAX),
+        ("0a", 1),
+        ("0123", 2),
+        ("0123", 8),
+    ] {
+        plan.numbered(Op::Hex, n, text);
+    }
+    for _ in 0..30 {
+        let length = plan.random.between(0, 40);
+        let mut text = sample::hex(&mut plan.random, length);
+        if length > 0 && plan.random.once_in(2) {
+            let index = plan.random.below(length);
+            text[index] = plan.random.byte();
+        }
+        plan.numbered(Op::Hex, length as u64, text);
+    }
+    for high in [0x80 | b'0', 0x80 | b'A', 0xFF, 0] {
+        plan.numbered(Op::Hex, 2, [b'0', high]);
+        plan.numbered(Op::Hex, 2, [high, b'0']);
+    }
+}
+
+fn fixed_lengths(plan: &mut Plan) {
+    for (op, length) in [(Op::Point, 194), (Op::Sig, 192), (Op::Mac, 48), (Op::Print, 16)] {
+        for name in ["Q_KMC", "Q_MAN", "QE", "SIG_MAN", "SIG_SM", "MACTAG_SM", "FINGERPRINT_MAN"] {
+            plan.call(op, worked(name));
+        }
+        let mut begun = |length: usize| {
+            let mut text = sample::hex(&mut plan.random, length);
+            if op == Op::Point && length > 1 {
+                text[..2].copy_from_slice(b"04");
+            }
+            text
+        };
+        let mut texts: Vec<Vec<u8>> = [length; 3]
+            .into_iter()
+            .chain([0, 1, 2, length - 1, length + 1])
+            .map(&mut begun)
+            .collect();
+        texts.push(begun(length).to_ascii_lowercase());
+        let wrong = [(0, b'g'), (length - 1, b'a'), (length / 2, b':'), (length / 3, 0x80)];
+        for (index, byte) in wrong.into_iter().chain([(length - 1, b'G'), (3, b'\n')]) {
+            let mut text = begun(length);
+            text[index] = byte;
+            texts.push(text);
+        }
+        for text in texts {
+            plan.call(op, text);
+        }
+    }
+    for start in ["02", "03", "00", "05", "40", "44", "4", "0", "14", " 4", "0\u{14}", "04"] {
+        let rest = sample::hex(&mut plan.random, 194 - start.len());
+        plan.call(Op::Point, [start.as_bytes(), &rest].concat());
+    }
+}
+
+fn same(plan: &mut Plan) {
+    for (a, b) in [
+        ("", ""),
+        ("", "a"),
+        ("a", ""),
+        ("a", "a"),
+        ("a", "b"),
+        ("a", "A"),
+        ("a", "aa"),
+        ("aa", "a"),
+        ("ab", "ba"),
+        ("\0", ""),
+        ("", "\0"),
+        ("a", "a\0"),
+        ("a\0", "a"),
+        ("a\0b", "a\0c"),
+        ("a\0b", "a\0b"),
+        ("\n", "\r"),
+    ] {
+        plan.pair(Op::Same, a, b);
+    }
+    for (a, b) in [("ID_SM", "ID_SM"), ("ID_SM", "APPA_ID_SM"), ("VKLOADREQ", "VKLOADRESP")] {
+        plan.pair(Op::Same, worked(a), worked(b));
+    }
+    for length in 1..=24 {
+        let a = plan.random.bytes(length);
+        let mut b = a.clone();
+        plan.pair(Op::Same, a.clone(), b.clone());
+        let index = match length % 3 {
+            0 => 0,
+            1 => length - 1,
+            _ => plan.random.below(length),
+        };
+        b[index] ^= 1 << plan.random.below(8);
+        plan.pair(Op::Same, a.clone(), b);
+        plan.pair(Op::Same, &a[..length - 1], a.clone());
+    }
+}
+
+fn digits_and_checks(plan: &mut Plan) {
+    for n in (0..40).chain([47, 48, 57, 58, 64, 65, 70, 71, 97, 127, 128, 144, 240, 254, 255]) {
+        plan.number(Op::Digit, n);
+    }
+    for n in 0..=255 {
+        plan.number(Op::Value, n);
+    }
+    for bit in 0..16 {
+        plan.number(Op::Check, 1 << bit);
+        plan.number(Op::Check, 0xFFFF >> bit);
+    }
+    for n in [0, 0x4C31, 0x8B04, 0x8EFF, 0xB8F9, 0x1F11, 0xECD4, 0x4971, 0xF6B3, 0xD743] {
+        plan.number(Op::Check, n);
+    }
+    for n in [0x0123, 0x4567, 0x89AB, 0xCDEF, 0x00A0, 0x0A0B, 0xA00A, 0x40BF, 0x4B37, 0x9999] {
+        plan.number(Op::Check, n);
+    }
+    for _ in 0..12 {
+        let n = plan.random.next() & 0xFFFF;
+        plan.number(Op::Check, n);
+    }
+}
+
+fn sums(plan: &mut Plan) {
+    for text in ["", "1", "12", "123456789", "123456788", "A", "AB", "BA", "\n", "\0", "\0\0"] {
+        plan.call(Op::Crc, text);
+    }
+    for bit in 0..8 {
+        plan.call(Op::Crc, [1u8 << bit]);
+        plan.call(Op::Crc, [0xFFu8 >> bit]);
+        plan.call(Op::Crc, [0u8, 1 << bit]);
+    }
+    for name in IDENTITIES.iter().chain(&RECORDS) {
+        let record = worked(name);
+        plan.call(Op::Crc, &record[..record.len() - 4]);
+        plan.call(Op::Crc, record);
+    }
+    for name in ["SHAREDINFO", "MACDATA_SM", "MACDATA_KMC"] {
+        plan.call(Op::Crc, worked(name));
+    }
+    for length in (1..40).chain([255, 256, 1024]) {
+        let bytes = plan.random.bytes(length);
+        plan.call(Op::Crc, bytes);
+    }
+}

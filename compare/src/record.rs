@@ -1,0 +1,119 @@
+//! Reading of identities and records, and of single fields.
+
+use crate::crc::crc16;
+use crate::kind::{FieldType, Kind};
+use crate::refusal::Refusal;
+use crate::text;
+
+/// The longest record or identity that is read.
+pub const LONGEST: usize = 1024;
+
+/// An accepted record or identity; its fields are parts of the bytes it was read from.
+#[derive(Clone, Debug, PartialEq, Eq)]
+pub struct Record<'a> {
+    pub kind: Kind,
+    pub fields: Vec<&'a [u8]>,
+}
+
+impl<'a> Record<'a> {
+    /// The field with this number, counted from 1.
+    pub fn field(&self, number: u64) -> Option<&'a [u8]> {
+        let index = usize::try_from(number.checked_sub(1)?).ok()?;
+        self.fields.get(index).copied()
+    }
+}
+
+/// The identity call.
+pub fn read_identity(bytes: &[u8]) -> Result<Record<'_>, Refusal> {
+    read(bytes, &Kind::IDENTITIES)
+}
+
+/// The record call.
+pub fn read_record(bytes: &[u8]) -> Result<Record<'_>, Refusal> {
+    read(bytes, &Kind::RECORDS)
+}
+
+/// The field call for identities.
+pub fn identity_field(bytes: &[u8], number: u64) -> Result<&[u8], Refusal> {
+    read_identity(bytes)?.field(number).ok_or(Refusal::NoPart)
+}
+
+/// The field call for records.
+pub fn record_field(bytes: &[u8], number: u64) -> Result<&[u8], Refusal> {
+    read_record(bytes)?.field(number).ok_or(Refusal::NoPart)
+}
+
+/// Reads a record of one of the wanted kinds; all other kinds are unknown here.
+pub fn read<'a>(bytes: &'a [u8], wanted: &[Kind]) -> Result<Record<'a>, Refusal> {
+    if bytes.len() > LONGEST {
+        return Err(Refusal::TooLong);
+    }
+
+    let first_mark =
+        bytes.iter().position(|byte| b":|".contains(byte)).ok_or(Refusal::UnknownKind)?;
+    let kind = Kind::from_name(&bytes[..first_mark])
+        .filter(|kind| wanted.contains(kind) && kind.mark() == bytes[first_mark])
+        .ok_or(Refusal::UnknownKind)?;
+
+    let (body, check) = bytes.split_last_chunk::<4>().ok_or(Refusal::NoCheck)?;
+    if !text::is_hex(check, 4) || body.last() != Some(&kind.mark()) {
+        return Err(Refusal::NoCheck);
+    }
+    if check != text::check_text(crc16(body)).as_bytes() {
+        return Err(Refusal::CheckDiffers);
+    }
+
+    // Each field is ended by the mark, so nothing may stand behind the last one.
+    let mut fields: Vec<&[u8]> =
+        body[first_mark + 1..].split(|&byte| byte == kind.mark()).collect();
+    fields.pop();
+    if fields.len() != kind.fields().len() {
+        return Err(Refusal::FieldCount);
+    }
+    check_fields(kind, &fields)?;
+    Ok(Record { kind, fields })
+}
+
+/// Holds the right number of fields against the table: each by itself from left to right, then
+/// those that may be empty against each other.
+pub(crate) fn check_fields(kind: Kind, fields: &[&[u8]]) -> Result<(), Refusal> {
+    let mut some_empty = false;
+    let mut some_filled = false;
+    for (number, (entry, field)) in (1..).zip(kind.fields().iter().zip(fields)) {
+        if entry.may_be_empty && field.is_empty() {
+            some_empty = true;
+        } else {
+            check_field(entry.field_type, field, number)?;
+            some_filled |= entry.may_be_empty;
+        }
+    }
+    if some_empty && some_filled {
+        return Err(Refusal::HalfSigned);
+    }
+    Ok(())
+}
+
+/// Holds one field against its type.
+fn check_field(field_type: FieldType, field: &[u8], number: u8) -> Result<(), Refusal> {
+    let fits = match field_type {
+        FieldType::Ident => text::is_ident(field),
+        FieldType::Timestamp => text::is_timestamp(field),
+        FieldType::Print => text::is_print(field),
+        FieldType::Point => text::is_point(field),
+        FieldType::Sig => text::is_sig(field),
+        FieldType::Mac => text::is_mac(field),
+        FieldType::Identity(permitted) => {
+            let identity = read_identity(field).map_err(|_| Refusal::NoIdentity(number))?;
+            return if permitted.contains(&identity.kind) {
+                Ok(())
+            } else {
+                Err(Refusal::WrongIdentity(number))
+            };
+        }
+    };
+    if fits {
+        Ok(())
+    } else {
+        Err(Refusal::WrongText(number))
+    }
+}

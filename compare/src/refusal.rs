@@ -1,0 +1,63 @@
+//! The numbers given back.
+
+/// Why a call refuses. Fields are numbered from 1.
+#[derive(Clone, Copy, Debug, PartialEq, Eq)]
+pub enum Refusal {
+    /// 1: longer than 1,024 bytes.
+    TooLong,
+    /// 2: no kind that this call takes, or not with its mark.
+    UnknownKind,
+    /// 3: no check stands at the end.
+    NoCheck,
+    /// 4: the check differs.
+    CheckDiffers,
+    /// 5: wrong number of fields, or of field bytes.
+    FieldCount,
+    /// 6: this field is not of its text type.
+    WrongText(u8),
+    /// 7: this field is no accepted identity.
+    NoIdentity(u8),
+    /// 8: only one of Issuer and Signature is empty.
+    HalfSigned,
+    /// 9: this field is an identity of a kind not permitted there.
+    WrongIdentity(u8),
+    /// 10: the output is too short.
+    ShortOutput,
+    /// 11: the last line has bytes and no line feed.
+    Unfinished,
+    /// 12: no such item or field.
+    NoPart,
+    /// 13: the two Subjects are not one entity.
+    OtherSubject,
+}
+
+impl Refusal {
+    /// The number of this refusal.
+    pub fn number(self) -> u8 {
+        match self {
+            Refusal::TooLong => 1,
+            Refusal::UnknownKind => 2,
+            Refusal::NoCheck => 3,
+            Refusal::CheckDiffers => 4,
+            Refusal::FieldCount => 5,
+            Refusal::WrongText(_) => 6,
+            Refusal::NoIdentity(_) => 7,
+            Refusal::HalfSigned => 8,
+            Refusal::WrongIdentity(_) => 9,
+            Refusal::ShortOutput => 10,
+            Refusal::Unfinished => 11,
+            Refusal::NoPart => 12,
+            Refusal::OtherSubject => 13,
+        }
+    }
+
+    /// The number of the field that is at fault, 0 where none is named.
+    pub fn field(self) -> u8 {
+        match self {
+            Refusal::WrongText(field)
+            | Refusal::NoIdentity(field)
+            | Refusal::WrongIdentity(field) => field,
+            _ => 0,
+        }
+    }
+}

@@ -1,0 +1,93 @@
+//! The text types, and Base 16.
+
+const HEX_DIGITS: &[u8; 16] = b"0123456789ABCDEF";
+
+/// IDENT: one letter or digit, then up to 31 letters, digits, `_`, `-`, `.` or `,`.
+pub fn is_ident(text: &[u8]) -> bool {
+    match text.split_first() {
+        Some((first, rest)) => {
+            rest.len() < 32
+                && first.is_ascii_alphanumeric()
+                && rest.iter().all(|byte| byte.is_ascii_alphanumeric() || b"_-.,".contains(byte))
+        }
+        None => false,
+    }
+}
+
+/// TIMESTAMP: `YYYYMMDDThhmmssZ`; every month has 31 days, and there is no year 0000.
+pub fn is_timestamp(text: &[u8]) -> bool {
+    let &[y1, y2, y3, y4, m1, m2, d1, d2, b'T', h1, h2, i1, i2, s1, s2, b'Z'] = text else {
+        return false;
+    };
+    let within = |digits: &[u8], least: u32, most: u32| {
+        decimal(digits).is_some_and(|number| (least..=most).contains(&number))
+    };
+    within(&[y1, y2, y3, y4], 1, 9999)
+        && within(&[m1, m2], 1, 12)
+        && within(&[d1, d2], 1, 31)
+        && within(&[h1, h2], 0, 23)
+        && within(&[i1, i2], 0, 59)
+        && within(&[s1, s2], 0, 59)
+}
+
+/// The number that a few decimal digits write, if that is what they are.
+fn decimal(digits: &[u8]) -> Option<u32> {
+    digits.iter().try_fold(0, |number, digit| {
+        char::from(*digit).to_digit(10).map(|value| 10 * number + value)
+    })
+}
+
+/// HEX(`length`): exactly so many characters `0`-`9` and `A`-`F`.
+pub fn is_hex(text: &[u8], length: u64) -> bool {
+    text.len() as u64 == length && text.iter().all(|&byte| hex_value(byte).is_some())
+}
+
+/// POINT: HEX(194) that begins with `04`.
+pub fn is_point(text: &[u8]) -> bool {
+    is_hex(text, 194) && text.starts_with(b"04")
+}
+
+/// SIG: HEX(192).
+pub fn is_sig(text: &[u8]) -> bool {
+    is_hex(text, 192)
+}
+
+/// MAC: HEX(48).
+pub fn is_mac(text: &[u8]) -> bool {
+    is_hex(text, 48)
+}
+
+/// PRINT: HEX(16).
+pub fn is_print(text: &[u8]) -> bool {
+    is_hex(text, 16)
+}
+
+/// The hexadecimal character of a value below 16.
+pub fn hex_digit(value: u8) -> Option<u8> {
+    HEX_DIGITS.get(usize::from(value)).copied()
+}
+
+/// The value of a hexadecimal character; small letters have none.
+pub fn hex_value(character: u8) -> Option<u8> {
+    (0..).zip(HEX_DIGITS).find_map(|(value, &digit)| (digit == character).then_some(value))
+}
+
+/// BASE16: two hexadecimal characters for each byte.
+pub fn base16(bytes: &[u8]) -> String {
+    bytes.iter().map(|byte| format!("{byte:02X}")).collect()
+}
+
+/// The four characters that write a check: its high byte first.
+pub fn check_text(check: u16) -> String {
+    base16(&check.to_be_bytes())
+}
+
+/// BASE16-DECODE: the bytes that `text` writes, if it is an even number of hexadecimal characters.
+pub fn base16_decode(text: &[u8]) -> Option<Vec<u8>> {
+    text.chunks(2)
+        .map(|pair| match *pair {
+            [high, low] => Some(hex_value(high)? << 4 | hex_value(low)?),
+            _ => None,
+        })
+        .collect()
+}

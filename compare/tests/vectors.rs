@@ -1,0 +1,183 @@
+//! The implementation held against the worked example of document 003.
+
+use compare::agreement::{centre_text, item, join, module_text, shared_info, split};
+use compare::build::build;
+use compare::crc::crc16;
+use compare::file::{count, list};
+use compare::kind::Kind;
+use compare::newer::newer;
+use compare::record::{identity_field, read_identity, read_record, record_field, Record};
+use compare::refusal::Refusal;
+use compare::text::{base16_decode, check_text};
+use compare::worked::{worked, IDENTITIES, RECORDS};
+
+/// Name, kind, length and check of every record and identity.
+const TABLE: [(&str, Kind, usize, &str); 12] = [
+    ("ID_KMC", Kind::Kmcid, 73, "4C31"),
+    ("ID_MAN", Kind::Smman, 54, "8B04"),
+    ("ID_SM", Kind::Smid, 60, "8EFF"),
+    ("PUBKEY_KMC", Kind::PkEcdh, 302, "B8F9"),
+    ("PUBKEY_MAN", Kind::PkEcdsa, 530, "1F11"),
+    ("PUBKEY_SM_NOSIG", Kind::PkEcdh, 289, "ECD4"),
+    ("PUBKEY_SM", Kind::PkEcdh, 535, "4971"),
+    ("VKLOADREQ", Kind::VkloadReq, 434, "F6B3"),
+    ("VKLOADRESP", Kind::VkloadResp, 219, "D743"),
+    ("APPA_ID_KMC", Kind::Kmcid, 58, "E7BF"),
+    ("APPA_ID_SM", Kind::Smid, 60, "1F8C"),
+    ("APPA_VKLOADRESP", Kind::VkloadResp, 204, "71CC"),
+];
+
+fn read_either(bytes: &[u8], kind: Kind) -> Result<Record<'_>, Refusal> {
+    if Kind::IDENTITIES.contains(&kind) {
+        read_identity(bytes)
+    } else {
+        read_record(bytes)
+    }
+}
+
+#[test]
+fn lengths_checks_and_kinds_come_out() {
+    for (name, kind, length, check) in TABLE {
+        let bytes = worked(name);
+        assert_eq!(bytes.len(), length, "{name}");
+        let (body, end) = bytes.split_at(length - 4);
+        assert_eq!(end, check.as_bytes(), "{name}");
+        assert_eq!(check_text(crc16(body)), check, "{name}");
+        assert_eq!(read_either(&bytes, kind).map(|record| record.kind), Ok(kind), "{name}");
+    }
+}
+
+#[test]
+fn the_table_names_every_worked_record() {
+    for name in IDENTITIES.iter().chain(&RECORDS) {
+        assert!(TABLE.iter().any(|entry| entry.0 == *name), "{name}");
+    }
+}
+
+#[test]
+fn each_call_reads_only_its_kinds() {
+    for name in IDENTITIES {
+        assert_eq!(read_record(&worked(name)), Err(Refusal::UnknownKind), "{name}");
+    }
+    for name in RECORDS {
+        assert_eq!(read_identity(&worked(name)), Err(Refusal::UnknownKind), "{name}");
+    }
+}
+
+#[test]
+fn rebuilding_gives_the_same_bytes_in_exact_room_only() {
+    for (name, kind, length, _) in TABLE {
+        let bytes = worked(name);
+        let fields = read_either(&bytes, kind).unwrap().fields;
+        let lengths: Vec<u64> = fields.iter().map(|field| field.len() as u64).collect();
+        let build =
+            |output: &mut [u8]| build(kind.name().as_bytes(), &fields.concat(), &lengths, output);
+
+        let mut exact = vec![0; length];
+        assert_eq!(build(&mut exact), Ok(length), "{name}");
+        assert_eq!(exact, bytes, "{name}");
+
+        let mut wide = vec![0xAA; length + 3];
+        assert_eq!(build(&mut wide), Ok(length), "{name}");
+        assert_eq!(wide, [&bytes[..], &[0xAA; 3]].concat(), "{name}");
+
+        let mut short = vec![0xAA; length - 1];
+        assert_eq!(build(&mut short), Err(Refusal::ShortOutput), "{name}");
+        assert_eq!(short, vec![0xAA; length - 1], "{name}");
+    }
+}
+
+#[test]
+fn fields_are_parts_of_the_callers_bytes() {
+    let request = worked("VKLOADREQ");
+    let names = ["ID_SM", "ID_KMC", "TVP", "HWID", "FWID", "QE", "MACTAG_SM"];
+    for (number, name) in (1..).zip(names) {
+        let field = record_field(&request, number).unwrap();
+        assert_eq!(field, worked(name), "{name}");
+        assert!(request.as_ptr_range().contains(&field.as_ptr()), "{name}");
+    }
+    let response = worked("VKLOADRESP");
+    for (number, name) in (1..).zip(["ID_KMC", "ID_SM", "TVP", "MACTAG_KMC"]) {
+        assert_eq!(record_field(&response, number), Ok(&worked(name)[..]), "{name}");
+    }
+    let key = worked("PUBKEY_SM");
+    for (number, name) in [(1, "ID_SM"), (2, "Q_SM"), (4, "ID_MAN"), (5, "SIG_SM")] {
+        assert_eq!(record_field(&key, number), Ok(&worked(name)[..]), "{name}");
+    }
+    for (name, fingerprint) in
+        [("ID_KMC", "FINGERPRINT_KMC"), ("ID_MAN", "FINGERPRINT_MAN"), ("ID_SM", "FINGERPRINT_SM")]
+    {
+        assert_eq!(identity_field(&worked(name), 4), Ok(&worked(fingerprint)[..]), "{name}");
+    }
+}
+
+#[test]
+fn an_unsigned_key_has_two_empty_fields_and_no_sixth() {
+    let key = worked("PUBKEY_KMC");
+    assert_eq!(record_field(&key, 4), Ok(&[][..]));
+    assert_eq!(record_field(&key, 5), Ok(&[][..]));
+    for number in [0, 6, 257, 1 << 63, u64::MAX] {
+        assert_eq!(record_field(&key, number), Err(Refusal::NoPart));
+    }
+}
+
+#[test]
+fn the_three_texts_come_out_byte_for_byte() {
+    type Call = fn(&[u8], &mut [u8]) -> Result<usize, Refusal>;
+    let calls: [(&str, Call, usize); 3] = [
+        ("SHAREDINFO", shared_info, 163),
+        ("MACDATA_SM", module_text, 276),
+        ("MACDATA_KMC", centre_text, 254),
+    ];
+    let request = worked("VKLOADREQ");
+    for (name, call, length) in calls {
+        let text = worked(name);
+        assert_eq!(text.len(), length, "{name}");
+
+        let mut output = vec![0x55; length + 2];
+        assert_eq!(call(&request, &mut output), Ok(length), "{name}");
+        assert_eq!(output, [&text[..], &[0x55; 2]].concat(), "{name}");
+
+        let mut exact = vec![0; length];
+        assert_eq!(call(&request, &mut exact), Ok(length), "{name}");
+        assert_eq!(exact, text, "{name}");
+
+        let mut short = vec![0x55; length - 1];
+        assert_eq!(call(&request, &mut short), Err(Refusal::ShortOutput), "{name}");
+        assert_eq!(short, vec![0x55; length - 1], "{name}");
+
+        for other in IDENTITIES.iter().chain(&RECORDS).filter(|&&other| other != "VKLOADREQ") {
+            let mut output = vec![0x55; 1024];
+            assert_eq!(call(&worked(other), &mut output), Err(Refusal::UnknownKind), "{other}");
+            assert_eq!(output, vec![0x55; 1024], "{other}");
+        }
+
+        let items = split(&text).unwrap();
+        assert_eq!(join(&items), text, "{name}");
+    }
+    let qe = base16_decode(&worked("QE")).unwrap();
+    assert_eq!(qe.len(), 97);
+    assert_eq!(item(&worked("MACDATA_SM"), 4), Ok(&qe[..]));
+    assert_eq!(item(&worked("MACDATA_KMC"), 5), Ok(&qe[..]));
+    assert_eq!(item(&worked("SHAREDINFO"), 1), Ok(&b"STS.KAA.1"[..]));
+    assert_eq!(item(&worked("SHAREDINFO"), 5), Err(Refusal::NoPart));
+}
+
+#[test]
+fn a_key_is_the_newer_of_itself_and_an_equal_one_comes_first() {
+    let (signed, unsigned) = (worked("PUBKEY_SM"), worked("PUBKEY_SM_NOSIG"));
+    assert_eq!(newer(&signed, &unsigned), Ok(&signed[..]));
+    assert_eq!(newer(&unsigned, &signed), Ok(&unsigned[..]));
+    assert_eq!(newer(&signed, &worked("PUBKEY_KMC")), Err(Refusal::OtherSubject));
+    assert_eq!(newer(&signed, &worked("VKLOADREQ")), Err(Refusal::UnknownKind));
+}
+
+#[test]
+fn wrapped_keys_are_no_kind_of_the_table() {
+    for name in ["KEY1_1", "KEY1_2"] {
+        assert_eq!(read_record(&worked(name)), Err(Refusal::UnknownKind), "{name}");
+    }
+    let file = worked("KLF");
+    assert_eq!(list(&file), "1 0 219 0\n2 220 162 2\n3 383 305 2\n4 689 41 11\nend 4 1\n");
+    assert_eq!(count(&file), (4, 1));
+}
