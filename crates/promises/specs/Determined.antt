@@ -56,6 +56,8 @@ use Rattle.agreement.proofs.centre_text.Reads as centre-text
 use Rattle.files.proofs.line_at.Reads as line-at
 use Rattle.files.proofs.count.Reads as count
 use Rattle.files.proofs.step_from.Reads as step-from
+use Rattle.listing.proofs.line_text.Reads as line-text
+use Rattle.listing.proofs.end_text.Reads as end-text
 use Rattle.newer.proofs.newer.Reads as newer
 
 -- any two results x and y that the contract Q allows for the same lifetimes κs and arguments a are equal
@@ -147,6 +149,11 @@ pub record Determined : Type 0 where
   pub line-at : OneAnswer line-at.Post
   pub count : OneAnswer count.Post
   pub step-from : OneAnswer step-from.Post
+  -- listing
+  pub line-text-said : OneAnswer line-text.Post
+  pub line-text-out : OneLeft line-text.Post (λ κs s. now (s .1 .1 .1 .1 .0))
+  pub end-text-said : OneAnswer end-text.Post
+  pub end-text-out : OneLeft end-text.Post (λ κs s. now (s .1 .1 .0))
   -- newer
   pub newer-part : OnePart newer.Post
   pub newer-no : OneLeft newer.Post (λ κs s. now (s .1 .1 .0))
