@@ -1,69 +1,9 @@
-// Prints what stands in a file of records, line by line: document 01, "Files of records and the newer key".
+// Prints what stands in a file of records on standard input: document 01, "Files of records and the newer key".
 use libc::STDIN_FILENO;
-use libc::STDOUT_FILENO;
-
-// No more bytes than this are taken.
-const MOST: usize = 65536;
-
-// An output for one printed line: none is longer.
-const WIDTH: usize = 128;
-
-fn print(s: &[u8]) {
-    io::write_all(STDOUT_FILENO, s);
-}
-
-// The first `len` bytes of a line that was written.
-fn print_front(s: &[u8], len: usize) {
-    if len <= s.len() {
-        print(&s[0..len]);
-    }
-}
-
-fn print_line(number: usize, start: usize, len: usize, no: u8) {
-    let mut out = [0u8; WIDTH];
-    let written = listing::line_text(number, start, len, no, &mut out);
-    print_front(&out, written.len);
-}
-
-fn print_lines(file: &[u8]) {
-    let mut number: usize = 0;
-    let mut place: usize = 0;
-    loop {
-        let files::Line::Read {
-            no,
-            start,
-            len,
-            next,
-            ..
-        } = files::line_at(file, place)
-        else {
-            return;
-        };
-        number += 1;
-        print_line(number, start, len, no);
-        place = next;
-    }
-}
-
-fn print_end(file: &[u8]) {
-    let totals = files::count(file);
-    let mut out = [0u8; WIDTH];
-    let written = listing::end_text(totals.lines, totals.accepted, &mut out);
-    print_front(&out, written.len);
-}
-
-fn list(file: &[u8]) {
-    if file.len() > MOST {
-        print(b"too big\n");
-        return;
-    }
-    print_lines(file);
-    print_end(file);
-}
 
 // One byte more than is taken is asked for, which tells a file that is too big.
 fn main() {
-    let mut data = [0u8; MOST + 1];
+    let mut data = [0u8; printing::MOST + 1];
     let n = io::read_full(STDIN_FILENO, &mut data);
-    list(&data[..n]);
+    printing::print_list(&data[..n]);
 }

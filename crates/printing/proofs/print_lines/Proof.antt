@@ -1,4 +1,4 @@
--- `lister::print_lines` ends: each line takes it on in the file. The loop's invariant: no more lines than bytes are behind it.
+-- `printing::print_lines` ends: each line takes it on in the file. The loop's invariant: no more lines than bytes are behind it.
 -- Assumes nothing.
 use denote.Ref.{now}
 use Prim.Native.Nat.{_-_, _≤_}
@@ -7,8 +7,8 @@ use native.Mathlib.Omega.{arith}
 use lib.ListN.{length}
 use Rattle.files.proofs.Counting.{Told, told, told-beyond, told-inside}
 use borrow.Author.Needs.{needs}
-use Rattle.lister.proofs.print_lines.Statement.{statement}
-use Rattle.lister.proofs.print_lines.Tie as tie
+use Rattle.printing.proofs.print_lines.Statement.{statement}
+use Rattle.printing.proofs.print_lines.Tie as tie
 
 abbrev Inv-loop : tie.InvT-loop
 Inv-loop file number₀ place₀ number place = (number ≤ place) × (place ≤ length file)
