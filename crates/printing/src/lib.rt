@@ -1,6 +1,11 @@
 // Printing what stands in a file of records, line by line: document 01, "Files of records and the newer key". What each
 // line says is made by crate `listing`, and the totals are those of `files::count`.
 use libc::STDOUT_FILENO;
+ghost use mathlib.Core.Path.{_≡_};
+ghost use Prim.Native.Nat.{_≤_};
+ghost use lib.ListN.{length};
+ghost use Rattle.format.specs.Files.{walk};
+ghost use Rattle.printing.specs.Printing.{printList};
 
 // No more bytes than this are taken.
 pub const MOST: usize = 65536;
@@ -25,7 +30,10 @@ fn print_line(number: usize, start: usize, len: usize, no: u8) {
     print_front(&out, written.len);
 }
 
-fn print_lines(file: &[u8]) {
+// Every line of the file, and how many there are.
+fn print_lines(file: &[u8]) -> usize
+    ensures { λ r. ⌜ (r ≡ length (walk (now (file .entry)))) × (r ≤ length (now (file .entry))) ⌝ }
+{
     let mut number: usize = 0;
     let mut place: usize = 0;
     loop {
@@ -37,7 +45,7 @@ fn print_lines(file: &[u8]) {
             ..
         } = files::line_at(file, place)
         else {
-            return;
+            return number;
         };
         number += 1;
         print_line(number, start, len, no);
@@ -52,12 +60,15 @@ fn print_end(file: &[u8]) {
     print_front(&out, written.len);
 }
 
-// The list of a file, or "too big" and nothing else.
-pub fn print_list(file: &[u8]) {
+// The list of a file, or "too big" and nothing else. Answers how many lines it printed.
+pub fn print_list(file: &[u8]) -> usize
+    ensures { λ r. ⌜ r ≡ printList (now (file .entry)) ⌝ }
+{
     if file.len() > MOST {
         print(b"too big\n");
-        return;
+        return 1;
     }
-    print_lines(file);
+    let lines = print_lines(file);
     print_end(file);
+    lines + 1
 }

@@ -81,6 +81,7 @@ determined = record {
   line-text-out = λ κs a x y s t p q. p .left ∙ sym (q .left);
   end-text-said = λ κs a x y s t p q. p .said ∙ sym (q .said);
   end-text-out = λ κs a x y s t p q. p .left ∙ sym (q .left);
+  print-list = λ κs a x y s t p q. p ∙ sym q;
   newer-part = λ κs a x y s t p q. p .part-so ∙ sym (q .part-so);
   newer-no = λ κs a x y s t p q. p .number-so ∙ sym (q .number-so);
   newer-field = λ κs a x y s t p q. p .field-so ∙ sym (q .field-so);

@@ -58,6 +58,7 @@ use Rattle.files.proofs.count.Reads as count
 use Rattle.files.proofs.step_from.Reads as step-from
 use Rattle.listing.proofs.line_text.Reads as line-text
 use Rattle.listing.proofs.end_text.Reads as end-text
+use Rattle.printing.proofs.print_list.Reads as print-list
 use Rattle.newer.proofs.newer.Reads as newer
 
 -- any two results x and y that the contract Q allows for the same lifetimes κs and arguments a are equal
@@ -154,6 +155,8 @@ pub record Determined : Type 0 where
   pub line-text-out : OneLeft line-text.Post (λ κs s. now (s .1 .1 .1 .1 .0))
   pub end-text-said : OneAnswer end-text.Post
   pub end-text-out : OneLeft end-text.Post (λ κs s. now (s .1 .1 .0))
+  -- printing
+  pub print-list : OneAnswer print-list.Post
   -- newer
   pub newer-part : OnePart newer.Post
   pub newer-no : OneLeft newer.Post (λ κs s. now (s .1 .1 .0))
