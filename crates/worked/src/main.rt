@@ -107,7 +107,7 @@ fn run_all(input: &[u8]) -> Tally {
 }
 
 fn main() {
-    let mut buffer = [0u8; 65536];
+    let mut buffer = [0u8; 131072];
     let n = io::read_full(STDIN_FILENO, &mut buffer);
     let tally = run_all(&buffer[..n]);
     print(b"steps that agree: ");
