@@ -1,7 +1,7 @@
 -- A reader gives the file call's answers, so a new one gives all lines of the file, each once, in order, and then says that the
 -- file is finished.
 -- Assumes nothing.
-use denote.Ref.{now}
+use denote.Ref.{RefT, now}
 use Prim.Native.Nat.{ℕ, zero, suc, _+_, _≤_}
 use mathlib.Core.Path.{_≡_, refl, ap, ap₂, sym, _∙_}
 use mathlib.Core.List.{List, [], _∷_, _++_}
@@ -13,7 +13,7 @@ use Rattle.format.specs.Files as files
 use Rattle.format.specs.Files.{Said, finished, read, lineAt, walk}
 use Rattle.format.proofs.Lines.{lineTo, unfinishedTo, at-end, at-line, at-unfinished, by-place, next-inside, rest, rest-walk, rest-onward, rest-step}
 use Rattle.files.specs.Walk.{lineSaid, nextOf}
-use Rattle.files.specs.Steps.{Stepped, Steps, none, more, answersFrom, answersFor}
+use Rattle.files.specs.Steps.{Begins, Stepped, Steps, none, more, answersFrom, answersFor}
 use Rattle.files.specs.declared.Line.{Line}
 use Rattle.files.specs.declared.Line.the-variants.{Finished}
 use Rattle.files.specs.declared.Reader.{Reader}
@@ -72,13 +72,21 @@ reader-steps none = refl
 reader-steps (more {said = a} s t) = rw (← s .its-line, ← s .same-file, ← s .its-place) (ap (_∷_ a) (reader-steps t))
 
 -- the answers of a new reader
-pub reader-walks : {before after : Reader} {said : List Line} → Steps before said after → before .place ≡ 0
-    → (n : ℕ) → length said ≡ n + length (walk (now (before .file)))
-    → said ≡ answersFor (walk (now (before .file))) ++ replicate n (Finished (length (now (before .file))))
-reader-walks {before} {after} {said} t z n e = reader-steps t ∙ rw (e, z) (walk-answers (now (before .file)) n)
+pub reader-walks : {lent : RefT Bytes} {before after : Reader} {said : List Line} → Begins lent before → Steps before said after
+    → (n : ℕ) → length said ≡ n + length (walk (now lent))
+    → said ≡ answersFor (walk (now lent)) ++ replicate n (Finished (length (now lent)))
+reader-walks {lent} b t n e = reader-steps t ∙ rw (e, b .same-file, b .its-place) (walk-answers (now lent) n)
+
+-- readers of the same bytes at the same place are one
+one-reader : {r r′ : Reader} → r .file ≡ r′ .file → r .place ≡ r′ .place → r ≡ r′
+one-reader e f = ap₂ {C = Reader} (λ f p. record { file = f; place = p }) e f
+
+-- so any two new readers of the same bytes are equal
+pub begin-same : {lent : RefT Bytes} {reader reader′ : Reader} → Begins lent reader → Begins lent reader′ → reader ≡ reader′
+begin-same b c = one-reader (b .same-file ∙ sym (c .same-file)) (b .its-place ∙ sym (c .its-place))
 
 -- any two answers to a step are equal, and so are the readers afterwards
 pub step-same : {before after after′ : Reader} {said said′ : Line} → Stepped before said after → Stepped before said′ after′ → (said ≡ said′) × (after ≡ after′)
 step-same {said = said} {said′ = said′} s t =
     let same : said ≡ said′ = s .its-line ∙ sym (t .its-line) in
-    (same, ap₂ {C = Reader} (λ f p. record { file = f; place = p }) (s .same-file ∙ sym (t .same-file)) (s .its-place ∙ ap nextOf same ∙ sym (t .its-place)))
+    (same, one-reader (s .same-file ∙ sym (t .same-file)) (s .its-place ∙ ap nextOf same ∙ sym (t .its-place)))

@@ -1,6 +1,6 @@
 -- What a reader answers, step after step: document 01, "Files of records and the newer key".
 -- Assumes nothing.
-use denote.Ref.{now}
+use denote.Ref.{RefT, now}
 use Prim.Native.Nat.{ℕ, zero, suc}
 use mathlib.Core.Path.{_≡_}
 use mathlib.Core.List.{List, [], _∷_, map}
@@ -10,6 +10,11 @@ use Rattle.format.specs.Files.{read, lineAt}
 use Rattle.files.specs.Walk.{lineSaid, nextOf}
 use Rattle.files.specs.declared.Line.{Line}
 use Rattle.files.specs.declared.Reader.{Reader}
+
+-- a new reader: the lent bytes, and their start
+pub record Begins (lent : RefT Bytes) (reader : Reader) : Type 0 where
+  pub same-file : reader .file ≡ lent
+  pub its-place : reader .place ≡ 0
 
 -- one step: the file call's answer for the reader's bytes and place, and afterwards the same bytes and the next place
 pub record Stepped (before : Reader) (said : Line) (after : Reader) : Type 0 where

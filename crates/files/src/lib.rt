@@ -5,7 +5,7 @@ ghost use Prim.Native.Nat.{_≤_};
 ghost use lib.ListN.{length};
 ghost use Rattle.format.specs.Files.{lineAt, walk};
 ghost use Rattle.files.specs.Walk.{lineEnd, lineSaid, nextOf, totalsOf};
-ghost use Rattle.files.specs.Steps.{Stepped};
+ghost use Rattle.files.specs.Steps.{Begins, Stepped};
 
 // The number of an unfinished last line, whatever it holds.
 const UNFINISHED: u8 = 11;
@@ -124,7 +124,7 @@ pub struct Reader<'a> {
 impl<'a> Reader<'a> {
     // At the start of the file.
     pub fn new(file: &'a [u8]) -> Reader<'a>
-        ensures { λ r. ⌜ (r .file ≡ file .entry) × (r .place ≡ 0) ⌝ }
+        ensures { λ r. ⌜ Begins (file .entry) r ⌝ }
     {
         Reader { file, place: 0 }
     }

@@ -3,7 +3,7 @@
 use mathlib.Core.Path.{_≡_, ap}
 use Rattle.format.proofs.Lines.{walk-lines, into-lines, next-beyond, next-inside}
 use Rattle.files.specs.declared.Totals.{Totals}
-use Rattle.files.proofs.Stepping.{reader-walks, step-same}
+use Rattle.files.proofs.Stepping.{reader-walks, begin-same, step-same}
 use Rattle.promises.specs.Files.{Files}
 
 pub files : Files
@@ -14,5 +14,6 @@ files = record {
   beyond = λ file place l e. (next-beyond file place l e, next-inside file place l e);
   totals = λ κs a r s p. (ap (λ (t : Totals). t .lines) p, ap (λ (t : Totals). t .accepted) p);
   reader = reader-walks;
+  one-new = begin-same;
   one-step = step-same;
 }

@@ -6,14 +6,14 @@ use mathlib.Core.Path.{_≡_}
 use mathlib.Core.List.{List, [], _∷_, _++_, map}
 use lib.ListN.{length, replicate}
 use lib.Dec.{T}
-use denote.Ref.{now}
+use denote.Ref.{RefT, now}
 use Rattle.text.specs.Text.{Bytes, without}
 use Rattle.format.specs.Build.{joined}
 use Rattle.format.specs.Files as format
 use Rattle.format.specs.Files.{lineFeed, read, lineAt, walk, linesFrom, acceptedLines}
 use Rattle.format.proofs.Parts.{WithoutAll}
 use Rattle.files.specs.Walk.{lineSaid}
-use Rattle.files.specs.Steps.{Stepped, Steps}
+use Rattle.files.specs.Steps.{Begins, Stepped, Steps}
 use Rattle.files.specs.declared.Line.{Line}
 use Rattle.files.specs.declared.Line.the-variants.{Finished}
 use Rattle.files.specs.declared.Reader.{Reader}
@@ -35,9 +35,10 @@ pub record Files : Type 0 where
   -- both totals equal the counts of lines and of accepted lines
   pub totals : Holds count.Post (λ κs a r s. (r .lines ≡ length (walk (now (a .0)))) × (r .accepted ≡ acceptedLines (walk (now (a .0)))))
   -- the steps of a new reader give the answers of the walk's lines, and then that the file is finished
-  pub reader : {before after : Reader} {said : List Line} → Steps before said after → before .place ≡ 0
-      → (n : ℕ) → length said ≡ n + length (walk (now (before .file)))
-      → said ≡ map (λ l. lineSaid (read l)) (walk (now (before .file))) ++ replicate n (Finished (length (now (before .file))))
-  -- a step has one answer, and leaves one reader
+  pub reader : {lent : RefT Bytes} {before after : Reader} {said : List Line} → Begins lent before → Steps before said after
+      → (n : ℕ) → length said ≡ n + length (walk (now lent))
+      → said ≡ map (λ l. lineSaid (read l)) (walk (now lent)) ++ replicate n (Finished (length (now lent)))
+  -- the bytes lent have one new reader; a step has one answer, and leaves one reader
+  pub one-new : {lent : RefT Bytes} {reader reader′ : Reader} → Begins lent reader → Begins lent reader′ → reader ≡ reader′
   pub one-step : {before after after′ : Reader} {said said′ : Line} → Stepped before said after → Stepped before said′ after′
       → (said ≡ said′) × (after ≡ after′)
