@@ -153,14 +153,19 @@ record-without c u k fs n w =
 
 -- ---- a record that is built of the parts found in it
 
-pub found-built : (k : Kind) (s : Bytes) → title s ≡ name k → markAfter s ≡ mark k → lastOr 0 (body s) ≡ mark k
-    → check s ≡ checkText (crcOf (body s)) → s ≡ recordOf k (fieldsIn k s)
-unfolding recordOf withCheck
-found-built k s t m l c =
-    let whole : body s ++ check s ≡ s = take-append-drop (length s - 4) s in
-    let front = title-front 0 (body s) (check s) tt (rw l (mark-is-mark k)) in
-    let t′ : title (body s) ≡ name k = sym (front .0) ∙ ap title whole ∙ t in
-    let m′ : markAfter (body s) ≡ mark k = sym (front .1) ∙ ap markAfter whole ∙ m in
-    let parts : cut (mark k) (body s) ≡ name k ∷ fieldsIn k s = cut-title (mark k) (body s) (mark-is-mark k) m′ ∙ rw t′ in
-    let back : joined (mark k) (name k ∷ fieldsIn k s) ≡ body s = ap (joined (mark k)) (sym parts) ∙ joined-cut 0 (mark k) (body s) l in
-    sym whole ∙ ap (λ (d : Bytes). body s ++ d) c ∙ ap withCheck (sym back)
+module _ (k : Kind) (s : Bytes) (t : title s ≡ name k) (m : markAfter s ≡ mark k) (l : lastOr 0 (body s) ≡ mark k) where
+  whole : body s ++ check s ≡ s
+  whole = take-append-drop (length s - 4) s
+
+  pub found-parts : cut (mark k) (body s) ≡ name k ∷ fieldsIn k s
+  found-parts =
+      let front = title-front 0 (body s) (check s) tt (rw l (mark-is-mark k)) in
+      let t′ : title (body s) ≡ name k = sym (front .0) ∙ ap title whole ∙ t in
+      let m′ : markAfter (body s) ≡ mark k = sym (front .1) ∙ ap markAfter whole ∙ m in
+      cut-title (mark k) (body s) (mark-is-mark k) m′ ∙ rw t′
+
+  pub found-built : check s ≡ checkText (crcOf (body s)) → s ≡ recordOf k (fieldsIn k s)
+  unfolding recordOf withCheck
+  found-built c =
+      let back : joined (mark k) (name k ∷ fieldsIn k s) ≡ body s = ap (joined (mark k)) (sym found-parts) ∙ joined-cut 0 (mark k) (body s) l in
+      sym whole ∙ ap (λ (d : Bytes). body s ++ d) c ∙ ap withCheck (sym back)

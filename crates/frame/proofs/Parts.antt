@@ -1,19 +1,21 @@
 -- The parts between marks, by places: the next mark, and a walk over the parts.
 -- Assumes nothing.
-use Prim.Native.Nat.{ℕ, suc, _+_, _-_, _≤_, _<_}
+use Prim.Native.Nat.{ℕ, zero, suc, _+_, _-_, _≤_, _<_}
 use mathlib.Core.Path.{_≡_, refl, ap, sym, _∙_}
 use mathlib.Core.Bool.{Bool, true, false, cond}
 use mathlib.Core.List.{List, [], _∷_}
 use native.Mathlib.Omega.{arith}
 use native.Mathlib.Numerals.{add-one}
 use native.Mathlib.Nat.{add-zero}
-use lib.ListN.{length, take, drop, getD, drop-of-length-le, length-drop, List·getD-eq-default}
-use lib.Seq.{drop-cons, drop-drop, getD-drop}
-use lib.Dec.{eqb}
+use lib.ListN.{length, take, drop, getD, drop-of-length-le, length-append, length-drop, List·getD-eq-default}
+use lib.Seq.{take-all, length-take-le, drop-cons, drop-drop, getD-drop}
+use lib.Dec.{eqb, ltb, ltb→lt, nltb→le}
 use borrow.Author.Tests.{eq-eqb, ne-eqb}
 use Rattle.text.specs.Text.{Bytes}
+use Rattle.text.proofs.Tests.{by-test}
+use Rattle.format.specs.Build.{joined}
 use Rattle.format.specs.Read.{cut, onFirst}
-use Rattle.frame.specs.Frame.{nextMark, partOf}
+use Rattle.frame.specs.Frame.{nextMark, partStart, partOf}
 use Rattle.format.specs.Files.{upTo}
 
 -- ---- the next mark
@@ -89,20 +91,30 @@ unfolding nextMark
 cut-rest m [] = refl
 cut-rest m (c ∷ s) = ap (drop 1) (cut-at m (c ∷ s) 0 (omega arith))
 
--- ---- a walk over the parts: from place i on stand the parts from number k on
+-- ---- a walk over the parts: from place i on stand the parts from number k on, behind those before
 pub record Walk (m : ℕ) (s : Bytes) (k i : ℕ) : Type 0 where
   pub parts : drop k (cut m s) ≡ cut m (drop i s)
+  pub start : i ≡ partStart m s k
   pub few : k ≤ i
   pub many : k ≤ length (cut m s)
+
+-- one part more
+joined-more : (m k : ℕ) (ps qs : List Bytes) (p : Bytes) → drop k ps ≡ p ∷ qs → length (joined m (take (suc k) ps)) ≡ length (joined m (take k ps)) + length p + 1
+joined-more m zero ps qs p e = rw e (length-append p (m ∷ []) ∙ omega arith)
+joined-more m (suc k) [] qs p e = absurd (omega (arith, ap length e))
+joined-more m (suc k) (f ∷ ps) qs p e =
+    length-append f (m ∷ joined m (take (suc k) ps)) ∙ omega (arith, length-append f (m ∷ joined m (take k ps)), joined-more m k ps qs p e)
 
 module _ (m : ℕ) (s : Bytes) (k i : ℕ) (w : Walk m s k i) (h : i < length s) where
   this : drop k (cut m s) ≡ take (nextMark m s i - i) (drop i s) ∷ cut m (drop (nextMark m s i + 1) s)
   this = w .parts ∙ cut-at m s i h
 
   pub walk-on : (e : ℕ) → e ≡ nextMark m s i → Walk m s (k + 1) (e + 1)
+  unfolding partStart
   walk-on e q =
       record {
         parts = rw q (sym (drop-drop 1 k (cut m s)) ∙ ap (drop 1) this);
+        start = rw (q, add-one k) (omega (arith, w .start, next-from m s i, length-take-le (nextMark m s i - i) (drop i s) (omega (arith, next-within m s i (omega arith), length-drop i s)), joined-more m k (cut m s) _ _ this));
         few = omega (arith, w .few, next-from m s i);
         many = omega (arith, length-drop k (cut m s), ap length this);
       }
@@ -112,7 +124,8 @@ module _ (m : ℕ) (s : Bytes) (k i : ℕ) (w : Walk m s k i) (h : i < length s)
   walk-part e q = rw q (sym (sym (rw add-zero at (getD-drop k (cut m s) 0 [])) ∙ ap (λ (x : List Bytes). getD x 0 []) this))
 
 pub walk-start : (m : ℕ) (s : Bytes) → Walk m s 0 0
-walk-start m s = record { parts = refl; few = omega arith; many = omega arith }
+unfolding partStart
+walk-start m s = record { parts = refl; start = refl; few = omega arith; many = omega arith }
 
 module _ (m : ℕ) (s : Bytes) (k i : ℕ) (w : Walk m s k i) (h : length s ≤ i) where
   pub walk-done : length (cut m s) ≤ k
@@ -121,3 +134,58 @@ module _ (m : ℕ) (s : Bytes) (k i : ℕ) (w : Walk m s k i) (h : length s ≤ 
   pub walk-none : (n : ℕ) → k ≤ n → [] ≡ partOf m s n
   unfolding partOf
   walk-none n l = sym (List·getD-eq-default (cut m s) [] (omega (arith, walk-done)))
+
+  -- behind the last part
+  pub walk-last : (n : ℕ) → k ≤ n → i ≡ partStart m s n
+  unfolding partStart
+  walk-last n l = w .start ∙ ap (λ (ps : List Bytes). length (joined m ps)) (take-all k (cut m s) walk-done ∙ sym (take-all n (cut m s) (omega (arith, walk-done))))
+
+-- ---- part n, from where it starts
+
+module _ (m : ℕ) (s : Bytes) where
+  on-from : (n : ℕ) → Walk m s n (partStart m s n) → partStart m s n < length s → Walk m s (suc n) (partStart m s (suc n))
+  on-from n w h = let v = rw add-one at (walk-on m s n _ w h _ refl) in rw (← v .start) v
+
+  -- the walk to part n, and the parts' end where there are not so many
+  walk-to : (n : ℕ) → n ≤ length (cut m s) → Walk m s n (partStart m s n)
+  unfolding partStart
+  walk-to zero h = walk-start m s
+  walk-to (suc n) h = go (walk-to n (omega arith))
+    where
+      go : Walk m s n (partStart m s n) → Walk m s (suc n) (partStart m s (suc n))
+      go w = by-test (ltb (partStart m s n) (length s))
+          (λ t. on-from n w (ltb→lt _ _ t))
+          (λ t. absurd (omega (arith, walk-done m s n _ w (nltb→le _ _ t))))
+
+  -- the parts end with the bytes
+  walk-past : (n : ℕ) → length (cut m s) ≤ n → length s ≤ partStart m s n
+  unfolding partStart
+  walk-past n h =
+      let all = length (cut m s) in
+      rw (take-all n (cut m s) h, ← take-all all (cut m s) (omega arith))
+      (by-test (ltb (partStart m s all) (length s))
+      (λ t. absurd (omega (arith, walk-on m s all _ (walk-to all (omega arith)) (ltb→lt _ _ t) _ refl .many)))
+      (λ t. nltb→le _ _ t))
+
+  -- i is the start of part n as the code has it
+  pub part-none : (n i : ℕ) → i ≡ partStart m s n → length s ≤ i → [] ≡ partOf m s n
+  unfolding partOf
+  part-none n i q h =
+      by-test (ltb n (length (cut m s)))
+      (λ t. walk-none m s n i (rw q (walk-to n (omega (arith, ltb→lt n (length (cut m s)) t)))) h n (omega arith))
+      (λ t. sym (List·getD-eq-default (cut m s) [] (nltb→le _ _ t)))
+
+  pub part-there : (n i : ℕ) → i ≡ partStart m s n → i < length s → (e : ℕ) → e ≡ nextMark m s i → take (e - i) (drop i s) ≡ partOf m s n
+  part-there n i q h =
+      walk-part m s n i
+      (by-test (ltb (length (cut m s)) n)
+      (λ t. absurd (omega (arith, q, walk-past n (omega (arith, ltb→lt (length (cut m s)) n t)))))
+      (λ t. rw q (walk-to n (nltb→le _ _ t))))
+      h
+
+  -- a part that is there starts within the bytes
+  pub start-within : (n : ℕ) → n < length (cut m s) → partStart m s n < length s
+  start-within n h =
+      by-test (ltb (partStart m s n) (length s))
+      (λ t. ltb→lt _ _ t)
+      (λ t. absurd (omega (arith, walk-done m s n _ (walk-to n (omega arith)) (nltb→le _ _ t))))

@@ -3,12 +3,13 @@
 use Prim.Native.Nat.{ℕ, _+_}
 use mathlib.Core.Bool.{cond, _&&_}
 use mathlib.Core.List.{[], _∷_}
-use lib.ListN.{length, drop, getD}
+use lib.ListN.{length, take, drop, getD}
 use lib.Dec.{eqb}
 use Rattle.crc16.specs.Crc.{crcOf}
 use Rattle.text.specs.Text.{Bytes, same, isHex}
 use Rattle.text.specs.Base16.{checkText}
 use Rattle.format.specs.Numbers.{noCheck, wrongCheck}
+use Rattle.format.specs.Build.{joined}
 use Rattle.format.specs.Read.{body, check, lastOr, cut}
 use Rattle.format.specs.Files.{upTo}
 
@@ -19,6 +20,10 @@ nextMark m s i = i + length (upTo m (drop i s))
 -- part n, from 0, of those that the mark m ends; empty if there is none
 unfoldable pub partOf : ℕ → Bytes → ℕ → Bytes
 partOf m s n = getD (cut m s) n []
+
+-- where part n stands: behind the parts before it, each with its mark
+unfoldable pub partStart : ℕ → Bytes → ℕ → ℕ
+partStart m s n = length (joined m (take n (cut m s)))
 
 -- the number that the check of s is answered, where the mark is m
 unfoldable pub checkNo : ℕ → Bytes → ℕ

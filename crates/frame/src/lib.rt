@@ -4,7 +4,7 @@ ghost use mathlib.Core.Path.{_≡_};
 ghost use Prim.Native.Nat.{_-_};
 ghost use lib.ListN.{length, drop};
 ghost use Rattle.format.specs.Read.{isMark, title, markAfter, body, check, lastOr, cut};
-ghost use Rattle.frame.specs.Frame.{nextMark, partOf, checkNo};
+ghost use Rattle.frame.specs.Frame.{nextMark, partStart, partOf, checkNo};
 
 pub const NO_CHECK: u8 = 3;
 
@@ -95,22 +95,34 @@ pub fn count_fields(mark: u8, body: &[u8]) -> usize
     parts - 1
 }
 
+// Where part n, from 0, begins: behind the parts before it, each with its mark. Where there are not so many, behind the
+// last.
+pub fn part_start(mark: u8, s: &[u8], n: usize) -> usize
+    ensures { λ r. ⌜ r ≡ partStart mark (now (s .entry)) n ⌝ }
+{
+    let mut k: usize = 0;
+    let mut i: usize = 0;
+    while i < s.len() {
+        if k == n {
+            return i;
+        }
+        i = next_mark(mark, s, i) + 1;
+        k += 1;
+    }
+    i
+}
+
 // Part n, from 0, and an empty one if there is none. Part 0 of a body is the kind's name, so a field's number is its
 // part's.
 pub fn part<'a>(mark: u8, s: &'a [u8], n: usize) -> &'a [u8]
     ensures { λ r. ⌜ now r ≡ partOf mark (now (s .entry)) n ⌝ }
 {
-    let mut k: usize = 0;
-    let mut i: usize = 0;
-    while i < s.len() {
-        let end = next_mark(mark, s, i);
-        if k == n {
-            return &s[i..end];
-        }
-        i = end + 1;
-        k += 1;
+    let start = part_start(mark, s, n);
+    if s.len() <= start {
+        return &s[0..0];
     }
-    &s[0..0]
+    let end = next_mark(mark, s, start);
+    &s[start..end]
 }
 
 // ---- the check

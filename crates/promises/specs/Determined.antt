@@ -34,6 +34,7 @@ use Rattle.frame.proofs.title_of.Reads as title-of
 use Rattle.frame.proofs.mark_after.Reads as mark-after
 use Rattle.frame.proofs.next_mark.Reads as next-mark
 use Rattle.frame.proofs.count_fields.Reads as count-fields
+use Rattle.frame.proofs.part_start.Reads as part-start
 use Rattle.frame.proofs.part.Reads as part
 use Rattle.frame.proofs.body_of.Reads as body-of
 use Rattle.frame.proofs.check_no.Reads as check-no
@@ -42,6 +43,8 @@ use Rattle.reading.proofs.field_no.Reads as field-no
 use Rattle.reading.proofs.whole_no.Reads as whole-no
 use Rattle.reading.proofs.read_of.Reads as read-of
 use Rattle.reading.proofs.read_record.Reads as read-record
+use Rattle.reading.proofs.identity_place.Reads as identity-place
+use Rattle.reading.proofs.record_place.Reads as record-place
 use Rattle.reading.proofs.identity_field.Reads as identity-field
 use Rattle.reading.proofs.field_of.Reads as field-of
 use Rattle.reading.proofs.record_field.Reads as record-field
@@ -109,6 +112,7 @@ pub record Determined : Type 0 where
   pub mark-after : OneAnswer mark-after.Post
   pub next-mark : OneAnswer next-mark.Post
   pub count-fields : OneAnswer count-fields.Post
+  pub part-start : OneAnswer part-start.Post
   pub part : OnePart part.Post
   pub body-of : OnePart body-of.Post
   pub check-no : OneAnswer check-no.Post
@@ -118,6 +122,8 @@ pub record Determined : Type 0 where
   pub whole-no : OneAnswer whole-no.Post
   pub read-of : OneAnswer read-of.Post
   pub read-record : OneAnswer read-record.Post
+  pub identity-place : OneAnswer identity-place.Post
+  pub record-place : OneAnswer record-place.Post
   pub identity-field-part : OnePart identity-field.Post
   pub identity-field-no : OneLeft identity-field.Post (λ κs s. now (s .1 .1 .0))
   pub identity-field-field : OneLeft identity-field.Post (λ κs s. now (s .1 .1 .1 .0))

@@ -14,7 +14,7 @@ use Rattle.table.proofs.Rows.{Found, found}
 use Rattle.reading.specs.Steps.{noInner, fieldsBy, formNo, FirstRefused}
 use Rattle.reading.proofs.Outcomes.{passing-stop, passing-on, passing-as, over-kind}
 use Rattle.reading.proofs.Form.{fromFields, of-form, form-found}
-use Rattle.reading.proofs.Within.{kind-among}
+use Rattle.format.proofs.Table.{kindIn-some}
 use Rattle.reading.proofs.Fields.{fields-by, judged-first}
 
 -- ---- past number 1: the row that was found, and the number of the form
@@ -42,7 +42,7 @@ module _ (ask : Bytes → Outcome) {ks : List Kind} {s : Bytes} {row no : ℕ} (
     call-kind = found (kindIn ks (title s) (markAfter s)) row (b .row-is) (form-found row s (sym (b .no-is) ∙ z))
 
     pub call-among : T (among (call-kind .kind) ks)
-    call-among = kind-among ks (title s) (markAfter s) (call-kind .kind) (call-kind .is)
+    call-among = kindIn-some ks (title s) (markAfter s) (call-kind .kind) (call-kind .is) .0
 
     abbrev pub call-parts : List Bytes
     call-parts = fieldsIn (call-kind .kind) s

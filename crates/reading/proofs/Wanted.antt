@@ -1,32 +1,33 @@
 -- One field of an accepted record, by its number.
 -- Assumes nothing.
-use Prim.Native.Nat.{ℕ, zero, suc, _-_, _≤_, _<_}
+use Prim.Native.Nat.{ℕ, zero, suc, _+_, _-_, _≤_, _<_}
 use mathlib.Core.Path.{_≡_, refl, ap, sym, _∙_}
-use mathlib.Core.Bool.{true, cond}
+use mathlib.Core.Bool.{not, cond}
 use mathlib.Core.List.{List, [], _∷_}
 use native.Mathlib.Omega.{arith}
-use native.Mathlib.Numerals.{one-add}
-use lib.ListN.{length, getD, List·getD-eq-default}
-use lib.Seq.{getD-drop}
+use lib.ListN.{length, take, drop, getD, length-drop, take-append-drop, List·getD-eq-default}
+use lib.Seq.{length-take-le, take-append-le, drop-append-le}
+use lib.Dec.{T, leb, leb→le}
+use mir.Facts.{and-yes}
 use borrow.Author.Tests.{le-leb, lt-leb}
 use Rattle.text.specs.Text.{Bytes, between}
-use Rattle.format.specs.Kinds.{Kind, mark, fieldsOf}
-use Rattle.format.specs.Read.{Outcome, accepted, refused, place, body, cut}
-use Rattle.frame.specs.Frame.{partOf}
+use Rattle.text.proofs.Tests.{by-test, T-true, T-false}
+use Rattle.format.specs.Kinds.{Kind, name, mark, fieldsOf}
+use Rattle.format.specs.Read.{Outcome, accepted, refused, place, body, check}
+use Rattle.frame.specs.Frame.{nextMark, partStart, partOf}
+use Rattle.frame.proofs.Parts.{next-within, part-there, start-within}
 use Rattle.table.specs.Table.{markOf, countOf}
 use Rattle.table.proofs.Rows.{less-or, of-kind}
-use Rattle.reading.specs.Reading.{answerOf, wantedPart, wantedNo, FieldSaid}
-use Rattle.reading.specs.Steps.{Inside, Within}
+use Rattle.reading.specs.Reading.{answerOf, wantedPart, wantedNo, wantedStart, Placed, FieldSaid}
+use Rattle.reading.specs.Steps.{Inside, Within, Handed}
 use Rattle.reading.specs.declared.Answer.{Answer}
+use Rattle.reading.specs.declared.Place.{Place}
 use Rattle.reading.proofs.Within.{Taken, taken, untaken}
 
 -- the fields of an accepted record are parts of its body, from part 1 on
 pub field-part : (ks : List Kind) (s : Bytes) (k : Kind) (fs : List Bytes) → Inside ks s k fs → (j : ℕ) → partOf (mark k) (body s) (suc j) ≡ getD fs j []
 unfolding partOf
-field-part ks s k fs n j =
-    ap (λ (x : ℕ). getD (cut (mark k) (body s)) x []) (sym (one-add j))
-    ∙ sym (getD-drop 1 (cut (mark k) (body s)) j [])
-    ∙ ap (λ (x : List Bytes). getD x j []) (sym (n .its-fields))
+field-part ks s k fs n j = rw (n .its-parts)
 
 -- ---- the number
 
@@ -55,39 +56,89 @@ module _ (o : Outcome) (ks : List Kind) (s : Bytes) (w : Within ks s o) (a : Ans
     pub wanted-there : (wanted ≡ 0 → ⊥) → wanted ≤ countOf (a .kind) → 0 ≡ wantedNo o wanted
     wanted-there n h = sym (by-count ∙ rw (le-leb 1 wanted (omega (arith, n)), le-leb wanted (countOf (a .kind)) h))
 
--- ---- the part, and the field that a refusal names
+-- ---- where the field stands
 
-outside : (fs : List Bytes) (w : ℕ) → (between 1 (length fs) w ≡ true → ⊥) → [] ≡ getD ([] ∷ fs) w []
+-- a number out of range: nothing, and nowhere
+outside : (fs : List Bytes) (w : ℕ) → T (not (between 1 (length fs) w)) → [] ≡ getD ([] ∷ fs) w []
 outside fs zero h = refl
 outside fs (suc w) h =
     less-or w (length fs)
-    (λ l. absurd (h (rw (le-leb 1 (suc w) (omega arith), le-leb (suc w) (length fs) l))))
+    (λ l. absurd (rw (le-leb 1 (suc w) (omega arith), le-leb (suc w) (length fs) l) at h))
     (λ l. sym (List·getD-eq-default fs [] l))
 
 the-place : (o : Outcome) (a : Answer) → a ≡ answerOf o → a .field ≡ place o
 the-place (accepted k fs) a e = ap (λ (x : Answer). x .field) e
 the-place (refused n i) a e = ap (λ (x : Answer). x .field) e
 
-module _ (s : Bytes) (wanted no : ℕ) where
-  none-said : (o : Outcome) → no ≡ wantedNo o wanted → (no ≡ 0 → ⊥) → [] ≡ wantedPart o wanted
-  unfolding wantedNo wantedPart
-  none-said (accepted k fs) e n = outside fs wanted (λ b. n (e ∙ rw b))
-  none-said (refused m i) e n = refl
+module _ (s : Bytes) (wanted : ℕ) where
+  placed : (o : Outcome) (n f start len : ℕ) → n ≡ wantedNo o wanted → f ≡ place o → start ≡ wantedStart o wanted
+      → start + len ≤ length s → take len (drop start s) ≡ wantedPart o wanted
+      → Placed o wanted s (record { no = n; field = f; start = start; len = len })
+  placed o n f start len p q b h e =
+      let l : len ≡ length (wantedPart o wanted) = sym (length-take-le len (drop start s) (omega (arith, length-drop start s))) ∙ ap length e in
+      record { said = cc; inside = h; bytes = e }
 
-  part-said : (o : Outcome) (ks : List Kind) → Within ks s o → (a : Answer) → a ≡ answerOf o → no ≡ wantedNo o wanted → no ≡ 0 → partOf (markOf (a .kind)) (body s) wanted ≡ wantedPart o wanted
-  unfolding wantedNo wantedPart
-  part-said (accepted k fs) ks w a q e z = rw (ap (λ (x : Answer). x .kind) q, of-kind mark 0 k) (there wanted (sym e ∙ z))
-    where
-      there : (v : ℕ) → _≡_ {A = ℕ} (cond (between 1 (length fs) v) 0 12) 0 → partOf (mark k) (body s) v ≡ getD ([] ∷ fs) v []
-      there zero h = absurd (omega arith)
-      there (suc j) h = field-part ks s k fs w j
-  part-said (refused zero i) ks w a q e z = absurd w
-  part-said (refused (suc m) i) ks w a q e z = absurd (omega arith)
+  nowhere : (o : Outcome) → (wantedNo o wanted ≡ 0 → ⊥) → (0 ≡ wantedStart o wanted) × ([] ≡ wantedPart o wanted)
+  unfolding wantedNo wantedPart wantedStart
+  nowhere (accepted k fs) n =
+      by-test (between 1 (length fs) wanted)
+      (λ t. absurd (n (rw (T-true (between 1 (length fs) wanted) t))))
+      (λ t. (rw (T-false (between 1 (length fs) wanted) t), outside fs wanted t))
+  nowhere (refused m i) n = (refl, refl)
 
-  module _ (o : Outcome) (ks : List Kind) (w : Within ks s o) (a : Answer) (q : a ≡ answerOf o) (e : no ≡ wantedNo o wanted) where
-    pub field-none : (no ≡ 0 → ⊥) → FieldSaid o wanted [] no (a .field)
-    field-none n = record { its-part = none-said o e n; its-no = e; its-field = the-place o a q }
+  -- the field of an accepted record, from i to before j
+  module _ (ks : List Kind) (k : Kind) (fs : List Bytes) (n : Inside ks s k fs) (t : T (between 1 (length fs) wanted)) (i j : ℕ)
+      (p : i ≡ partStart (mark k) (body s) wanted) (r : j ≡ nextMark (mark k) (body s) i) where
+    its-start : i ≡ wantedStart (accepted k fs) wanted
+    unfolding partStart wantedStart
+    its-start = p ∙ rw (n .its-parts, T-true (between 1 (length fs) wanted) t)
 
-    -- p is the part as the code has it
-    pub field-there : no ≡ 0 → (p : Bytes) → p ≡ partOf (markOf (a .kind)) (body s) wanted → FieldSaid o wanted p no (a .field)
-    field-there z p ep = record { its-part = ep ∙ part-said o ks w a q e z; its-no = e; its-field = the-place o a q }
+    starts : i < length (body s)
+    starts = let h = and-yes (leb 1 wanted) (leb wanted (length fs)) t in omega (arith, p, start-within (mark k) (body s) wanted (omega (arith, ap length (n .its-parts), leb→le wanted (length fs) (h .1))))
+
+    ends : j ≤ length (body s)
+    ends = omega (arith, r, next-within (mark k) (body s) i (omega (arith, starts)))
+
+    its-part : partOf (mark k) (body s) wanted ≡ wantedPart (accepted k fs) wanted
+    unfolding wantedPart
+    its-part = there wanted (and-yes (leb 1 wanted) (leb wanted (length fs)) t .0)
+      where
+        there : (v : ℕ) → T (leb 1 v) → partOf (mark k) (body s) v ≡ getD ([] ∷ fs) v []
+        there zero h = absurd h
+        there (suc v) h = field-part ks s k fs n v
+
+    its-bytes : take (j - i) (drop i s) ≡ wantedPart (accepted k fs) wanted
+    its-bytes =
+        ap (λ (x : Bytes). take (j - i) (drop i x)) (sym (take-append-drop (length s - 4) s))
+        ∙ ap (take (j - i)) (drop-append-le i (body s) (check s) (omega (arith, starts)))
+        ∙ take-append-le (j - i) (drop i (body s)) (check s) (omega (arith, ends, length-drop i (body s)))
+        ∙ part-there (mark k) (body s) wanted i p starts j r ∙ its-part
+
+  there-said : (o : Outcome) (ks : List Kind) → Within ks s o → (a : Answer) → a ≡ answerOf o → wantedNo o wanted ≡ 0 → (i j : ℕ)
+      → i ≡ partStart (markOf (a .kind)) (body s) wanted → j ≡ nextMark (markOf (a .kind)) (body s) i
+      → (i ≡ wantedStart o wanted) × (i + (j - i) ≤ length s) × (take (j - i) (drop i s) ≡ wantedPart o wanted)
+  unfolding wantedNo
+  there-said (accepted k fs) ks w a q z i j p r =
+      let m : markOf (a .kind) ≡ mark k = ap (λ (x : Answer). markOf (x .kind)) q ∙ of-kind mark 0 k in
+      by-test (between 1 (length fs) wanted)
+      (λ t.
+      let p′ = rw m at p in
+      let r′ = rw m at r in
+      (its-start ks k fs w t i j p′ r′, omega (arith, starts ks k fs w t i j p′ r′, ends ks k fs w t i j p′ r′, length-take-le (length s - 4) s (omega arith)), its-bytes ks k fs w t i j p′ r′))
+      (λ t. absurd (omega (arith, sym (rw (T-false (between 1 (length fs) wanted) t) at z))))
+  there-said (refused zero f) ks w a q z i j p r = absurd w
+  there-said (refused (suc m) f) ks w a q z i j p r = absurd (omega arith)
+
+  module _ (o : Outcome) (ks : List Kind) (w : Within ks s o) (a : Answer) (q : a ≡ answerOf o) (n : ℕ) (e : n ≡ wantedNo o wanted) where
+    pub place-none : (n ≡ 0 → ⊥) → Placed o wanted s (record { no = n; field = a .field; start = 0; len = 0 })
+    place-none z = let h = nowhere o (λ (y : wantedNo o wanted ≡ 0). z (e ∙ y)) in placed o n (a .field) 0 0 e (the-place o a q) (h .0) (omega arith) (h .1)
+
+    -- i and j are the start and the end as the code has them
+    pub place-there : n ≡ 0 → (i j : ℕ) → i ≡ partStart (markOf (a .kind)) (body s) wanted → j ≡ nextMark (markOf (a .kind)) (body s) i
+        → Placed o wanted s (record { no = n; field = a .field; start = i; len = j - i })
+    place-there z i j p r = let h = there-said o ks w a q (sym e ∙ z) i j p r in placed o n (a .field) i (j - i) e (the-place o a q) (h .0) (h .1) (h .2)
+
+-- ---- the part at a place
+
+pub field-said : {o : Outcome} {wanted : ℕ} {s part : Bytes} {no field : ℕ} {at : Place} → Placed o wanted s at → Handed at s part no field → FieldSaid o wanted part no field
+field-said p h = record { its-part = h .its-part ∙ p .bytes; its-no = h .its-no ∙ ap (λ (x : Place). x .no) (p .said); its-field = h .its-field ∙ ap (λ (x : Place). x .field) (p .said) }

@@ -2,39 +2,26 @@
 -- those that stand in it, as many as its kind has.
 -- Assumes nothing.
 use Prim.Native.Nat.{ℕ, zero, suc}
-use mathlib.Core.Path.{_≡_, refl, ap, sym, subst}
-use mathlib.Core.Bool.{Bool, true, false, cond, _&&_, _||_}
-use mathlib.Core.Option.{Option, none, some, Option·some-injective, Option·none-ne-some}
+use mathlib.Core.Path.{_≡_, refl, ap}
+use mathlib.Core.Bool.{Bool, true, false, _&&_}
+use mathlib.Core.Option.{Option, none, some}
 use mathlib.Core.List.{List, [], _∷_}
 use native.Mathlib.Omega.{arith}
 use lib.ListN.{length}
-use lib.Dec.{T, leb, eqb, eqb-refl}
-use mir.Facts.{yes-and}
+use lib.Dec.{T, leb, eqb, eqb→eq}
+use mir.Facts.{and-yes}
 use borrow.Author.Tests.{eqb-true}
 use Rattle.crc16.specs.Crc.{crcOf}
 use Rattle.text.specs.Text.{Bytes, same, isHex}
 use Rattle.text.specs.Base16.{checkText}
-use Rattle.text.proofs.Tests.{or-left, or-right}
 use Rattle.format.specs.Kinds.{Kind, Field, name, mark, fieldsOf, identityKinds, recordKinds, among}
 use Rattle.format.specs.Read.{Outcome, accepted, refused, provided, passing, title, markAfter, kindIn, ofKind, body, check, lastOr, fieldsIn, fieldAnswer, each, wholeAnswer, judged, readAs, readOver, readIdentity, readOf, readRecord}
+use Rattle.format.proofs.Table.{kindIn-some}
+use Rattle.format.proofs.Parts.{found-parts}
 use Rattle.table.specs.Table.{rowOf}
 use Rattle.reading.specs.Reading.{answerOf}
 use Rattle.reading.specs.Steps.{noInner, Inside, Within}
 use Rattle.reading.specs.declared.Answer.{Answer}
-
--- ---- the kind is one of those that are read
-
-same-self : (s : Bytes) → T (same s s)
-same-self [] = tt
-same-self (c ∷ s) = yes-and (eqb c c) (same s s) (eqb-refl c) (same-self s)
-
-pub kind-among : (ks : List Kind) (t : Bytes) (m : ℕ) (k : Kind) → kindIn ks t m ≡ some k → T (among k ks)
-kind-among [] t m k e = absurd (Option·none-ne-some k e)
-kind-among (j ∷ ks) t m k e = go (same t (name j) && eqb m (mark j)) (kind-among ks t m k) e
-  where
-    go : (b : Bool) → (kindIn ks t m ≡ some k → T (among k ks)) → cond b (some j) (kindIn ks t m) ≡ some k → T (same (name k) (name j) || among k ks)
-    go true r z = or-left (same (name k) (name j)) (among k ks) (subst (λ (x : Kind). T (same (name k) (name x))) (sym (Option·some-injective j k z)) (same-self (name k)))
-    go false r z = or-right (same (name k) (name j)) (among k ks) (r z)
 
 -- ---- each test keeps what is told
 
@@ -53,15 +40,20 @@ module _ (ks : List Kind) (s : Bytes) where
     each-within i (t ∷ ts) [] o h = h
     each-within i (t ∷ ts) (f ∷ fs) o h = passing-within (fieldAnswer ask t f) i _ (each-within (suc i) ts fs o h)
 
-    as-within : (k : Kind) → T (among k ks) → Within ks s (readAs ask s k)
+    as-within : (k : Kind) → T (among k ks) × (title s ≡ name k) × (markAfter s ≡ mark k) → Within ks s (readAs ask s k)
     unfolding readAs judged
-    as-within k a =
+    as-within k known =
         provided-within (isHex 4 (check s) && eqb (lastOr 0 (body s)) (mark k)) 2 _ (λ h.
         provided-within (same (check s) (checkText (crcOf (body s)))) 3 _ (λ h′.
         provided-within (eqb (length (fieldsIn k s)) (length (fieldsOf k))) 4 _ (λ e.
         each-within 1 (fieldsOf k) (fieldsIn k s) _ (
         passing-within (wholeAnswer k (fieldsIn k s)) 0 (accepted k (fieldsIn k s))
-        record { of-kind = a; its-fields = refl; its-count = eqb-true (length (fieldsIn k s)) (length (fieldsOf k)) e }))))
+        record {
+          of-kind = known .0;
+          its-fields = refl;
+          its-parts = found-parts k s (known .1) (known .2) (eqb→eq (lastOr 0 (body s)) (mark k) (and-yes (isHex 4 (check s)) (eqb (lastOr 0 (body s)) (mark k)) (rw h tt) .1));
+          its-count = eqb-true (length (fieldsIn k s)) (length (fieldsOf k)) e;
+        }))))
 
     pub over-within : Within ks s (readOver ask ks s)
     unfolding readOver
@@ -69,7 +61,7 @@ module _ (ks : List Kind) (s : Bytes) where
       where
         go : (o : Option Kind) → kindIn ks (title s) (markAfter s) ≡ o → Within ks s (ofKind o (readAs ask s))
         go none e = tt
-        go (some k) e = as-within k (kind-among ks (title s) (markAfter s) k e)
+        go (some k) e = as-within k (kindIn-some ks (title s) (markAfter s) k e)
 
 -- ---- the calls
 

@@ -3,15 +3,16 @@
 use Prim.Native.Nat.{ℕ, zero, suc}
 use mathlib.Core.Path.{_≡_}
 use mathlib.Core.Bool.{cond}
-use mathlib.Core.List.{List}
-use lib.ListN.{length, drop}
+use mathlib.Core.List.{List, _∷_}
+use lib.ListN.{length, take, drop}
 use lib.Dec.{T, eqb}
 use Rattle.text.specs.Text.{Bytes, TextType, Ident}
 use Rattle.format.specs.Numbers.{noKind, wrongCount}
-use Rattle.format.specs.Kinds.{Kind, Field, Text, Identity, OrEmpty, fieldsOf, among}
+use Rattle.format.specs.Kinds.{Kind, Field, Text, Identity, OrEmpty, name, mark, fieldsOf, among}
 use Rattle.format.specs.Read.{Outcome, accepted, refused, passing, body, cut, fieldsIn, each}
 use Rattle.frame.specs.Frame.{checkNo}
 use Rattle.table.specs.Table.{noRow, markOf, countOf, fieldsAt}
+use Rattle.reading.specs.declared.Place.{Place}
 
 -- an identity has no identity in it
 abbrev pub noInner : Bytes → Outcome
@@ -43,9 +44,16 @@ pub record FirstRefused (ask : Bytes → Outcome) (row : ℕ) (fs : List Bytes) 
 pub record Inside (ks : List Kind) (s : Bytes) (k : Kind) (fs : List Bytes) : Type 0 where
   pub of-kind : T (among k ks)
   pub its-fields : fs ≡ fieldsIn k s
+  pub its-parts : cut (mark k) (body s) ≡ name k ∷ fs
   pub its-count : length fs ≡ length (fieldsOf k)
 
 abbrev pub Within : List Kind → Bytes → Outcome → Type 0
 Within ks s (accepted k fs) = Inside ks s k fs
 Within ks s (refused zero i) = ⊥
 Within ks s (refused (suc n) i) = Unit {0}
+
+-- the part of s at a place, and the place's numbers
+pub record Handed (at : Place) (s part : Bytes) (no field : ℕ) : Type 0 where
+  pub its-part : part ≡ take (at .len) (drop (at .start) s)
+  pub its-no : no ≡ at .no
+  pub its-field : field ≡ at .field

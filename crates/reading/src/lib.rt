@@ -4,7 +4,7 @@
 ghost use mathlib.Core.Path.{_≡_};
 ghost use mathlib.Core.Bool.{cond, _&&_};
 ghost use mathlib.Core.List.{List};
-ghost use Prim.Native.Nat.{_<_};
+ghost use Prim.Native.Nat.{_+_, _<_, _≤_};
 ghost use lib.ListN.{length};
 ghost use Rattle.text.specs.Text.{Bytes, isOf};
 ghost use Rattle.format.specs.Numbers.{wrongText};
@@ -13,8 +13,8 @@ ghost use Rattle.format.specs.Build.{empty};
 ghost use Rattle.format.specs.Read.{Outcome, accepted, refused, passing, fieldAnswer, identityAnswer, readIdentity, readOf, readRecord};
 ghost use Rattle.table.specs.Table.{rowOf, countOf, markOf, fieldType, mayBeEmpty, permitted, kindsFrom};
 ghost use Rattle.frame.specs.Frame.{partOf};
-ghost use Rattle.reading.specs.Reading.{answerOf, wantedNo, FieldSaid, wholeNo};
-ghost use Rattle.reading.specs.Steps.{noInner, fieldsBy, formNo, textIn, FirstRefused, Within};
+ghost use Rattle.reading.specs.Reading.{answerOf, wantedNo, FieldSaid, Placed, wholeNo};
+ghost use Rattle.reading.specs.Steps.{noInner, fieldsBy, formNo, textIn, FirstRefused, Within, Handed};
 
 // ---- the numbers given back; frame has 3 and 4
 
@@ -44,6 +44,14 @@ pub struct Answer {
     pub no: u8,
     pub field: u8,
     pub kind: usize,
+}
+
+// Where a field stands in the caller's bytes: its start and its length, both 0 with a refusal.
+pub struct Place {
+    pub no: u8,
+    pub field: u8,
+    pub start: usize,
+    pub len: usize,
 }
 
 // The first field that is refused; both are 0 where none is.
@@ -306,27 +314,65 @@ fn wanted_no(answer: Answer, wanted: usize) -> u8
     ACCEPTED
 }
 
-// The wanted field of s, to which a reading call gave this answer.
-fn field_from<'a>(
-    answer: Answer,
-    s: &'a [u8],
-    wanted: usize,
-    no: &mut u8,
-    field: &mut u8,
-) -> &'a [u8]
-    ensures { λ r. ⌜ ((o : Outcome) (ks : List Kind) → Within ks (now (s .entry)) o → answer ≡ answerOf o → FieldSaid o wanted (now r) (now (no .exit)) (now (field .exit))) ⌝ }
+// Where the wanted field of s stands, to which a reading call gave this answer.
+fn place_from(answer: Answer, s: &[u8], wanted: usize) -> Place
+    ensures { λ r. ⌜ ((o : Outcome) (ks : List Kind) → Within ks (now (s .entry)) o → answer ≡ answerOf o → Placed o wanted (now (s .entry)) r) ⌝ }
 {
-    *field = answer.field;
-    let told = wanted_no(answer, wanted);
-    *no = told;
-    if told != ACCEPTED {
-        return &s[0..0];
+    let no = wanted_no(answer, wanted);
+    if no != ACCEPTED {
+        return Place {
+            no,
+            field: answer.field,
+            start: 0,
+            len: 0,
+        };
     }
-    frame::part(table::mark_of(answer.kind), frame::body_of(s), wanted)
+    let mark = table::mark_of(answer.kind);
+    let body = frame::body_of(s);
+    let start = frame::part_start(mark, body, wanted);
+    let end = frame::next_mark(mark, body, start);
+    Place {
+        no,
+        field: answer.field,
+        start,
+        len: end - start,
+    }
 }
 
-// The wanted field of an identity, counted from 1, as a part of the caller's own bytes; `no` and `field` are the numbers
-// that `read_identity` answers. A number that the kind hasn't is 12, after every other. With a refusal the part is empty.
+// Where the wanted field of an identity stands, counted from 1; number and field number are those that `read_identity`
+// answers. A number that the kind hasn't is 12, after every other. With a refusal start and length are 0.
+pub fn identity_place(identity: &[u8], wanted: usize) -> Place
+    ensures { λ r. ⌜ Placed (readIdentity (now (identity .entry))) wanted (now (identity .entry)) r ⌝ }
+{
+    place_from(read_identity(identity), identity, wanted)
+}
+
+fn place_of(from: usize, to: usize, record: &[u8], wanted: usize) -> Place
+    ensures { λ r. ⌜ Placed (readOf (kindsFrom from to) (now («record» .entry))) wanted (now («record» .entry)) r ⌝ }
+{
+    place_from(read_of(from, to, record), record, wanted)
+}
+
+// The same of a record of any of the four record kinds.
+pub fn record_place(record: &[u8], wanted: usize) -> Place
+    ensures { λ r. ⌜ Placed (readRecord (now («record» .entry))) wanted (now («record» .entry)) r ⌝ }
+{
+    place_of(table::ECDSA, table::NONE, record, wanted)
+}
+
+// The part of s at this place, and the place's numbers.
+fn part_at<'a>(place: Place, s: &'a [u8], no: &mut u8, field: &mut u8) -> &'a [u8]
+    requires { ⌜ place .start + place .len ≤ length (now s) ⌝ }
+    ensures { λ r. ⌜ Handed place (now (s .entry)) (now r) (now (no .exit)) (now (field .exit)) ⌝ }
+{
+    *no = place.no;
+    *field = place.field;
+    let start = place.start;
+    let end = start + place.len;
+    &s[start..end]
+}
+
+// The field that stands there, as a part of the caller's own bytes; with a refusal an empty one.
 pub fn identity_field<'a>(
     identity: &'a [u8],
     wanted: usize,
@@ -335,7 +381,7 @@ pub fn identity_field<'a>(
 ) -> &'a [u8]
     ensures { λ r. ⌜ FieldSaid (readIdentity (now (identity .entry))) wanted (now r) (now (no .exit)) (now (field .exit)) ⌝ }
 {
-    field_from(read_identity(identity), identity, wanted, no, field)
+    part_at(identity_place(identity, wanted), identity, no, field)
 }
 
 // The same of a record, with the numbers that `read_of` answers.
@@ -349,7 +395,7 @@ pub fn field_of<'a>(
 ) -> &'a [u8]
     ensures { λ r. ⌜ FieldSaid (readOf (kindsFrom from to) (now («record» .entry))) wanted (now r) (now (no .exit)) (now (field .exit)) ⌝ }
 {
-    field_from(read_of(from, to, record), record, wanted, no, field)
+    part_at(place_of(from, to, record, wanted), record, no, field)
 }
 
 // The same of a record of any of the four record kinds.

@@ -1,21 +1,18 @@
--- `reading::identity_field` meets its contract.
+-- `reading::identity_field` meets its contract: the part at its place.
 -- Assumes nothing.
-use denote.Ref.{now}
-use Rattle.format.specs.Kinds.{identityKinds}
-use Rattle.format.specs.Read.{readIdentity}
-use Rattle.reading.proofs.Within.{identity-within}
+use Rattle.reading.proofs.Wanted.{field-said}
 use borrow.Author.Needs.{needs}
 use Rattle.reading.proofs.identity_field.Statement.{statement}
 use Rattle.reading.proofs.identity_field.Tie as tie
 
-read-identity-requires : tie.Need-read-identity-requires
-read-identity-requires c κs = search needs
+identity-place-requires : tie.Need-identity-place-requires
+identity-place-requires c κs = search needs
 
-field-from-requires : tie.Need-field-from-requires
-field-from-requires c κs = search needs
+part-at-requires : tie.Need-part-at-requires
+part-at-requires c κs = search needs
 
 returns : tie.Need-returns
-returns c = let s = now (c .before .before .before .before .before .args .identity) in c .field-from .ensures (readIdentity s) identityKinds (identity-within s) (c .before .before .before .read-identity .ensures)
+returns c = field-said (c .before .before .before .identity-place .ensures) (c .part-at .ensures)
 
 pub identity-field-spec : {M : Type 1} → statement M
-identity-field-spec = tie.close (tie.spec read-identity-requires field-from-requires returns)
+identity-field-spec = tie.close (tie.spec identity-place-requires part-at-requires returns)
