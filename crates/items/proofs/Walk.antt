@@ -9,17 +9,31 @@ use native.Mathlib.Omega.{arith}
 use native.Mathlib.Numerals.{add-one}
 use lib.Dec.{leb, ltb, ltb→lt, nltb→le}
 use lib.ListN.{length, take, drop, getD, length-drop, drop-of-length-le}
-use lib.Seq.{drop-cons, drop-drop}
+use lib.Seq.{drop-cons, drop-drop, length-take-le}
 use borrow.Author.Tests.{le-leb, lt-leb}
 use Rattle.text.specs.Text.{Bytes}
 use Rattle.text.proofs.Tests.{by-test}
-use Rattle.items.specs.Items.{after, itemsIn, itemsOf, nth, nthOf, textItem}
-use Rattle.items.specs.Span.{nowhere, Spans}
-use Rattle.items.specs.declared.Span.{Span}
+use Rattle.items.specs.Items.{after, itemsIn, itemsOf, nthOf, textItem, numberOf, Handed}
+use Rattle.items.specs.Place.{behind, nowhere, placeFrom, Placed}
+use Rattle.items.specs.declared.Place.{Place}
 
-pub spans-none : {s : Bytes} {w : ℕ} (r : Span) → r ≡ nowhere → textItem s w ≡ none → Spans s w r
-spans-none {s} {w} r q e =
-    subst (Spans s w) (sym q) (record { up = omega arith; inside = omega arith; bytes = rw e; number = rw e })
+-- ---- the answer
+
+pub placed-none : {s : Bytes} {w : ℕ} (r : Place) → r ≡ nowhere → textItem s w ≡ none → Placed s w r
+placed-none {s} {w} r q e = subst (Placed s w) (sym q) (record { said = rw e; inside = omega arith; bytes = rw e })
+
+pub handed : {s : Bytes} {w : ℕ} (r : Place) → Placed s w r
+    → Handed (textItem s w) (take (r .start + r .len - r .start) (drop (r .start) s)) (r .no)
+handed {s} {w} r h = record {
+  part-so = rw (let e : r .start + r .len - r .start ≡ r .len = omega arith in e) (h .bytes);
+  number-so = ap (λ (x : Place). x .no) (h .said) ∙ go _ (textItem s w);
+}
+  where
+    go : (p : ℕ) (o : Option Bytes) → placeFrom p o .no ≡ numberOf o
+    go p none = refl
+    go p (some i) = refl
+
+-- ---- the walk
 
 pub no-text : (s : Bytes) (w : ℕ) → length s ≡ 0 → textItem s w ≡ none
 unfolding textItem
@@ -40,26 +54,28 @@ abbrev given : Bytes → Option (List Bytes) → Option Bytes
 given x none = none
 given x (some is) = some x
 
--- i of n items are passed, and place p is reached; item w, if it is among them, stands from a to e
-pub record Walked (s : Bytes) (w n i p a e : ℕ) : Type 0 where
+-- i of n items are passed, and place p is reached; item w, if it is among them, has its length at place f
+pub record Walked (s : Bytes) (w n i p f : ℕ) : Type 0 where
   pub wanted : 1 ≤ w
   pub inside : i ≤ n
   pub place : p ≤ length s
+  pub reached : p ≡ behind i s
   pub early : i < w → textItem s w ≡ nthOf (w - i) (itemsIn (n - i) (drop p s))
-  pub up : a ≤ e
-  pub end : e ≤ length s
-  pub late : w ≤ i → textItem s w ≡ given (take (e - a) (drop a s)) (itemsIn (n - i) (drop p s))
+  pub there : w ≤ i → f ≡ behind (w - 1) s
+  pub end : w ≤ i → f + 1 + getD s f 0 ≤ length s
+  pub late : w ≤ i → textItem s w ≡ given (take (getD s f 0) (drop (f + 1) s)) (itemsIn (n - i) (drop p s))
 
-pub walked-none : (s : Bytes) (w : ℕ) → (length s ≡ 0 → ⊥) → (w ≡ 0 → ⊥) → Walked s w (getD s 0 0) 0 1 0 0
-unfolding textItem
+pub walked-none : (s : Bytes) (w : ℕ) → (length s ≡ 0 → ⊥) → (w ≡ 0 → ⊥) → Walked s w (getD s 0 0) 0 1 0
+unfolding textItem behind
 walked-none [] w h z = absurd (h refl)
 walked-none (n ∷ s) w h z = record {
   wanted = omega (arith, z);
   inside = omega arith;
   place = omega arith;
+  reached = refl;
   early = λ k. rw (let e : w - 0 ≡ w = omega arith in e, let e : n - 0 ≡ n = omega arith in e);
-  up = omega arith;
-  end = omega arith;
+  there = λ k. absurd (omega (arith, z));
+  end = λ k. absurd (omega (arith, z));
   late = λ k. absurd (omega (arith, z));
 }
 
@@ -85,7 +101,7 @@ item-at : (s : Bytes) (k m p : ℕ) → k ≡ suc m → p < length s
     → itemsIn k (drop p s) ≡ cond (leb (getD s p 0) (length (drop (p + 1) s))) (after (take (getD s p 0) (drop (p + 1) s)) (itemsIn m (drop (p + 1 + getD s p 0) s))) none
 item-at s k m p e h = rw (e, drop-cons s p 0 h, add-one, drop-drop)
 
-module _ {s : Bytes} {w n i p a e : ℕ} (d : Walked s w n i p a e) where
+module _ {s : Bytes} {w n i p f : ℕ} (d : Walked s w n i p f) where
   -- where the rest has no items, there is no answer
   broken : itemsIn (n - i) (drop p s) ≡ none → textItem s w ≡ none
   broken z = by-test (ltb i w) (λ t. d .early (ltb→lt i w t) ∙ rw z) (λ t. d .late (nltb→le i w t) ∙ rw z)
@@ -106,40 +122,47 @@ module _ {s : Bytes} {w n i p a e : ℕ} (d : Walked s w n i p a e) where
   pub too-few : n ≤ i → length s ≤ p → n < w → textItem s w ≡ none
   too-few h k z = d .early (omega arith) ∙ rw (last h k) (nth-none (w - i))
 
-  pub found : n ≤ i → length s ≤ p → w ≤ n → Spans s w (record { no = 0; start = a; end = e })
+  pub found : n ≤ i → length s ≤ p → w ≤ n → Placed s w (record { no = 0; start = f + 1; len = getD s f 0 })
   found h k z =
-      let x : textItem s w ≡ some (take (e - a) (drop a s)) = d .late (omega arith) ∙ rw (last h k) in
-      record { up = d .up; inside = d .end; bytes = rw x; number = rw x }
+      let x : textItem s w ≡ some (take (getD s f 0) (drop (f + 1) s)) = d .late (omega arith) ∙ rw (last h k) in
+      let l = length-take-le (getD s f 0) (drop (f + 1) s) (omega (arith, d .end (omega arith), length-drop (f + 1) s)) in
+      record { said = rw (x, l, d .there (omega arith)); inside = d .end (omega arith); bytes = rw x }
 
   module _ (h : i < n) (k : p < length s) (y : getD s p 0 ≤ length s - (p + 1)) where
     passed : itemsIn (n - i) (drop p s) ≡ after (take (getD s p 0) (drop (p + 1) s)) (itemsIn (n - (i + 1)) (drop (p + 1 + getD s p 0) s))
     passed =
         item-at s (n - i) (n - (i + 1)) p (omega arith) k ∙ rw (le-leb (getD s p 0) (length (drop (p + 1) s)) (omega (arith, length-drop (p + 1) s)))
 
+    reached-next : p + 1 + getD s p 0 ≡ behind (i + 1) s
+    unfolding behind
+    reached-next = ap (λ (q : ℕ). q + 1 + getD s q 0) (d .reached) ∙ ap (λ (j : ℕ). behind j s) (sym (add-one i))
+
     -- item i + 1 is not the wanted one
-    pub walked-more : (i + 1 ≡ w → ⊥) → Walked s w n (i + 1) (p + 1 + getD s p 0) a e
+    pub walked-more : (i + 1 ≡ w → ⊥) → Walked s w n (i + 1) (p + 1 + getD s p 0) f
     walked-more z = record {
       wanted = d .wanted;
       inside = omega arith;
       place = omega arith;
+      reached = reached-next;
       early = λ q.
           d .early (omega arith) ∙ ap (nthOf (w - i)) passed
           ∙ rw (let e : w - i ≡ suc (suc (w - (i + 2))) = omega arith in e, nth-later, let e : w - (i + 1) ≡ suc (w - (i + 2)) = omega arith in e);
-      up = d .up;
-      end = d .end;
+      there = λ q. d .there (omega (arith, z));
+      end = λ q. d .end (omega (arith, z));
       late = λ q. d .late (omega (arith, z)) ∙ rw (passed, given-after);
     }
 
     -- item i + 1 is the wanted one
-    pub walked-there : i + 1 ≡ w → Walked s w n (i + 1) (p + 1 + getD s p 0) (p + 1) (p + 1 + getD s p 0)
+    pub walked-there : i + 1 ≡ w → Walked s w n (i + 1) (p + 1 + getD s p 0) p
     walked-there z = record {
       wanted = d .wanted;
       inside = omega arith;
       place = omega arith;
+      reached = reached-next;
       early = λ q. absurd (omega arith);
-      up = omega arith;
-      end = omega arith;
+      there = λ q. d .reached ∙ ap (λ (j : ℕ). behind j s) (omega arith);
+      end = λ q. omega arith;
       late = λ q.
           d .early (omega arith) ∙ ap (nthOf (w - i)) passed
-          ∙ rw (let e : w - i ≡ 1 = omega arith in e, nth-here, let e : p + 1 + getD s p 0 - (p + 1) ≡ getD s p 0 = omega arith in e);
+          ∙ rw (let e : w - i ≡ 1 = omega arith in e, nth-here);
     }

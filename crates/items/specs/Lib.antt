@@ -1,2 +1,2 @@
 pub mod Items
-pub mod Span
+pub mod Place

@@ -1,30 +1,31 @@
 // Key agreement texts as lists of items (STS 600-4-2, clause 5.6): the number of items, then of each its length and its bytes.
 ghost use mathlib.Core.Path.{_≡_};
 ghost use Rattle.items.specs.Items.{textItem, Handed};
-ghost use Rattle.items.specs.Span.{nowhere, Spans};
+ghost use Rattle.items.specs.Place.{nowhere, Placed};
 
 const NO_ITEM: u8 = 12;
 
-// Where an item stands, from start to before end; with number 12, nowhere.
-struct Span {
-    no: u8,
-    start: usize,
-    end: usize,
+// Where an item stands in its text: number 0, its start and its length. With number 12: nowhere, both 0.
+pub struct Place {
+    pub no: u8,
+    pub start: usize,
+    pub len: usize,
 }
 
-fn missing() -> Span
+fn missing() -> Place
     ensures { λ r. ⌜ r ≡ nowhere ⌝ }
 {
-    Span {
+    Place {
         no: NO_ITEM,
         start: 0,
-        end: 0,
+        len: 0,
     }
 }
 
+// The place of the item of a wanted number, counted from 1, for callers that cannot take a part of the text.
 // Walks over all items, so that a text that is too short or too long is found out whichever item is wanted.
-fn find(text: &[u8], wanted: usize) -> Span
-    ensures { λ r. ⌜ Spans (now (text .entry)) wanted r ⌝ }
+pub fn item_place(text: &[u8], wanted: usize) -> Place
+    ensures { λ r. ⌜ Placed (now (text .entry)) wanted r ⌝ }
 {
     if text.len() == 0 {
         return missing();
@@ -35,8 +36,8 @@ fn find(text: &[u8], wanted: usize) -> Span
     let n = text[0] as usize;
     let mut i = 0;
     let mut at = 1;
-    let mut start = 0;
-    let mut end = 0;
+    // where the wanted item's length stands, once the walk has passed it
+    let mut found = 0;
     while i < n {
         if text.len() <= at {
             return missing();
@@ -46,11 +47,11 @@ fn find(text: &[u8], wanted: usize) -> Span
         if text.len() - from < len {
             return missing();
         }
+        let here = at;
         i += 1;
         at = from + len;
         if i == wanted {
-            start = from;
-            end = at;
+            found = here;
         }
     }
     if at < text.len() {
@@ -59,7 +60,9 @@ fn find(text: &[u8], wanted: usize) -> Span
     if n < wanted {
         return missing();
     }
-    Span { no: 0, start, end }
+    let start = found + 1;
+    let len = text[found] as usize;
+    Place { no: 0, start, len }
 }
 
 // The item of a wanted number, counted from 1, as a part of the text, with number 0. Where the bytes have not the form of a
@@ -67,9 +70,9 @@ fn find(text: &[u8], wanted: usize) -> Span
 pub fn text_item<'a>(text: &'a [u8], wanted: usize, no: &mut u8) -> &'a [u8]
     ensures { λ r. ⌜ Handed (textItem (now (text .entry)) wanted) (now r) (now (no .exit)) ⌝ }
 {
-    let span = find(text, wanted);
-    let start = span.start;
-    let end = span.end;
-    *no = span.no;
+    let place = item_place(text, wanted);
+    let start = place.start;
+    let end = start + place.len;
+    *no = place.no;
     &text[start..end]
 }
