@@ -16,7 +16,8 @@ use Rattle.reading.specs.Reading.{answerOf}
 use Rattle.reading.specs.Steps.{Within}
 use Rattle.reading.specs.declared.Answer.{Answer}
 use Rattle.reading.proofs.Within.{of-within, taken, untaken}
-use Rattle.newer.specs.Newer.{alike, after, later, Choice, theFirst, theSecond, denied, byRecords, newer, choicePart, choiceNo, Chosen}
+use Rattle.newer.specs.Newer.{alike, after, later, Decision, theFirst, theSecond, denied, byRecords, newer, choiceNo, choiceWhich, choiceSaid, choicePart, Chosen}
+use Rattle.newer.specs.declared.Choice.{Choice}
 use Rattle.newer.specs.Keys.{Key, gntOf}
 use Rattle.newer.specs.Steps.{inTurn, subjectIn, gntIn, alikeTexts, Numbered}
 use Rattle.newer.proofs.Later.{timestamp-looks, later-by-bytes}
@@ -66,7 +67,7 @@ module _ (a b : Bytes) where
     abbrev agree : Bool
     agree = alike (p .who) (p .names) (q .who) (q .names)
 
-    abbrev by-gnt : Choice
+    abbrev by-gnt : Decision
     by-gnt = cond (later (gntOf q) (gntOf p)) theSecond theFirst
 
     both-read : both ≡ accepted (q .kind) (q .fields)
@@ -134,19 +135,44 @@ module _ (a b : Bytes) where
     by-bytes : newer a b ≡ cond (after (gntIn b) (gntIn a)) theSecond theFirst
     by-bytes = chosen-later (chosen-keys .0) (chosen-keys .1) ∙ rw (later-keys (chosen-keys .0) (chosen-keys .1))
 
-  -- ---- the part handed back
-
-  none-chosen : (c : Choice) (n i : ℕ) → Numbered c n i → (n ≡ 0 → ⊥) → Chosen c a b [] n i
-  none-chosen theFirst n i h z = absurd (z (h .its-no))
-  none-chosen theSecond n i h z = absurd (z (h .its-no))
-  none-chosen (denied m j) n i h z = record { part-so = refl; number-so = h .its-no; field-so = h .its-field }
+  -- ---- which is the newer
 
   module _ (n i : ℕ) (h : Numbered (newer a b) n i) where
-    pub chosen-none : (n ≡ 0 → ⊥) → Chosen (newer a b) a b [] n i
-    chosen-none = none-chosen (newer a b) n i h
+    said : (w : ℕ) → w ≡ choiceWhich (newer a b) → record { no = n; field = i; which = w } ≡ choiceSaid (newer a b)
+    said w e = rw (h .its-no, h .its-field, e)
 
-    pub chosen-one : n ≡ 0 → (l : Bool) → after (gntIn b) (gntIn a) ≡ l
-        → Chosen (newer a b) a b (choicePart (cond l theSecond theFirst) a b) n i
-    chosen-one z l e =
-        let c : newer a b ≡ cond l theSecond theFirst = by-bytes (sym (h .its-no) ∙ z) ∙ rw e in
-        record { part-so = sym (ap (λ (x : Choice). choicePart x a b) c); number-so = h .its-no; field-so = h .its-field }
+    pub said-neither : (n ≡ 0 → ⊥) → record { no = n; field = i; which = 0 } ≡ choiceSaid (newer a b)
+    said-neither z = said 0 (go (newer a b) (λ e. z (h .its-no ∙ e)))
+      where
+        go : (c : Decision) → (choiceNo c ≡ 0 → ⊥) → 0 ≡ choiceWhich c
+        go theFirst y = absurd (y refl)
+        go theSecond y = absurd (y refl)
+        go (denied m j) y = refl
+
+    pub said-one : n ≡ 0 → (l : Bool) → after (gntIn b) (gntIn a) ≡ l
+        → record { no = n; field = i; which = choiceWhich (cond l theSecond theFirst) } ≡ choiceSaid (newer a b)
+    said-one z l e = said _ (rw (by-bytes (sym (h .its-no) ∙ z), e))
+
+  -- ---- the part handed back
+
+  chosen : (c : Decision) (r : Choice) → r ≡ choiceSaid c → Chosen c a b (choicePart c a b) (r .no) (r .field)
+  chosen c r e = rw e (record { part-so = refl; number-so = refl; field-so = refl })
+
+  which-so : (c : Decision) (r : Choice) → r ≡ choiceSaid c → r .which ≡ choiceWhich c
+  which-so c r e = ap (λ (x : Choice). x .which) e
+
+  pub chosen-first : (c : Decision) (r : Choice) → r ≡ choiceSaid c → r .which ≡ 1 → Chosen c a b a (r .no) (r .field)
+  chosen-first theFirst r e t = chosen theFirst r e
+  chosen-first theSecond r e t = absurd (omega (arith, which-so theSecond r e))
+  chosen-first (denied n i) r e t = absurd (omega (arith, which-so (denied n i) r e))
+
+  pub chosen-second : (c : Decision) (r : Choice) → r ≡ choiceSaid c → r .which ≡ 2 → Chosen c a b b (r .no) (r .field)
+  chosen-second theFirst r e t = absurd (omega (arith, which-so theFirst r e))
+  chosen-second theSecond r e t = chosen theSecond r e
+  chosen-second (denied n i) r e t = absurd (omega (arith, which-so (denied n i) r e))
+
+  pub chosen-none : (c : Decision) (r : Choice) → r ≡ choiceSaid c → (r .which ≡ 1 → ⊥) → (r .which ≡ 2 → ⊥)
+      → Chosen c a b [] (r .no) (r .field)
+  chosen-none theFirst r e y z = absurd (y (which-so theFirst r e))
+  chosen-none theSecond r e y z = absurd (z (which-so theSecond r e))
+  chosen-none (denied n i) r e y z = chosen (denied n i) r e

@@ -14,7 +14,7 @@ use Rattle.text.specs.Text.{Bytes, same, isTimestamp}
 use Rattle.text.proofs.Tests.{T-true, T-false, by-test, same→eq, same-refl}
 use Rattle.format.specs.Kinds.{name}
 use Rattle.format.proofs.Table.{name-inj}
-use Rattle.newer.specs.Newer.{manufacturer, instant, later, Choice, theFirst, theSecond, denied, newer, choicePart, choiceNo, Chosen}
+use Rattle.newer.specs.Newer.{manufacturer, instant, later, Decision, theFirst, theSecond, denied, newer, choicePart, choiceNo, Chosen}
 use Rattle.newer.specs.Keys.{Key, gntOf, Agreed}
 use Rattle.newer.proofs.Order.{after-itself, after-one-way, after-neither}
 use Rattle.newer.proofs.Later.{timestamp-looks, later-by-bytes}
@@ -73,14 +73,14 @@ module _ (a b part : Bytes) (n i : ℕ) (c : Chosen (newer a b) a b part n i) wh
   pub refused-empty : (n ≡ 0 → ⊥) → part ≡ []
   refused-empty z = c .part-so ∙ go (newer a b) (λ e. z (c .number-so ∙ e))
     where
-      go : (d : Choice) → (choiceNo d ≡ 0 → ⊥) → choicePart d a b ≡ []
+      go : (d : Decision) → (choiceNo d ≡ 0 → ⊥) → choicePart d a b ≡ []
       go theFirst h = absurd (h refl)
       go theSecond h = absurd (h refl)
       go (denied m j) h = refl
 
   module _ (z : n ≡ 0) (p : Key a) (q : Key b) where
     by-gnt : part ≡ choicePart (cond (later (gntOf q) (gntOf p)) theSecond theFirst) a b
-    by-gnt = c .part-so ∙ ap (λ (d : Choice). choicePart d a b) (chosen-later a b (sym (c .number-so) ∙ z) p q)
+    by-gnt = c .part-so ∙ ap (λ (d : Decision). choicePart d a b) (chosen-later a b (sym (c .number-so) ∙ z) p q)
 
     pub not-earlier : ((part ≡ a) × (later (gntOf q) (gntOf p) ≡ false)) ⊎ ((part ≡ b) × (later (gntOf p) (gntOf q) ≡ false))
     not-earlier =
@@ -103,7 +103,7 @@ denied-number a b n i e z =
     go false h = let o : _≡_ {A = ℕ} 0 1 = cc in omega arith
 
 -- the contract allows one result
-pub one-result : (d : Choice) (a b part part′ : Bytes) (n n′ i i′ : ℕ) → Chosen d a b part n i → Chosen d a b part′ n′ i′
+pub one-result : (d : Decision) (a b part part′ : Bytes) (n n′ i i′ : ℕ) → Chosen d a b part n i → Chosen d a b part′ n′ i′
     → (part ≡ part′) × (n ≡ n′) × (i ≡ i′)
 one-result d a b part part′ n n′ i i′ c c′ =
     (c .part-so ∙ sym (c′ .part-so), c .number-so ∙ sym (c′ .number-so), c .field-so ∙ sym (c′ .field-so))

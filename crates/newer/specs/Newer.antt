@@ -11,6 +11,7 @@ use Rattle.text.specs.Text.{Bytes, same, year, month, day, hour, minute, second
 use Rattle.format.specs.Numbers.{notAlike}
 use Rattle.format.specs.Kinds.{Kind, name, pubkeyKinds}
 use Rattle.format.specs.Read.{Outcome, accepted, refused, readIdentity, readOf}
+use Rattle.newer.specs.declared.Choice.{Choice}
 
 -- ---- the Subject of a public key, and what is compared of it
 
@@ -45,45 +46,56 @@ after (x ∷ xs) (y ∷ ys) = ltb y x || (eqb x y && after xs ys)
 unfoldable pub later : Bytes → Bytes → Bool
 later s t = after (instant s) (instant t)
 
--- ---- the call
+-- ---- the choice
 
-pub data Choice : Type 0 where
-  theFirst theSecond : Choice
-  denied : ℕ → ℕ → Choice
+pub data Decision : Type 0 where
+  theFirst theSecond : Decision
+  denied : ℕ → ℕ → Decision
 
 -- by the identity call's outcomes of the two Subjects
-abbrev pub bySubjects : Outcome → Outcome → Choice
+abbrev pub bySubjects : Outcome → Outcome → Decision
 bySubjects (accepted j fs) (accepted k gs) =
     cond (alike j fs k gs) (cond (later (gnt gs) (gnt fs)) theSecond theFirst) (denied notAlike 0)
 bySubjects (accepted j fs) (refused n i) = denied n i
 bySubjects (refused n i) o = denied n i
 
 -- by the record call's outcomes of the two records
-abbrev pub byRecords : Outcome → Outcome → Choice
+abbrev pub byRecords : Outcome → Outcome → Decision
 byRecords (accepted j fs) (accepted k gs) = bySubjects (readIdentity (subject fs)) (readIdentity (subject gs))
 byRecords (accepted j fs) (refused n i) = denied n i
 byRecords (refused n i) o = denied n i
 
-unfoldable pub newer : Bytes → Bytes → Choice
+unfoldable pub newer : Bytes → Bytes → Decision
 newer a b = byRecords (readOf pubkeyKinds a) (readOf pubkeyKinds b)
 
--- the record handed back, whole; an empty part with a refusal
-abbrev pub choicePart : Choice → Bytes → Bytes → Bytes
-choicePart theFirst a b = a
-choicePart theSecond a b = b
-choicePart (denied n i) a b = []
+-- ---- the calls
 
-abbrev pub choiceNo : Choice → ℕ
+abbrev pub choiceNo : Decision → ℕ
 choiceNo theFirst = 0
 choiceNo theSecond = 0
 choiceNo (denied n i) = n
 
-abbrev pub choiceField : Choice → ℕ
+abbrev pub choiceField : Decision → ℕ
 choiceField theFirst = 0
 choiceField theSecond = 0
 choiceField (denied n i) = i
 
-pub record Chosen (c : Choice) (a b part : Bytes) (no field : ℕ) : Type 0 where
+-- 1 for the first record and 2 for the second; 0 with a refusal
+abbrev pub choiceWhich : Decision → ℕ
+choiceWhich theFirst = 1
+choiceWhich theSecond = 2
+choiceWhich (denied n i) = 0
+
+abbrev pub choiceSaid : Decision → Choice
+choiceSaid c = record { no = choiceNo c; field = choiceField c; which = choiceWhich c }
+
+-- the record handed back, whole; an empty part with a refusal
+abbrev pub choicePart : Decision → Bytes → Bytes → Bytes
+choicePart theFirst a b = a
+choicePart theSecond a b = b
+choicePart (denied n i) a b = []
+
+pub record Chosen (c : Decision) (a b part : Bytes) (no field : ℕ) : Type 0 where
   pub part-so : part ≡ choicePart c a b
   pub number-so : no ≡ choiceNo c
   pub field-so : field ≡ choiceField c

@@ -7,7 +7,7 @@ use mathlib.Core.Bool.{Bool, _&&_}
 use Rattle.text.specs.Text.{Bytes, same}
 use Rattle.format.specs.Read.{Outcome, accepted, refused, title, body}
 use Rattle.frame.specs.Frame.{partOf}
-use Rattle.newer.specs.Newer.{Choice, choiceNo, choiceField}
+use Rattle.newer.specs.Newer.{Decision, choiceNo, choiceField}
 
 -- the first record's refusal, and otherwise the second record's outcome
 abbrev pub inTurn : Outcome → Outcome → Outcome
@@ -30,6 +30,6 @@ alikeTexts s t =
     same (title s) (title t) && (same (identityPart s 1) (identityPart t 1) && same (identityPart s 2) (identityPart t 2))
 
 -- the numbers of a choice
-pub record Numbered (c : Choice) (no field : ℕ) : Type 0 where
+pub record Numbered (c : Decision) (no field : ℕ) : Type 0 where
   pub its-no : no ≡ choiceNo c
   pub its-field : field ≡ choiceField c

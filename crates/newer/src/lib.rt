@@ -1,11 +1,11 @@
-// The newer of two public keys: document 01, "Files of records and the newer key", number 13. The call takes any bytes
-// and has no `requires`.
+// The newer of two public keys: document 01, "Files of records and the newer key", number 13. The calls take any bytes
+// and have no `requires`.
 ghost use mathlib.Core.Path.{_≡_};
 ghost use Rattle.text.specs.Text.{same};
 ghost use Rattle.format.specs.Kinds.{pubkeyKinds};
 ghost use Rattle.format.specs.Read.{readOf};
 ghost use Rattle.reading.specs.Reading.{answerOf};
-ghost use Rattle.newer.specs.Newer.{after, newer, Chosen};
+ghost use Rattle.newer.specs.Newer.{after, newer, choiceSaid, Chosen};
 ghost use Rattle.newer.specs.Steps.{inTurn, subjectIn, identityPart, gntIn, alikeTexts, Numbered};
 
 const NOT_ALIKE: u8 = 13;
@@ -116,21 +116,62 @@ fn judge(first: &[u8], second: &[u8]) -> reading::Answer
     }
 }
 
-// ---- the call
+// ---- the calls
 
-// The record whose Subject has the later GNT, whole, as the caller's own bytes: the first when equal, and an empty part
-// with a refusal. The two lenders share one lifetime: docs/DECISIONS.md.
+pub const FIRST: u8 = 1;
+
+pub const SECOND: u8 = 2;
+
+const NEITHER: u8 = 0;
+
+// Which of two public keys is the newer: FIRST or SECOND, and 0 with a refusal.
+pub struct Choice {
+    pub no: u8,
+    pub field: u8,
+    pub which: u8,
+}
+
+// The record whose Subject has the later GNT, the first when equal, for callers that cannot take a part back.
+pub fn newer_of(first: &[u8], second: &[u8]) -> Choice
+    ensures { λ r. ⌜ r ≡ choiceSaid (newer (now (first .entry)) (now (second .entry))) ⌝ }
+{
+    let answer = judge(first, second);
+    let no = answer.no;
+    let field = answer.field;
+    if no != reading::ACCEPTED {
+        return Choice {
+            no,
+            field,
+            which: NEITHER,
+        };
+    }
+    if is_later(gnt_of(second), gnt_of(first)) {
+        return Choice {
+            no,
+            field,
+            which: SECOND,
+        };
+    }
+    Choice {
+        no,
+        field,
+        which: FIRST,
+    }
+}
+
+// The same record, whole, as the caller's own bytes, and an empty part with a refusal. The two lenders share one lifetime:
+// docs/DECISIONS.md.
 pub fn newer<'a>(first: &'a [u8], second: &'a [u8], no: &mut u8, field: &mut u8) -> &'a [u8]
     ensures { λ r. ⌜ Chosen (newer (now (first .entry)) (now (second .entry))) (now (first .entry)) (now (second .entry)) (now r) (now (no .exit)) (now (field .exit)) ⌝ }
 {
-    let answer = judge(first, second);
-    *no = answer.no;
-    *field = answer.field;
-    if answer.no != reading::ACCEPTED {
-        return &first[0..0];
+    let choice = newer_of(first, second);
+    *no = choice.no;
+    *field = choice.field;
+    if choice.which == FIRST {
+        return first;
     }
-    if is_later(gnt_of(second), gnt_of(first)) {
+    if choice.which == SECOND {
         return second;
     }
-    first
+    &first[0..0]
 }

@@ -1,16 +1,19 @@
 -- `newer::newer` meets its contract.
 -- Assumes nothing.
 use denote.Ref.{now}
-use mathlib.Core.Path.{sym, ap₂, _∙_}
-use mathlib.Core.Bool.{true, false}
-use Rattle.newer.specs.Newer.{after}
-use Rattle.newer.proofs.Choosing.{chosen-none, chosen-one}
+use Rattle.newer.proofs.Choosing.{chosen-first, chosen-second, chosen-none}
 use borrow.Author.Needs.{needs}
 use Rattle.newer.proofs.newer.Statement.{statement}
 use Rattle.newer.proofs.newer.Tie as tie
 
-judge-requires : tie.Need-judge-requires
-judge-requires c κs = search needs
+newer-of-requires : tie.Need-newer-of-requires
+newer-of-requires c κs = search needs
+
+returns : tie.Need-returns
+returns c = chosen-first (now (c .before .before .before .before .before .args .first)) (now (c .before .before .before .before .before .args .second)) _ _ (c .before .before .newer-of .ensures) (c .if1 .taken)
+
+returns-2 : tie.Need-returns-2
+returns-2 c = chosen-second (now (c .before .before .before .before .before .before .before .args .first)) (now (c .before .before .before .before .before .before .before .args .second)) _ _ (c .before .before .before .before .newer-of .ensures) (c .if2 .taken)
 
 sub-result : tie.Need-sub-result
 sub-result c = search needs
@@ -21,39 +24,17 @@ part-result-start c = search needs
 part-result-end : tie.Need-part-result-end
 part-result-end c = search needs
 
-returns : tie.Need-returns
-returns c = chosen-none (now (c .before .before .before .before .before .before .args .first)) (now (c .before .before .before .before .before .before .args .second)) _ _ (c .before .before .before .judge .ensures) (c .before .if1 .taken)
-
-gnt-of-requires : tie.Need-gnt-of-requires
-gnt-of-requires c κs = search needs
-
-gnt-of-requires-2 : tie.Need-gnt-of-requires-2
-gnt-of-requires-2 c κs = search needs
-
-is-later-requires : tie.Need-is-later-requires
-is-later-requires c κs = search needs
-
-returns-2 : tie.Need-returns-2
-returns-2 c =
-    chosen-one (now (c .before .before .before .before .before .before .before .before .before .args .first)) (now (c .before .before .before .before .before .before .before .before .before .args .second)) _ _ (c .before .before .before .before .before .before .judge .ensures) (c .before .before .before .before .if1 .left) true
-    (sym (c .before .is-later .ensures ∙ ap₂ after (c .before .before .before .gnt-of .ensures) (c .before .before .gnt-of2 .ensures)) ∙ c .if2 .taken)
-
 returns-3 : tie.Need-returns-3
-returns-3 c =
-    chosen-one (now (c .before .before .before .before .before .before .before .before .before .args .first)) (now (c .before .before .before .before .before .before .before .before .before .args .second)) _ _ (c .before .before .before .before .before .before .judge .ensures) (c .before .before .before .before .if1 .left) false
-    (sym (c .before .is-later .ensures ∙ ap₂ after (c .before .before .before .gnt-of .ensures) (c .before .before .gnt-of2 .ensures)) ∙ c .if2 .left)
+returns-3 c = chosen-none (now (c .before .before .before .before .before .before .before .before .args .first)) (now (c .before .before .before .before .before .before .before .before .args .second)) _ _ (c .before .before .before .before .before .newer-of .ensures) (c .before .before .before .if1 .left) (c .before .if2 .left)
 
 pub newer-spec : {M : Type 1} → statement M
 newer-spec =
     tie.close
     (tie.spec
-    judge-requires
+    newer-of-requires
+    returns
+    returns-2
     sub-result
     part-result-start
     part-result-end
-    returns
-    gnt-of-requires
-    gnt-of-requires-2
-    is-later-requires
-    returns-2
     returns-3)
