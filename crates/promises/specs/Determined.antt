@@ -51,6 +51,7 @@ use Rattle.reading.proofs.record_field.Reads as record-field
 use Rattle.put.proofs.put.Reads as put
 use Rattle.put.proofs.put_byte.Reads as put-byte
 use Rattle.put.proofs.refuse.Reads as refuse
+use Rattle.items.proofs.item_place.Reads as item-place
 use Rattle.items.proofs.text_item.Reads as text-item
 use Rattle.building.proofs.build.Reads as build
 use Rattle.agreement.proofs.shared_info.Reads as shared-info
@@ -62,6 +63,7 @@ use Rattle.files.proofs.step_from.Reads as step-from
 use Rattle.listing.proofs.line_text.Reads as line-text
 use Rattle.listing.proofs.end_text.Reads as end-text
 use Rattle.printing.proofs.print_list.Reads as print-list
+use Rattle.newer.proofs.newer_of.Reads as newer-of
 use Rattle.newer.proofs.newer.Reads as newer
 
 -- any two results x and y that the contract Q allows for the same lifetimes κs and arguments a are equal
@@ -143,6 +145,7 @@ pub record Determined : Type 0 where
   pub build-said : OneAnswer build.Post
   pub build-out : OneLeft build.Post (λ κs s. now (s .1 .1 .1 .0))
   -- items
+  pub item-place : OneAnswer item-place.Post
   pub text-item-part : OnePart text-item.Post
   pub text-item-no : OneLeft text-item.Post (λ κs s. now (s .1 .1 .0))
   -- agreement
@@ -164,6 +167,7 @@ pub record Determined : Type 0 where
   -- printing
   pub print-list : OneAnswer print-list.Post
   -- newer
+  pub newer-of : OneAnswer newer-of.Post
   pub newer-part : OnePart newer.Post
   pub newer-no : OneLeft newer.Post (λ κs s. now (s .1 .1 .0))
   pub newer-field : OneLeft newer.Post (λ κs s. now (s .1 .1 .1 .0))
