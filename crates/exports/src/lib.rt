@@ -19,14 +19,14 @@ ghost use Rattle.listing.specs.Listing.{lineText, endText, listed};
 ghost use Rattle.exports.specs.Exports.{answer, fieldPlace, itemPlace, written, totals, choice, found};
 
 // What stands at a place of a file, or that it is finished.
-struct Found {
-    line: bool,
-    no: u8,
-    field: u8,
-    kind: usize,
-    start: usize,
-    len: usize,
-    next: usize,
+pub struct Found {
+    pub line: bool,
+    pub no: u8,
+    pub field: u8,
+    pub kind: usize,
+    pub start: usize,
+    pub len: usize,
+    pub next: usize,
 }
 
 // ---- the check and the text types
@@ -39,6 +39,7 @@ pub extern "C" fn obscurlane_crc_of(bytes: &[u8]) -> u16
     crc16::crc_of(bytes)
 }
 
+// Whether the bytes are of the text type, in each of the following.
 #[no_mangle]
 pub extern "C" fn obscurlane_is_ident(s: &[u8]) -> bool
     ensures { λ r. ⌜ r ≡ isIdent (now (s .entry)) ⌝ }
@@ -90,16 +91,18 @@ pub extern "C" fn obscurlane_is_hex(n: usize, s: &[u8]) -> bool
 
 // ---- reading: the number; the field's number and the kind's row through pointers
 
+// Reads an identity.
 #[no_mangle]
 pub extern "C" fn obscurlane_read_identity(identity: &[u8], field: &mut u8, kind: &mut usize) -> u8
     ensures { λ r. ⌜ answer r (now (field .exit)) (now (kind .exit)) ≡ answerOf (readIdentity (now (identity .entry))) ⌝ }
 {
-    let answer = reading::read_identity(identity);
-    *field = answer.field;
-    *kind = answer.kind;
-    answer.no
+    let said = reading::read_identity(identity);
+    *field = said.field;
+    *kind = said.kind;
+    said.no
 }
 
+// Reads a record of any of the four record kinds.
 #[no_mangle]
 pub extern "C" fn obscurlane_read_record(record: &[u8], field: &mut u8, kind: &mut usize) -> u8
     ensures { λ r. ⌜ answer r (now (field .exit)) (now (kind .exit)) ≡ answerOf (readRecord (now («record» .entry))) ⌝ }
@@ -112,6 +115,7 @@ pub extern "C" fn obscurlane_read_record(record: &[u8], field: &mut u8, kind: &m
 
 // ---- one field, counted from 1: start and length in the caller's bytes, both 0 with a refusal
 
+// A field of an identity.
 #[no_mangle]
 pub extern "C" fn obscurlane_identity_field(
     identity: &[u8],
@@ -122,13 +126,14 @@ pub extern "C" fn obscurlane_identity_field(
 ) -> u8
     ensures { λ r. ⌜ Placed (readIdentity (now (identity .entry))) wanted (now (identity .entry)) (fieldPlace r (now (field .exit)) (now (start .exit)) (now (len .exit))) ⌝ }
 {
-    let place = reading::identity_place(identity, wanted);
-    *field = place.field;
-    *start = place.start;
-    *len = place.len;
-    place.no
+    let part = reading::identity_place(identity, wanted);
+    *field = part.field;
+    *start = part.start;
+    *len = part.len;
+    part.no
 }
 
+// A field of a record.
 #[no_mangle]
 pub extern "C" fn obscurlane_record_field(
     record: &[u8],
@@ -148,6 +153,7 @@ pub extern "C" fn obscurlane_record_field(
 
 // ---- building and the key agreement texts, into a lent output: the length written from the front, 0 with a refusal
 
+// Builds a record of the named kind from the bytes of all fields one after another and the fields' lengths.
 #[no_mangle]
 pub extern "C" fn obscurlane_build(
     kind: &[u8],
@@ -159,12 +165,13 @@ pub extern "C" fn obscurlane_build(
 ) -> u8
     ensures { λ r. ⌜ Writes (build (now (kind .entry)) (now (bytes .entry)) (now (lens .entry)) (length (now (out .entry)))) (now (out .entry)) (now (out .exit)) (written r (now (field .exit)) (now (len .exit))) ⌝ }
 {
-    let written = building::build(kind, bytes, lens, out);
-    *field = written.field;
-    *len = written.len;
-    written.no
+    let built = building::build(kind, bytes, lens, out);
+    *field = built.field;
+    *len = built.len;
+    built.no
 }
 
+// SharedInfo of a load request.
 #[no_mangle]
 pub extern "C" fn obscurlane_shared_info(
     request: &[u8],
@@ -174,12 +181,13 @@ pub extern "C" fn obscurlane_shared_info(
 ) -> u8
     ensures { λ r. ⌜ Writes (sharedInfo (now (request .entry)) (length (now (out .entry)))) (now (out .entry)) (now (out .exit)) (written r (now (field .exit)) (now (len .exit))) ⌝ }
 {
-    let written = agreement::shared_info(request, out);
-    *field = written.field;
-    *len = written.len;
-    written.no
+    let info = agreement::shared_info(request, out);
+    *field = info.field;
+    *len = info.len;
+    info.no
 }
 
+// MacData_SM of a load request.
 #[no_mangle]
 pub extern "C" fn obscurlane_module_text(
     request: &[u8],
@@ -189,12 +197,13 @@ pub extern "C" fn obscurlane_module_text(
 ) -> u8
     ensures { λ r. ⌜ Writes (moduleText (now (request .entry)) (length (now (out .entry)))) (now (out .entry)) (now (out .exit)) (written r (now (field .exit)) (now (len .exit))) ⌝ }
 {
-    let written = agreement::module_text(request, out);
-    *field = written.field;
-    *len = written.len;
-    written.no
+    let module = agreement::module_text(request, out);
+    *field = module.field;
+    *len = module.len;
+    module.no
 }
 
+// MacData_KMC of a load request.
 #[no_mangle]
 pub extern "C" fn obscurlane_centre_text(
     request: &[u8],
@@ -204,14 +213,15 @@ pub extern "C" fn obscurlane_centre_text(
 ) -> u8
     ensures { λ r. ⌜ Writes (centreText (now (request .entry)) (length (now (out .entry)))) (now (out .entry)) (now (out .exit)) (written r (now (field .exit)) (now (len .exit))) ⌝ }
 {
-    let written = agreement::centre_text(request, out);
-    *field = written.field;
-    *len = written.len;
-    written.no
+    let centre = agreement::centre_text(request, out);
+    *field = centre.field;
+    *len = centre.len;
+    centre.no
 }
 
 // ---- an item of a text, counted from 1
 
+// Start and length in the text, both 0 with a refusal.
 #[no_mangle]
 pub extern "C" fn obscurlane_text_item(
     text: &[u8],
@@ -221,14 +231,15 @@ pub extern "C" fn obscurlane_text_item(
 ) -> u8
     ensures { λ r. ⌜ ItemPlaced (now (text .entry)) wanted (itemPlace r (now (start .exit)) (now (len .exit))) ⌝ }
 {
-    let place = items::item_place(text, wanted);
-    *start = place.start;
-    *len = place.len;
-    place.no
+    let item = items::item_place(text, wanted);
+    *start = item.start;
+    *len = item.len;
+    item.no
 }
 
 // ---- files
 
+// A line with its numbers and places, for a caller that has no enum.
 fn find(line: files::Line) -> Found
     ensures { λ r. ⌜ r ≡ found line ⌝ }
 {
@@ -285,6 +296,7 @@ pub extern "C" fn obscurlane_line_at(
     found.line
 }
 
+// How many lines a file has, and how many of them are accepted records.
 #[no_mangle]
 pub extern "C" fn obscurlane_count(file: &[u8], lines: &mut usize, accepted: &mut usize)
     ensures { λ _. ⌜ totals (now (lines .exit)) (now (accepted .exit)) ≡ totalsOf (walk (now (file .entry))) ⌝ }
@@ -296,6 +308,7 @@ pub extern "C" fn obscurlane_count(file: &[u8], lines: &mut usize, accepted: &mu
 
 // ---- the newer of two public keys: 1 for the first, 2 for the second, 0 with a refusal
 
+// The first record's refusal comes before the second's.
 #[no_mangle]
 pub extern "C" fn obscurlane_newer(
     first: &[u8],
@@ -313,6 +326,7 @@ pub extern "C" fn obscurlane_newer(
 
 // ---- what the lister prints of a line and at the end, into a lent output
 
+// A line: its number from 1, its start, its length without line feed, and its answer's number.
 #[no_mangle]
 pub extern "C" fn obscurlane_line_text(
     number: usize,
@@ -325,12 +339,13 @@ pub extern "C" fn obscurlane_line_text(
 ) -> u8
     ensures { λ r. ⌜ Writes (listed (lineText number start size no) (length (now (out .entry)))) (now (out .entry)) (now (out .exit)) (written r (now (field .exit)) (now (len .exit))) ⌝ }
 {
-    let written = listing::line_text(number, start, size, no, out);
-    *field = written.field;
-    *len = written.len;
-    written.no
+    let line = listing::line_text(number, start, size, no, out);
+    *field = line.field;
+    *len = line.len;
+    line.no
 }
 
+// The end: how many lines, and how many of them are accepted.
 #[no_mangle]
 pub extern "C" fn obscurlane_end_text(
     lines: usize,
@@ -341,8 +356,8 @@ pub extern "C" fn obscurlane_end_text(
 ) -> u8
     ensures { λ r. ⌜ Writes (listed (endText lines accepted) (length (now (out .entry)))) (now (out .entry)) (now (out .exit)) (written r (now (field .exit)) (now (len .exit))) ⌝ }
 {
-    let written = listing::end_text(lines, accepted, out);
-    *field = written.field;
-    *len = written.len;
-    written.no
+    let end = listing::end_text(lines, accepted, out);
+    *field = end.field;
+    *len = end.len;
+    end.no
 }

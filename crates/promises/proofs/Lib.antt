@@ -8,3 +8,4 @@ pub mod Agreement
 pub mod Files
 pub mod Demand3
 pub mod Newer
+pub mod Interface
