@@ -1,74 +1,15 @@
-//! One case: its call, its bytes in the case file, and the line that answers it.
+//! One case: its call, its bytes in the case file, and the forms of the lines that answer it.
 
+use crate::calls::Op;
+use compare::build;
 use compare::crc::crc16;
-use compare::file::{Line, Step};
+use compare::file::{self, Line, Step};
 use compare::record::Record;
 use compare::refusal::Refusal;
-use compare::text::{self, base16, check_text};
-use compare::{agreement, build, file, newer, record};
+use compare::text::{base16, check_text};
 
-/// The calls, numbered from 1 in this order.
-#[derive(Clone, Copy, Debug, PartialEq, Eq)]
-pub enum Op {
-    Ident = 1,
-    Timestamp,
-    Hex,
-    Point,
-    Sig,
-    Mac,
-    Print,
-    Same,
-    Digit,
-    Value,
-    Check,
-    Crc,
-    Identity,
-    Record,
-    IdentityField,
-    RecordField,
-    Build,
-    SharedInfo,
-    ModuleText,
-    CentreText,
-    Item,
-    Line,
-    Count,
-    Newer,
-}
-
-impl Op {
-    /// All calls with their names in the answer file.
-    pub const ALL: [(Op, &'static str); 24] = [
-        (Op::Ident, "ident"),
-        (Op::Timestamp, "timestamp"),
-        (Op::Hex, "hex"),
-        (Op::Point, "point"),
-        (Op::Sig, "sig"),
-        (Op::Mac, "mac"),
-        (Op::Print, "print"),
-        (Op::Same, "same"),
-        (Op::Digit, "digit"),
-        (Op::Value, "value"),
-        (Op::Check, "check"),
-        (Op::Crc, "crc"),
-        (Op::Identity, "identity"),
-        (Op::Record, "record"),
-        (Op::IdentityField, "identity_field"),
-        (Op::RecordField, "record_field"),
-        (Op::Build, "build"),
-        (Op::SharedInfo, "shared_info"),
-        (Op::ModuleText, "module_text"),
-        (Op::CentreText, "centre_text"),
-        (Op::Item, "item"),
-        (Op::Line, "line"),
-        (Op::Count, "count"),
-        (Op::Newer, "newer"),
-    ];
-
-    fn name(self) -> &'static str {
-        Op::ALL[self as usize - 1].1
-    }
-}
+/// Added to the call of a case that has no bytes of its own.
+const REPEATED: u8 = 128;
 
 /// One call with what it is given; what a call does not take is 0 or empty.
 #[derive(Clone, Debug, PartialEq, Eq)]
@@ -80,7 +21,7 @@ pub struct Case {
     pub c: Vec<u8>,
 }
 
-/// The line that answers a case, without its line feed.
+/// The line that answers a case, without its last line feed.
 pub struct Answer {
     pub line: Vec<u8>,
     /// The number given back, where the call gives one.
@@ -88,126 +29,155 @@ pub struct Answer {
 }
 
 impl Case {
-    /// Adds the case to the bytes of a case file.
-    pub fn write(&self, file: &mut Vec<u8>) {
-        file.push(self.op as u8);
+    fn bytes(&self) -> Vec<u8> {
+        [&self.a[..], &self.b, &self.c].concat()
+    }
+
+    /// Adds the case to the bytes of a case file. A case whose bytes are the front of those that
+    /// were written last, `held`, has none of its own.
+    pub fn write(&self, held: &mut Vec<u8>, file: &mut Vec<u8>) {
+        let bytes = self.bytes();
+        let is_repeated = !bytes.is_empty() && held.starts_with(&bytes);
+        file.push(self.op.number() + if is_repeated { REPEATED } else { 0 });
         file.extend(self.n.to_be_bytes());
         for part in [&self.a, &self.b, &self.c] {
             let length = u16::try_from(part.len()).expect("a part of at most 65,535 bytes");
             file.extend(length.to_be_bytes());
         }
-        for part in [&self.a, &self.b, &self.c] {
-            file.extend(part);
+        if !is_repeated {
+            file.extend_from_slice(&bytes);
+            *held = bytes;
         }
     }
 
     /// Makes the call.
     pub fn answer(&self) -> Answer {
-        let Case { op, n, a, b, c } = self;
-        let n = *n;
-        match op {
-            Op::Ident => self.flag(text::is_ident(a)),
-            Op::Timestamp => self.flag(text::is_timestamp(a)),
-            Op::Hex => self.flag(text::is_hex(a, n)),
-            Op::Point => self.flag(text::is_point(a)),
-            Op::Sig => self.flag(text::is_sig(a)),
-            Op::Mac => self.flag(text::is_mac(a)),
-            Op::Print => self.flag(text::is_print(a)),
-            Op::Same => self.flag(a == b),
-            Op::Digit => self.value(text::hex_digit(low_byte(n)).unwrap_or(0)),
-            Op::Value => self.value(text::hex_value(low_byte(n)).unwrap_or(16)),
-            Op::Check => {
-                let check = u16::try_from(n).expect("a check of sixteen bits");
-                self.value(check_text(check))
-            }
-            Op::Crc => self.value(check_text(crc16(a))),
-            Op::Identity => self.kind(record::read_identity(a)),
-            Op::Record => self.kind(record::read_record(a)),
-            Op::IdentityField => self.field(record::identity_field(a, n)),
-            Op::RecordField => self.field(record::record_field(a, n)),
-            Op::Build => {
-                let lengths: Vec<u64> = c
-                    .chunks(8)
-                    .map(|chunk| u64::from_be_bytes(chunk.try_into().expect("lengths of 8 bytes")))
-                    .collect();
-                let mut output = lent_output(n);
-                let built = build::build(a, b, &lengths, &mut output);
-                let mut answer = self.output(built, &output);
-                if let Ok(length) = built {
-                    answer.line.push(b' ');
-                    answer.line.extend_from_slice(&output[..length]);
-                }
-                answer
-            }
-            Op::SharedInfo => self.text(agreement::shared_info),
-            Op::ModuleText => self.text(agreement::module_text),
-            Op::CentreText => self.text(agreement::centre_text),
-            Op::Item => {
-                let item = agreement::item(a, n);
-                let part = item.unwrap_or_default();
-                let line = format!("item {} {}", number(item), part.len());
-                Answer { number: Some(number(item)), line: followed(line, base16(part).as_bytes()) }
-            }
-            Op::Line => match file::line_at(a, n) {
-                Step::Finished { place } => {
-                    Answer { line: format!("line finished {place} 0 {place}").into(), number: None }
-                }
-                Step::Read(Line { answer, start, length, next }) => {
-                    let (number, field) = (number(answer), field(answer));
-                    Answer {
-                        line: format!("line read {number} {field} {start} {length} {next}").into(),
-                        number: Some(number),
-                    }
-                }
-            },
-            Op::Count => {
-                let (lines, accepted) = file::count(a);
-                self.value(format!("{lines} {accepted}"))
-            }
-            Op::Newer => {
-                let chosen = newer::newer(a, b);
-                self.output(chosen.map(<[u8]>::len), chosen.unwrap_or_default())
-            }
-        }
+        (self.op.call().answer)(self)
     }
 
-    fn value(&self, value: impl std::fmt::Display) -> Answer {
-        Answer { line: format!("{} {value}", self.op.name()).into(), number: None }
+    /// The numbers that stand in c, eight bytes each.
+    fn numbers(&self) -> Vec<u64> {
+        let chunks = self.c.chunks(8);
+        chunks.map(|chunk| u64::from_be_bytes(chunk.try_into().expect("8 bytes each"))).collect()
     }
 
-    fn flag(&self, flag: bool) -> Answer {
+    /// A number beside n, counted from 0.
+    pub fn further(&self, index: usize) -> u64 {
+        self.numbers()[index]
+    }
+
+    fn line(&self, rest: impl std::fmt::Display) -> String {
+        format!("{} {rest}", self.op.call().name)
+    }
+
+    pub fn value(&self, value: impl std::fmt::Display) -> Answer {
+        Answer { line: self.line(value).into(), number: None }
+    }
+
+    pub fn flag(&self, flag: bool) -> Answer {
         self.value(u8::from(flag))
     }
 
+    /// The answer of a call that gives a number alone.
+    pub fn number(&self, answer: Result<(), Refusal>) -> Answer {
+        let number = number(answer);
+        Answer { line: self.line(number).into(), number: Some(number) }
+    }
+
     /// The answer of a reading call: the kind's number, 7 for none.
-    fn kind(&self, read: Result<Record, Refusal>) -> Answer {
+    pub fn kind(&self, read: Result<Record, Refusal>) -> Answer {
         let read = read.map(|record| record.kind);
         let kind = read.map_or(7, |kind| kind as u8);
-        let line = format!("{} {} {} {kind}", self.op.name(), number(read), field(read));
+        let line = self.line(format!("{} {} {kind}", number(read), field(read)));
         Answer { line: line.into(), number: Some(number(read)) }
     }
 
     /// The answer of a field call.
-    fn field(&self, part: Result<&[u8], Refusal>) -> Answer {
+    pub fn field(&self, part: Result<&[u8], Refusal>) -> Answer {
         let (number, field) = (number(part), field(part));
         let part = part.unwrap_or_default();
-        let line = format!("{} {number} {field} {}", self.op.name(), part.len());
+        let line = self.line(format!("{number} {field} {}", part.len()));
         Answer { line: followed(line, part), number: Some(number) }
     }
 
-    /// The answer of a call that writes one of the three texts.
-    fn text(&self, call: fn(&[u8], &mut [u8]) -> Result<usize, Refusal>) -> Answer {
+    /// The answer of a call that gives a part alone.
+    pub fn part(&self, part: &[u8]) -> Answer {
+        let line = self.line(part.len());
+        Answer { line: followed(line, base16(part).as_bytes()), number: None }
+    }
+
+    /// The answer of the item call.
+    pub fn item(&self, item: Result<&[u8], Refusal>) -> Answer {
+        let part = item.unwrap_or_default();
+        let line = self.line(format!("{} {}", number(item), part.len()));
+        Answer { line: followed(line, base16(part).as_bytes()), number: Some(number(item)) }
+    }
+
+    /// The answer of the building call.
+    pub fn built(&self) -> Answer {
         let mut output = lent_output(self.n);
-        let built = call(&self.a, &mut output);
-        self.output(built, &output)
+        let built = build::build(&self.a, &self.b, &self.numbers(), &mut output);
+        let mut answer = self.output(built, &output);
+        if let Ok(length) = built {
+            answer.line.push(b' ');
+            answer.line.extend_from_slice(&output[..length]);
+        }
+        answer
+    }
+
+    /// The answer of another call that writes from the start of an output.
+    pub fn written(&self, call: impl FnOnce(&mut [u8]) -> Result<usize, Refusal>) -> Answer {
+        let mut output = lent_output(self.n);
+        let written = call(&mut output);
+        self.output(written, &output)
     }
 
     /// The answer of a call that gives a length, with the check of the bytes it concerns.
-    fn output(&self, built: Result<usize, Refusal>, bytes: &[u8]) -> Answer {
-        let (number, field, length) = (number(built), field(built), built.unwrap_or(0));
+    pub fn output(&self, written: Result<usize, Refusal>, bytes: &[u8]) -> Answer {
+        let (number, field, length) = (number(written), field(written), written.unwrap_or(0));
         let check = check_text(crc16(bytes));
-        let line = format!("{} {number} {field} {length} {check}", self.op.name());
+        let line = self.line(format!("{number} {field} {length} {check}"));
         Answer { line: line.into(), number: Some(number) }
+    }
+
+    /// The answer of a call that writes at a place, with the check of the whole output.
+    pub fn place(&self, call: impl FnOnce(&mut [u8]) -> u64) -> Answer {
+        let mut output = lent_output(self.n);
+        let next = call(&mut output);
+        self.value(format!("{next} {}", check_text(crc16(&output))))
+    }
+
+    /// The answer of a call that reads one line of a file.
+    pub fn step(&self, step: Step) -> Answer {
+        let number = match step {
+            Step::Finished { .. } => None,
+            Step::Read(line) => Some(number(line.answer)),
+        };
+        Answer { line: self.line(said(step)).into(), number }
+    }
+
+    /// The answers of a reader: those of the file call from the start, until the file is finished.
+    pub fn walked(&self) -> Answer {
+        let lines = file::lines(&self.a).map(|line| said(Step::Read(line)));
+        let finished = said(Step::Finished { place: self.a.len() as u64 });
+        self.value(lines.chain([finished]).collect::<Vec<_>>().join(" "))
+    }
+
+    /// The list of the file that a and b are together, and how many lines it has.
+    pub fn listed(&self) -> Answer {
+        let list = file::list(&[&self.a[..], &self.b].concat());
+        let line = format!("{}\n{list}printed {}", self.op.call().name, list.lines().count());
+        Answer { line: line.into(), number: None }
+    }
+}
+
+/// What the file call answers.
+fn said(step: Step) -> String {
+    match step {
+        Step::Finished { place } => format!("finished {place} 0 {place}"),
+        Step::Read(Line { answer, start, length, next }) => {
+            format!("read {} {} {start} {length} {next}", number(answer), field(answer))
+        }
     }
 }
 
@@ -229,7 +199,8 @@ fn field<T>(answer: Result<T, Refusal>) -> u8 {
     answer.map_or_else(Refusal::field, |_| 0)
 }
 
-fn low_byte(n: u64) -> u8 {
+/// A number that stands for a byte.
+pub fn low_byte(n: u64) -> u8 {
     u8::try_from(n).expect("a number of eight bits")
 }
 
@@ -248,19 +219,28 @@ mod tests {
     }
 
     #[test]
-    fn calls_are_numbered_and_named_in_order() {
-        for (index, (op, name)) in Op::ALL.into_iter().enumerate() {
-            assert_eq!(op as usize, index + 1);
-            assert_eq!(op.name(), name);
-        }
+    fn calls_are_numbered_from_1() {
+        assert_eq!(Op::Ident.number(), 1);
+        assert_eq!(Op::Newer.number(), 24);
+        assert_eq!(Op::EndText.number(), 55);
+        assert_eq!(Op::Newer.call().call, "newer");
     }
 
     #[test]
     fn a_case_is_written_as_head_and_parts() {
-        let case = Case { op: Op::Newer, n: 258, a: b"ab".to_vec(), b: vec![], c: b"c".to_vec() };
-        let mut file = Vec::new();
-        case.write(&mut file);
+        let case = |a: &[u8], c: &[u8]| {
+            let (a, c) = (a.to_vec(), c.to_vec());
+            Case { op: Op::Newer, n: 258, a, b: vec![], c }
+        };
+        let (mut held, mut file) = (Vec::new(), Vec::new());
+        case(b"ab", b"c").write(&mut held, &mut file);
         assert_eq!(file, b"\x18\0\0\0\0\0\0\x01\x02\0\x02\0\0\0\x01abc");
+        file.clear();
+        case(b"a", b"b").write(&mut held, &mut file);
+        assert_eq!(file, b"\x98\0\0\0\0\0\0\x01\x02\0\x01\0\0\0\x01");
+        file.clear();
+        case(b"X", b"").write(&mut held, &mut file);
+        assert_eq!(file, b"\x18\0\0\0\0\0\0\x01\x02\0\x01\0\0\0\0X");
     }
 
     #[test]
@@ -290,6 +270,27 @@ mod tests {
         assert!(identity.starts_with("SMID.1:A:B:20180101T000000Z:0123456789ABCDEF:"));
         let check = check_text(crc16(identity.as_bytes()));
         assert_eq!(built, format!("build 0 0 49 {check} {identity}"));
+    }
+
+    #[test]
+    fn lines_with_further_numbers_have_their_forms() {
+        let no: &[u8] = &[];
+        let further = |numbers: &[u64]| -> Vec<u8> {
+            numbers.iter().flat_map(|number| number.to_be_bytes()).collect()
+        };
+        let of_row = further(&[4, 5]);
+        assert_eq!(line(Op::RowIn, 124, [b"PK.ECDH.1", no, &of_row]), "row_in 4");
+        assert_eq!(line(Op::ReadOf, 5, [b"VKLOAD.REQ.1|x", no, &further(&[6])]), "read_of 3 0 7");
+        assert_eq!(line(Op::WholeNo, 3, [b"x", no, no]), "whole_no 8");
+        assert_eq!(line(Op::TitleOf, 0, [b"AB|c", no, no]), "title_of 2 4142");
+        assert_eq!(line(Op::Refuse, 6, [no, no, &further(&[2])]), "refuse 6 2 0");
+        assert_eq!(line(Op::Put, 2, [b"x", no, &further(&[1])]).split(' ').nth(1), Some("2"));
+        let end = line(Op::EndText, 8, [no, no, &further(&[3, 0])]);
+        assert_eq!(end, format!("end_text 0 0 8 {}", check_text(crc16(b"end 3 0\n"))));
+        let walked = line(Op::Reader, 0, [b"\nab", no, no]);
+        assert_eq!(walked, "Reader::new,step read 2 0 0 0 1 read 11 0 1 2 3 finished 3 0 3");
+        let listed = line(Op::PrintList, 0, [b"\na", b"b", no]);
+        assert_eq!(listed, "print_list\n1 0 0 2\n2 1 2 11\nend 2 0\nprinted 3");
     }
 
     #[test]

@@ -58,6 +58,16 @@ pub fn count(file: &[u8]) -> (usize, usize) {
     (lines(file).count(), lines(file).filter(|line| line.answer.is_ok()).count())
 }
 
+/// The line that the lister prints for a line of a file.
+pub fn line_text(number: u64, start: u64, length: u64, answer: u8) -> String {
+    format!("{number} {start} {length} {answer}\n")
+}
+
+/// The last line that the lister prints.
+pub fn end_text(lines: u64, accepted: u64) -> String {
+    format!("end {lines} {accepted}\n")
+}
+
 /// What the lister prints for this input.
 pub fn list(input: &[u8]) -> String {
     if input.len() > LONGEST_LISTED {
@@ -67,8 +77,8 @@ pub fn list(input: &[u8]) -> String {
     for (number, line) in (1..).zip(lines(input)) {
         let Line { answer, start, length, .. } = line;
         let answer = answer.map_or_else(Refusal::number, |_| 0);
-        printed += &format!("{number} {start} {length} {answer}\n");
+        printed += &line_text(number, start, length, answer);
     }
     let (all, accepted) = count(input);
-    printed + &format!("end {all} {accepted}\n")
+    printed + &end_text(all as u64, accepted as u64)
 }

@@ -13,7 +13,9 @@
 //! | [`text`] | the text types and Base 16 |
 //! | [`crc`] | CRC16-MODBUS |
 //! | [`kind`] | the table of the seven kinds |
+//! | [`rows`] | the same table by numbers: rows and codes |
 //! | [`refusal`] | the numbers given back |
+//! | [`frame`] | marks, the parts that they end, and the check of a record |
 //! | [`record`] | reading of identities and records, and of single fields |
 //! | [`build`] | building |
 //! | [`agreement`] | key agreement texts |
@@ -25,9 +27,11 @@ pub mod agreement;
 pub mod build;
 pub mod crc;
 pub mod file;
+pub mod frame;
 pub mod kind;
 pub mod newer;
 pub mod record;
 pub mod refusal;
+pub mod rows;
 pub mod text;
 pub mod worked;

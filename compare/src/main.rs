@@ -3,12 +3,14 @@
 //! The same two files come out every time. The answers are those of this package; another
 //! implementation is right when it gives the same.
 
+mod calls;
 mod cases;
 mod plan;
 mod random;
 mod sample;
 
-use cases::{Case, Op};
+use calls::{Op, CALLS};
+use cases::Case;
 use std::process::ExitCode;
 
 /// How often each call and each number must occur at least.
@@ -32,24 +34,26 @@ struct Written {
 fn write(plan: &[Case]) -> Written {
     let mut cases = Vec::new();
     let mut answers = Vec::new();
-    let mut calls = [0; Op::ALL.len()];
+    let mut held = Vec::new();
+    let mut calls = [0; CALLS.len()];
     let mut numbers = [0; NUMBERS];
     for case in plan {
-        case.write(&mut cases);
+        case.write(&mut held, &mut cases);
         let answer = case.answer();
-        assert!(!answer.line.contains(&b'\n'), "an answer is one line");
+        let is_one_line = case.op == Op::PrintList || !answer.line.contains(&b'\n');
+        assert!(is_one_line, "an answer is one line");
         answers.extend_from_slice(&answer.line);
         answers.push(b'\n');
-        calls[case.op as usize - 1] += 1;
+        calls[case.op as usize] += 1;
         if let Some(number) = answer.number {
             numbers[usize::from(number)] += 1;
         }
     }
 
     let mut counts = String::new();
-    for ((_, name), count) in Op::ALL.iter().zip(calls) {
-        assert!(count >= LEAST, "{name} occurs {count} times");
-        counts += &format!("calls {name} {count}\n");
+    for (call, count) in CALLS.iter().map(|call| call.call).zip(calls) {
+        assert!(count >= LEAST, "{call} occurs {count} times");
+        counts += &format!("calls {call} {count}\n");
     }
     for (number, count) in numbers.into_iter().enumerate() {
         assert!(count >= LEAST, "number {number} occurs {count} times");
@@ -57,7 +61,7 @@ fn write(plan: &[Case]) -> Written {
     }
     answers.extend_from_slice(counts.as_bytes());
 
-    assert!((3000..=6000).contains(&plan.len()), "{} cases", plan.len());
+    assert!((3000..=7500).contains(&plan.len()), "{} cases", plan.len());
     assert!(cases.len() <= LONGEST_CASE_FILE, "a case file of {} bytes", cases.len());
     Written { cases, answers, counts }
 }
@@ -94,10 +98,22 @@ mod tests {
     }
 
     #[test]
+    fn every_call_and_every_number_occurs_often_enough() {
+        let counts = write(&plan::all()).counts;
+        assert_eq!(counts.lines().count(), CALLS.len() + NUMBERS);
+        for line in counts.lines() {
+            let count: usize = line.rsplit(' ').next().unwrap().parse().unwrap();
+            assert!(count >= LEAST, "{line}");
+        }
+    }
+
+    #[test]
     fn every_case_has_its_line() {
         let plan = plan::all();
         let written = write(&plan);
-        let lines = written.answers.iter().filter(|&&byte| byte == b'\n').count();
-        assert_eq!(lines, plan.len() + Op::ALL.len() + NUMBERS);
+        let lines = |bytes: &[u8]| bytes.iter().filter(|&&byte| byte == b'\n').count();
+        let lists = plan.iter().filter(|case| case.op == Op::PrintList);
+        let listed: usize = lists.map(|case| lines(&case.answer().line)).sum();
+        assert_eq!(lines(&written.answers), plan.len() + listed + CALLS.len() + NUMBERS);
     }
 }

@@ -1,6 +1,6 @@
 //! Reading of identities and records, and of single fields.
 
-use crate::crc::crc16;
+use crate::frame::{body_of, check_no};
 use crate::kind::{FieldType, Kind};
 use crate::refusal::Refusal;
 use crate::text;
@@ -55,13 +55,8 @@ pub fn read<'a>(bytes: &'a [u8], wanted: &[Kind]) -> Result<Record<'a>, Refusal>
         .filter(|kind| wanted.contains(kind) && kind.mark() == bytes[first_mark])
         .ok_or(Refusal::UnknownKind)?;
 
-    let (body, check) = bytes.split_last_chunk::<4>().ok_or(Refusal::NoCheck)?;
-    if !text::is_hex(check, 4) || body.last() != Some(&kind.mark()) {
-        return Err(Refusal::NoCheck);
-    }
-    if check != text::check_text(crc16(body)).as_bytes() {
-        return Err(Refusal::CheckDiffers);
-    }
+    check_no(kind.mark(), bytes)?;
+    let body = body_of(bytes);
 
     // Each field is ended by the mark, so nothing may stand behind the last one.
     let mut fields: Vec<&[u8]> =
@@ -94,7 +89,7 @@ pub(crate) fn check_fields(kind: Kind, fields: &[&[u8]]) -> Result<(), Refusal> 
 }
 
 /// Holds one field against its type.
-fn check_field(field_type: FieldType, field: &[u8], number: u8) -> Result<(), Refusal> {
+pub(crate) fn check_field(field_type: FieldType, field: &[u8], number: u8) -> Result<(), Refusal> {
     let fits = match field_type {
         FieldType::Ident => text::is_ident(field),
         FieldType::Timestamp => text::is_timestamp(field),

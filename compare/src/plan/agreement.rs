@@ -1,7 +1,7 @@
 //! The three texts of a load request, and the reading of items.
 
 use super::Plan;
-use crate::cases::Op;
+use crate::calls::Op;
 use crate::sample::{self, Fault, Place, Signed};
 use compare::agreement::join;
 use compare::kind::Kind;

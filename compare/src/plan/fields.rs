@@ -1,7 +1,7 @@
 //! The two field calls.
 
 use super::Plan;
-use crate::cases::Op;
+use crate::calls::Op;
 use crate::sample::{self, Fault, Place, Signed};
 use compare::kind::Kind;
 use compare::record::read;

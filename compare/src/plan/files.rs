@@ -1,7 +1,7 @@
 //! Files of records.
 
 use super::Plan;
-use crate::cases::Op;
+use crate::calls::Op;
 use crate::random::Random;
 use crate::sample::{self, Fault, Place, Signed};
 use compare::file::lines;

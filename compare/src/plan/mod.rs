@@ -6,10 +6,16 @@ mod building;
 mod fields;
 mod files;
 mod newer;
+mod outputs;
+mod parts;
 mod reading;
+mod rows;
+mod table;
 mod types;
+mod walks;
 
-use crate::cases::{Case, Op};
+use crate::calls::Op;
+use crate::cases::Case;
 use crate::random::Random;
 
 /// The cases so far, and the numbers that the group at work draws.
@@ -20,7 +26,7 @@ pub struct Plan {
 
 /// All cases, in order.
 pub fn all() -> Vec<Case> {
-    let groups: [fn(&mut Plan); 7] = [
+    let groups: [fn(&mut Plan); 12] = [
         types::add,
         reading::add,
         fields::add,
@@ -28,6 +34,11 @@ pub fn all() -> Vec<Case> {
         agreement::add,
         files::add,
         newer::add,
+        table::add,
+        parts::add,
+        rows::add,
+        outputs::add,
+        walks::add,
     ];
     let mut plan = Plan { cases: Vec::new(), random: Random::with_seed(0) };
     for (seed, add) in (1..).zip(groups) {
@@ -60,6 +71,12 @@ impl Plan {
     /// A call that is given two byte strings.
     fn pair(&mut self, op: Op, a: impl Into<Vec<u8>>, b: impl Into<Vec<u8>>) {
         self.case(op, 0, a.into(), b.into(), Vec::new());
+    }
+
+    /// A call that is given bytes, a number, and further numbers.
+    fn with(&mut self, op: Op, n: u64, a: impl Into<Vec<u8>>, further: &[u64]) {
+        let further = further.iter().flat_map(|number| number.to_be_bytes()).collect();
+        self.case(op, n, a.into(), Vec::new(), further);
     }
 
     /// A building call with fields and their own lengths.

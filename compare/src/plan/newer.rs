@@ -1,7 +1,7 @@
 //! The choice of the newer key.
 
 use super::Plan;
-use crate::cases::Op;
+use crate::calls::Op;
 use crate::random::Random;
 use crate::sample::{self, Fault, Signed};
 use compare::kind::Kind;

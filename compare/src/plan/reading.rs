@@ -1,7 +1,7 @@
 //! The identity call and the record call.
 
 use super::Plan;
-use crate::cases::Op;
+use crate::calls::Op;
 use crate::sample::{self, Fault, Place, Signed};
 use compare::crc::crc16;
 use compare::kind::{FieldType, Kind};

@@ -1,7 +1,7 @@
 //! Text types, agreement of byte strings, digits, checks and sums.
 
 use super::Plan;
-use crate::cases::Op;
+use crate::calls::Op;
 use crate::sample;
 use compare::worked::{worked, IDENTITIES, RECORDS};
 

@@ -1,55 +1,15 @@
 // The calls by their numbers in the case file. Each prints the rest of its line; `run` gives back the number that the
-// library gave, or NONE where the call gives none.
+// library gave, or NONE where the call gives none. Numbers beside a case's own stand in c, eight bytes each.
 use crate::input;
+use crate::names;
+use crate::outputs;
+use crate::parts;
 use crate::say;
+use crate::walks;
 ghost use Prim.Native.Nat.{_≤_};
 ghost use lib.ListN.{length};
 
-const NONE: u8 = 255;
-
-// ---- names
-
-fn print_text_name(op: u8) {
-    match op {
-        1 => say::text(b"ident"),
-        2 => say::text(b"timestamp"),
-        3 => say::text(b"hex"),
-        4 => say::text(b"point"),
-        5 => say::text(b"sig"),
-        6 => say::text(b"mac"),
-        7 => say::text(b"print"),
-        8 => say::text(b"same"),
-        9 => say::text(b"digit"),
-        10 => say::text(b"value"),
-        11 => say::text(b"check"),
-        _ => say::text(b"crc"),
-    }
-}
-
-fn print_record_name(op: u8) {
-    match op {
-        13 => say::text(b"identity"),
-        14 => say::text(b"record"),
-        15 => say::text(b"identity_field"),
-        16 => say::text(b"record_field"),
-        17 => say::text(b"build"),
-        18 => say::text(b"shared_info"),
-        19 => say::text(b"module_text"),
-        20 => say::text(b"centre_text"),
-        21 => say::text(b"item"),
-        22 => say::text(b"line"),
-        23 => say::text(b"count"),
-        _ => say::text(b"newer"),
-    }
-}
-
-pub(crate) fn print_name(op: u8) {
-    if op < 13 {
-        print_text_name(op);
-    } else {
-        print_record_name(op);
-    }
-}
+pub(crate) const NONE: u8 = 255;
 
 // ---- text types and the check
 
@@ -114,6 +74,21 @@ fn record_field(a: &[u8], wanted: usize) -> u8 {
     print_part(no, field, part)
 }
 
+fn field_of(from: usize, a: &[u8], c: &[u8]) -> u8 {
+    let mut no: u8 = 0;
+    let mut field: u8 = 0;
+    let to = input::number(c, 0) as usize;
+    let wanted = input::number(c, 8) as usize;
+    let part = reading::field_of(from, to, a, wanted, &mut no, &mut field);
+    print_part(no, field, part)
+}
+
+pub(crate) fn answer_no(no: u8) -> u8 {
+    say::then(no as usize);
+    say::line_feed();
+    no
+}
+
 // ---- writing
 
 // What the lent output holds before a call.
@@ -161,7 +136,7 @@ fn build(kind: &[u8], bytes: &[u8], c: &[u8], out: &mut [u8]) -> u8 {
     w.no
 }
 
-fn print_text(w: put::Written, out: &[u8]) -> u8 {
+pub(crate) fn print_text(w: put::Written, out: &[u8]) -> u8 {
     print_written(w, out);
     say::line_feed();
     w.no
@@ -186,7 +161,10 @@ fn write_into(op: u8, a: &[u8], b: &[u8], c: &[u8], out: &mut [u8]) -> u8 {
     if op == 17 {
         return build(a, b, c, out);
     }
-    make_text(op, a, out)
+    if op < 21 {
+        return make_text(op, a, out);
+    }
+    outputs::write(op, a, c, out)
 }
 
 // An output of `room` bytes, 1,024 at the most.
@@ -204,43 +182,8 @@ fn item(a: &[u8], wanted: usize) -> u8 {
     let mut no: u8 = 0;
     let part = items::text_item(a, wanted, &mut no);
     say::then(no as usize);
-    say::then(part.len());
-    if part.len() != 0 {
-        say::space();
-        say::bytes(part);
-    }
-    say::line_feed();
+    say::part(part);
     no
-}
-
-fn line(a: &[u8], place: usize) -> u8 {
-    match files::line_at(a, place) {
-        files::Line::Finished { place } => {
-            say::text(b" finished");
-            say::then(place);
-            say::then(0);
-            say::then(place);
-            say::line_feed();
-            NONE
-        }
-        files::Line::Read {
-            no,
-            field,
-            kind: _,
-            start,
-            len,
-            next,
-        } => {
-            say::text(b" read");
-            say::then(no as usize);
-            say::then(field as usize);
-            say::then(start);
-            say::then(len);
-            say::then(next);
-            say::line_feed();
-            no
-        }
-    }
 }
 
 fn count(a: &[u8]) -> u8 {
@@ -286,21 +229,28 @@ fn run_reading(op: u8, n: u64, a: &[u8]) -> u8 {
 fn run_other<'a>(op: u8, n: u64, a: &'a [u8], b: &'a [u8]) -> u8 {
     match op {
         21 => item(a, n as usize),
-        22 => line(a, n as usize),
+        22 => walks::line(files::line_at(a, n as usize)),
         23 => count(a),
         _ => newer(a, b),
     }
 }
 
-pub(crate) fn run(case: input::Case, data: &[u8]) -> u8 {
-    let op = case.op;
-    let n = case.n;
-    let a = input::part(data, 0, case.a);
-    let from_a = case.a % 65536;
-    let b = input::part(data, from_a, case.b);
-    let from_b = from_a + case.b % 65536;
-    let c = input::part(data, from_b, case.c);
-    print_name(op);
+fn run_by_row<'a>(op: u8, n: u64, a: &'a [u8], b: &'a [u8], c: &[u8]) -> u8 {
+    match op {
+        44 => answer(reading::read_of(n as usize, input::number(c, 0) as usize, a)),
+        45 => field_of(n as usize, a, c),
+        46 => answer_no(reading::field_no((n % 256) as u8, a)),
+        _ => answer_no(reading::whole_no(n as usize, a, b)),
+    }
+}
+
+fn run_writing(op: u8, n: u64, a: &[u8], b: &[u8], c: &[u8]) -> u8 {
+    let mut space = [0u8; 1024];
+    write(op, n, a, b, c, &mut space)
+}
+
+// Every call but the one that takes a and b as one file.
+fn run_call<'a>(op: u8, n: u64, a: &'a [u8], b: &'a [u8], c: &'a [u8]) -> u8 {
     if op < 13 {
         return run_text(op, n, a, b);
     }
@@ -308,8 +258,33 @@ pub(crate) fn run(case: input::Case, data: &[u8]) -> u8 {
         return run_reading(op, n, a);
     }
     if op < 21 {
-        let mut space = [0u8; 1024];
-        return write(op, n, a, b, c, &mut space);
+        return run_writing(op, n, a, b, c);
     }
-    run_other(op, n, a, b)
+    if op < 25 {
+        return run_other(op, n, a, b);
+    }
+    if op < 44 {
+        return parts::run(op, n, a, c);
+    }
+    if op < 48 {
+        return run_by_row(op, n, a, b, c);
+    }
+    if op < 52 {
+        return walks::run(op, n, a, c);
+    }
+    run_writing(op, n, a, b, c)
+}
+
+pub(crate) fn run(case: input::Case, data: &[u8]) -> u8 {
+    let op = case.op;
+    let a = input::part(data, 0, case.a);
+    let from_a = case.a % 65536;
+    let b = input::part(data, from_a, case.b);
+    let from_b = from_a + case.b % 65536;
+    let c = input::part(data, from_b, case.c);
+    names::print_name(op);
+    if op == 51 {
+        return walks::list(input::part(data, 0, from_b));
+    }
+    run_call(op, case.n, a, b, c)
 }

@@ -1,7 +1,9 @@
 // The cases, as compare/ writes them: the call, a number, the lengths of three byte strings, all big endian, and then the
-// strings.
+// strings. A call plus 128 has no strings of its own: they are the front of those of the case before it.
 use libc::STDIN_FILENO;
 ghost use Prim.Native.Nat.{_<_};
+
+const REPEATED: u8 = 128;
 
 // One case: the call (0 where there are no more), its number, and the lengths of a, b and c in the data.
 pub(crate) struct Case {
@@ -78,6 +80,14 @@ fn read(data: &mut [u8], n: usize) -> bool {
     io::read_full(STDIN_FILENO, &mut data[..n]) == n
 }
 
+// How many of the strings' bytes stand in the case itself.
+fn own(first: u8, all: usize) -> usize {
+    if first < REPEATED {
+        return all;
+    }
+    0
+}
+
 pub(crate) fn next_case(data: &mut [u8]) -> Case {
     let mut head = [0u8; 15];
     if io::read_full(STDIN_FILENO, &mut head) != 15 {
@@ -87,11 +97,11 @@ pub(crate) fn next_case(data: &mut [u8]) -> Case {
     let b = short(head[11], head[12]);
     let c = short(head[13], head[14]);
     let n = number(&head, 1);
-    if !read(data, a + b + c) {
+    if !read(data, own(head[0], a + b + c)) {
         return over();
     }
     Case {
-        op: head[0],
+        op: head[0] % REPEATED,
         n,
         a,
         b,

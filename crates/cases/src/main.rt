@@ -2,11 +2,15 @@
 // for each. What it must print, the file stdout, is what compare/ answered. compare/README.md has the form of both files.
 mod calls;
 mod input;
+mod names;
+mod outputs;
+mod parts;
 mod say;
+mod walks;
 
 // How often each call was made, and how often each number was given back.
 struct Counts {
-    calls: [u64; 25],
+    calls: [u64; 128],
     numbers: [u64; 14],
 }
 
@@ -18,7 +22,7 @@ fn more(n: u64) -> u64 {
 fn counted(counts: Counts, op: u8, number: u8) -> Counts {
     let mut next = counts;
     let i = op as usize;
-    if i < 25 {
+    if i < 128 {
         next.calls[i] = more(next.calls[i]);
     }
     let j = number as usize;
@@ -28,16 +32,20 @@ fn counted(counts: Counts, op: u8, number: u8) -> Counts {
     next
 }
 
+// Nothing for a number that no call has.
 fn print_call(op: u8, n: u64) {
+    if n == 0 {
+        return;
+    }
     say::text(b"calls ");
-    calls::print_name(op);
+    names::print_call(op);
     say::space();
     say::number(n);
     say::line_feed();
 }
 
 fn print_calls(counts: Counts) {
-    for i in 1..25usize {
+    for i in 1..128usize {
         print_call(i as u8, counts.calls[i]);
     }
 }
@@ -62,7 +70,7 @@ const MOST: u32 = 1000000;
 fn main() {
     let mut data = [0u8; 196608];
     let mut counts = Counts {
-        calls: [0; 25],
+        calls: [0; 128],
         numbers: [0; 14],
     };
     let mut i: u32 = 0;

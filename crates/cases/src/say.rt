@@ -50,3 +50,13 @@ pub(crate) fn bytes(s: &[u8]) {
         i += 1;
     }
 }
+
+// A part's length, and its bytes in hexadecimal if there are any, which end the line.
+pub(crate) fn part(s: &[u8]) {
+    then(s.len());
+    if s.len() != 0 {
+        space();
+        bytes(s);
+    }
+    line_feed();
+}

@@ -6,10 +6,10 @@ use Rattle.cases.proofs.print_calls.Statement.{statement}
 use Rattle.cases.proofs.print_calls.Tie as tie
 
 abbrev Inv-loop : tie.InvT-loop
-Inv-loop counts i₀ i = (1 ≤ i) × (i ≤ 25)
+Inv-loop counts i₀ i = (1 ≤ i) × (i ≤ 128)
 
 abbrev μ-loop : tie.MeasureT-loop
-μ-loop counts i₀ i = 25 - i
+μ-loop counts i₀ i = 128 - i
 
 loop-holds : tie.Need-loop-holds Inv-loop μ-loop
 loop-holds c = search needs

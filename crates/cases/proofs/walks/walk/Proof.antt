@@ -1,0 +1,56 @@
+-- `cases::walks::walk` ends: it makes no more steps than the file has bytes, and one.
+-- Assumes nothing.
+use Prim.Native.Nat.{_+_, _-_}
+use lib.ListN.{length}
+use borrow.Author.Needs.{needs}
+use Rattle.cases.proofs.walks.walk.Statement.{statement}
+use Rattle.cases.proofs.walks.walk.Tie as tie
+
+abbrev Inv-loop : tie.InvT-loop
+Inv-loop file place₀ k₀ place k = Unit {0}
+
+abbrev μ-loop : tie.MeasureT-loop
+μ-loop file place₀ k₀ place k = length file + 1 - k
+
+loop-holds : tie.Need-loop-holds Inv-loop μ-loop
+loop-holds c = search needs
+
+step-from-requires : tie.Need-step-from-requires Inv-loop μ-loop
+step-from-requires c κs = search needs
+
+print-line-requires : tie.Need-print-line-requires Inv-loop μ-loop
+print-line-requires c κs = search needs
+
+next-of-requires : tie.Need-next-of-requires Inv-loop μ-loop
+next-of-requires c κs = search needs
+
+add-k : tie.Need-add-k Inv-loop μ-loop
+add-k c = search needs
+
+loop-less : tie.Need-loop-less Inv-loop μ-loop
+loop-less c = search needs
+
+loop-again : tie.Need-loop-again Inv-loop μ-loop
+loop-again c = search needs
+
+line-feed-requires : tie.Need-line-feed-requires Inv-loop μ-loop
+line-feed-requires c κs = search needs
+
+returns : tie.Need-returns Inv-loop μ-loop
+returns c = search needs
+
+pub walk-spec : {M : Type 1} → statement M
+walk-spec =
+    tie.close
+    (tie.spec
+    Inv-loop
+    μ-loop
+    loop-holds
+    step-from-requires
+    print-line-requires
+    next-of-requires
+    add-k
+    loop-less
+    loop-again
+    line-feed-requires
+    returns)

@@ -1,0 +1,89 @@
+// Files line by line, and their list.
+use crate::calls;
+use crate::input;
+use crate::say;
+
+// What stands at a place, and the number of the line's answer.
+fn print_line(line: files::Line) -> u8 {
+    match line {
+        files::Line::Finished { place } => {
+            say::text(b" finished");
+            say::then(place);
+            say::then(0);
+            say::then(place);
+            calls::NONE
+        }
+        files::Line::Read {
+            no,
+            field,
+            kind: _,
+            start,
+            len,
+            next,
+        } => {
+            say::text(b" read");
+            say::then(no as usize);
+            say::then(field as usize);
+            say::then(start);
+            say::then(len);
+            say::then(next);
+            no
+        }
+    }
+}
+
+pub(crate) fn line(line: files::Line) -> u8 {
+    let no = print_line(line);
+    say::line_feed();
+    no
+}
+
+fn next_of(line: files::Line) -> usize {
+    match line {
+        files::Line::Finished { place } => place,
+        files::Line::Read { next, .. } => next,
+    }
+}
+
+// Every step from the start until the file is finished. No file has more lines than bytes.
+fn walk(file: &[u8]) -> u8 {
+    let mut place: usize = 0;
+    let mut k: usize = 0;
+    while k <= file.len() {
+        let step = files::step_from(file, place);
+        if print_line(step) == calls::NONE {
+            break;
+        }
+        place = next_of(step);
+        k += 1;
+    }
+    say::line_feed();
+    calls::NONE
+}
+
+// The list, on lines of its own, and how many lines were printed.
+pub(crate) fn list(file: &[u8]) -> u8 {
+    say::line_feed();
+    let lines = printing::print_list(file);
+    say::text(b"printed");
+    say::then(lines);
+    say::line_feed();
+    calls::NONE
+}
+
+fn refuse(no: u8, field: u8) -> u8 {
+    let refused = put::refuse(no, field);
+    say::then(refused.no as usize);
+    say::then(refused.field as usize);
+    say::then(refused.len);
+    say::line_feed();
+    calls::NONE
+}
+
+pub(crate) fn run(op: u8, n: u64, a: &[u8], c: &[u8]) -> u8 {
+    match op {
+        48 => refuse((n % 256) as u8, (input::number(c, 0) % 256) as u8),
+        49 => walk(a),
+        _ => line(files::step_from(a, n as usize)),
+    }
+}
