@@ -2,6 +2,9 @@
 use crate::calls;
 use crate::input;
 use crate::say;
+ghost use mathlib.Core.Path.{_≡_};
+ghost use Rattle.format.specs.Files.{lineAt};
+ghost use Rattle.files.specs.Walk.{lineSaid, nextOf};
 
 // What stands at a place, and the number of the line's answer.
 fn print_line(line: files::Line) -> u8 {
@@ -45,16 +48,25 @@ fn next_of(line: files::Line) -> usize {
     }
 }
 
-// Every step from the start until the file is finished. No file has more lines than bytes.
+// The second step of a reader. It holds the file, so this function is proved by hand.
+fn second_line(file: &[u8]) -> files::Line
+    ensures { λ r. ⌜ r ≡ lineSaid (lineAt (now (file .entry)) (nextOf (lineSaid (lineAt (now (file .entry)) 0)))) ⌝ }
+{
+    let mut reader = files::Reader::new(file);
+    reader.step();
+    reader.step()
+}
+
+// Every step from the start until the file is finished, and two at least. No file has more lines than bytes.
 fn walk(file: &[u8]) -> u8 {
-    let mut place: usize = 0;
+    print_line(files::step_from(file, 0));
+    let mut step = second_line(file);
     let mut k: usize = 0;
     while k <= file.len() {
-        let step = files::step_from(file, place);
         if print_line(step) == calls::NONE {
             break;
         }
-        place = next_of(step);
+        step = files::step_from(file, next_of(step));
         k += 1;
     }
     say::line_feed();

@@ -1,4 +1,4 @@
--- `cases::walks::walk` ends: it makes no more steps than the file has bytes, and one.
+-- `cases::walks::walk` ends: it makes no more steps than the file has bytes, and two.
 -- Assumes nothing.
 use Prim.Native.Nat.{_+_, _-_}
 use lib.ListN.{length}
@@ -7,13 +7,10 @@ use Rattle.cases.proofs.walks.walk.Statement.{statement}
 use Rattle.cases.proofs.walks.walk.Tie as tie
 
 abbrev Inv-loop : tie.InvT-loop
-Inv-loop file place₀ k₀ place k = Unit {0}
+Inv-loop file step₀ k₀ step k = Unit {0}
 
 abbrev μ-loop : tie.MeasureT-loop
-μ-loop file place₀ k₀ place k = length file + 1 - k
-
-loop-holds : tie.Need-loop-holds Inv-loop μ-loop
-loop-holds c = search needs
+μ-loop file step₀ k₀ step k = length file + 1 - k
 
 step-from-requires : tie.Need-step-from-requires Inv-loop μ-loop
 step-from-requires c κs = search needs
@@ -21,8 +18,20 @@ step-from-requires c κs = search needs
 print-line-requires : tie.Need-print-line-requires Inv-loop μ-loop
 print-line-requires c κs = search needs
 
+second-line-requires : tie.Need-second-line-requires Inv-loop μ-loop
+second-line-requires c κs = search needs
+
+loop-holds : tie.Need-loop-holds Inv-loop μ-loop
+loop-holds c = search needs
+
+print-line-requires-2 : tie.Need-print-line-requires-2 Inv-loop μ-loop
+print-line-requires-2 c κs = search needs
+
 next-of-requires : tie.Need-next-of-requires Inv-loop μ-loop
 next-of-requires c κs = search needs
+
+step-from-requires-2 : tie.Need-step-from-requires-2 Inv-loop μ-loop
+step-from-requires-2 c κs = search needs
 
 add-k : tie.Need-add-k Inv-loop μ-loop
 add-k c = search needs
@@ -45,10 +54,13 @@ walk-spec =
     (tie.spec
     Inv-loop
     μ-loop
-    loop-holds
     step-from-requires
     print-line-requires
+    second-line-requires
+    loop-holds
+    print-line-requires-2
     next-of-requires
+    step-from-requires-2
     add-k
     loop-less
     loop-again
