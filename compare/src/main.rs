@@ -89,6 +89,34 @@ fn main() -> ExitCode {
 #[cfg(test)]
 mod tests {
     use super::*;
+    use std::fs;
+    use std::path::{Path, PathBuf};
+
+    fn entries(folder: &Path) -> Vec<PathBuf> {
+        let entries = fs::read_dir(folder).into_iter().flatten();
+        entries.map(|entry| entry.expect("an entry").path()).collect()
+    }
+
+    /// The names of the library's public functions, which are all that is read of its sources.
+    fn public_calls() -> Vec<String> {
+        let crates = entries(&Path::new(env!("CARGO_MANIFEST_DIR")).join("../crates"));
+        let sources = crates.iter().flat_map(|folder| entries(&folder.join("src")));
+        let text: String =
+            sources.map(|source| fs::read_to_string(source).expect("a source")).collect();
+        let declared = text.lines().filter_map(|line| line.trim_start().strip_prefix("pub fn "));
+        declared.filter_map(|rest| rest.split(['(', '<']).next()).map(str::to_owned).collect()
+    }
+
+    #[test]
+    fn every_public_call_of_the_library_has_its_cases() {
+        let calls = public_calls();
+        assert!(!calls.is_empty());
+        for call in calls {
+            let is_there =
+                |entry: &calls::Call| entry.call.split([':', ',']).any(|one| one == call);
+            assert!(CALLS.iter().any(is_there), "{call} has no cases");
+        }
+    }
 
     #[test]
     fn the_files_come_out_the_same_every_time() {
