@@ -64,7 +64,7 @@ calls! {
         case.written(|output| agreement::centre_text(&case.a, output))
     };
     Item "item" "text_item" |case| case.item(agreement::item(&case.a, case.n));
-    Line "line" "line_at" |case| case.step(file::line_at(&case.a, case.n));
+    Line "line" "line_at" |case| case.line_read(file::line_at(&case.a, case.n));
     Count "count" "count" |case| {
         let (lines, accepted) = file::count(&case.a);
         case.value(format!("{lines} {accepted}"))

@@ -4,6 +4,7 @@ use crate::calls::Op;
 use compare::build;
 use compare::crc::crc16;
 use compare::file::{self, Line, Step};
+use compare::kind::Kind;
 use compare::record::Record;
 use compare::refusal::Refusal;
 use compare::text::{base16, check_text};
@@ -87,8 +88,7 @@ impl Case {
     /// The answer of a reading call: the kind's number, 7 for none.
     pub fn kind(&self, read: Result<Record, Refusal>) -> Answer {
         let read = read.map(|record| record.kind);
-        let kind = read.map_or(7, |kind| kind as u8);
-        let line = self.line(format!("{} {} {kind}", number(read), field(read)));
+        let line = self.line(format!("{} {} {}", number(read), field(read), row(read)));
         Answer { line: line.into(), number: Some(number(read)) }
     }
 
@@ -147,21 +147,22 @@ impl Case {
         self.value(format!("{next} {}", check_text(crc16(&output))))
     }
 
-    /// The answer of a call that reads one line of a file.
+    /// The answer of the file call.
+    pub fn line_read(&self, step: Step) -> Answer {
+        Answer { line: self.line(said(step)).into(), number: line_number(step) }
+    }
+
+    /// The answer of a reader's step.
     pub fn step(&self, step: Step) -> Answer {
-        let number = match step {
-            Step::Finished { .. } => None,
-            Step::Read(line) => Some(number(line.answer)),
-        };
-        Answer { line: self.line(said(step)).into(), number }
+        Answer { line: self.line(stepped(step)).into(), number: line_number(step) }
     }
 
     /// The answers of a reader: those of the file call from the start, until the file is finished,
     /// and two at least.
     pub fn walked(&self) -> Answer {
-        let finished = said(Step::Finished { place: self.a.len() as u64 });
+        let finished = stepped(Step::Finished { place: self.a.len() as u64 });
         let mut steps: Vec<String> =
-            file::lines(&self.a).map(|line| said(Step::Read(line))).collect();
+            file::lines(&self.a).map(|line| stepped(Step::Read(line))).collect();
         steps.resize(2.max(steps.len() + 1), finished);
         self.value(steps.join(" "))
     }
@@ -182,6 +183,25 @@ fn said(step: Step) -> String {
             format!("read {} {} {start} {length} {next}", number(answer), field(answer))
         }
     }
+}
+
+/// The same with the row of the line's kind, 7 for none.
+fn stepped(step: Step) -> String {
+    match step {
+        Step::Finished { .. } => said(step),
+        Step::Read(line) => format!("{} {}", said(step), row(line.answer)),
+    }
+}
+
+fn line_number(step: Step) -> Option<u8> {
+    match step {
+        Step::Finished { .. } => None,
+        Step::Read(line) => Some(number(line.answer)),
+    }
+}
+
+fn row(answer: Result<Kind, Refusal>) -> u8 {
+    answer.map_or(7, |kind| kind as u8)
 }
 
 /// The line with a space and a part after it, or alone when the part is empty.
@@ -291,7 +311,7 @@ mod tests {
         let end = line(Op::EndText, 8, [no, no, &further(&[3, 0])]);
         assert_eq!(end, format!("end_text 0 0 8 {}", check_text(crc16(b"end 3 0\n"))));
         let walked = line(Op::Reader, 0, [b"\nab", no, no]);
-        assert_eq!(walked, "Reader::new,step read 2 0 0 0 1 read 11 0 1 2 3 finished 3 0 3");
+        assert_eq!(walked, "Reader::new,step read 2 0 0 0 1 7 read 11 0 1 2 3 7 finished 3 0 3");
         let listed = line(Op::PrintList, 0, [b"\na", b"b", no]);
         assert_eq!(listed, "print_list\n1 0 0 2\n2 1 2 11\nend 2 0\nprinted 3");
     }

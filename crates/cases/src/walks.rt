@@ -41,6 +41,21 @@ pub(crate) fn line(line: files::Line) -> u8 {
     no
 }
 
+// The row of a line's kind too, which the lines of the plain call leave out.
+fn print_step(step: files::Line) -> u8 {
+    let no = print_line(step);
+    if let files::Line::Read { kind, .. } = step {
+        say::then(kind);
+    }
+    no
+}
+
+fn step(step: files::Line) -> u8 {
+    let no = print_step(step);
+    say::line_feed();
+    no
+}
+
 fn next_of(line: files::Line) -> usize {
     match line {
         files::Line::Finished { place } => place,
@@ -59,11 +74,11 @@ fn second_line(file: &[u8]) -> files::Line
 
 // Every step from the start until the file is finished, and two at least. No file has more lines than bytes.
 fn walk(file: &[u8]) -> u8 {
-    print_line(files::step_from(file, 0));
+    print_step(files::step_from(file, 0));
     let mut step = second_line(file);
     let mut k: usize = 0;
     while k <= file.len() {
-        if print_line(step) == calls::NONE {
+        if print_step(step) == calls::NONE {
             break;
         }
         step = files::step_from(file, next_of(step));
@@ -96,6 +111,6 @@ pub(crate) fn run(op: u8, n: u64, a: &[u8], c: &[u8]) -> u8 {
     match op {
         48 => refuse((n % 256) as u8, (input::number(c, 0) % 256) as u8),
         49 => walk(a),
-        _ => line(files::step_from(a, n as usize)),
+        _ => step(files::step_from(a, n as usize)),
     }
 }

@@ -15,8 +15,8 @@ abbrev μ-loop : tie.MeasureT-loop
 step-from-requires : tie.Need-step-from-requires Inv-loop μ-loop
 step-from-requires c κs = search needs
 
-print-line-requires : tie.Need-print-line-requires Inv-loop μ-loop
-print-line-requires c κs = search needs
+print-step-requires : tie.Need-print-step-requires Inv-loop μ-loop
+print-step-requires c κs = search needs
 
 second-line-requires : tie.Need-second-line-requires Inv-loop μ-loop
 second-line-requires c κs = search needs
@@ -24,8 +24,8 @@ second-line-requires c κs = search needs
 loop-holds : tie.Need-loop-holds Inv-loop μ-loop
 loop-holds c = search needs
 
-print-line-requires-2 : tie.Need-print-line-requires-2 Inv-loop μ-loop
-print-line-requires-2 c κs = search needs
+print-step-requires-2 : tie.Need-print-step-requires-2 Inv-loop μ-loop
+print-step-requires-2 c κs = search needs
 
 next-of-requires : tie.Need-next-of-requires Inv-loop μ-loop
 next-of-requires c κs = search needs
@@ -55,10 +55,10 @@ walk-spec =
     Inv-loop
     μ-loop
     step-from-requires
-    print-line-requires
+    print-step-requires
     second-line-requires
     loop-holds
-    print-line-requires-2
+    print-step-requires-2
     next-of-requires
     step-from-requires-2
     add-k
