@@ -5,7 +5,7 @@ use crate::calls::Op;
 use crate::sample::{self, Fault, Signed};
 use compare::kind::Kind;
 
-/// Ranges of rows: the calls' own, one kind each, empty ones, and ones that begin before the records.
+/// Ranges of rows: the calls' own, one kind each, empty ones, and ones that begin with identities.
 const RANGES: [(u64, u64); 10] =
     [(3, 7), (3, 5), (4, 5), (5, 6), (6, 7), (0, 7), (0, 3), (2, 4), (7, 3), (4, u64::MAX)];
 

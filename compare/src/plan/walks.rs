@@ -16,7 +16,7 @@ pub fn add(plan: &mut Plan) {
     longest(plan);
 }
 
-/// Files of few lines: empty, unfinished, with carriage returns, of every kind, damaged and too long.
+/// Files of few lines: empty, unfinished, with carriage returns, of every kind, damaged, too long.
 fn files(plan: &mut Plan) -> Vec<Vec<u8>> {
     let texts = [
         "",
