@@ -26,7 +26,7 @@ pub struct Plan {
 
 /// All cases, in order.
 pub fn all() -> Vec<Case> {
-    let groups: [fn(&mut Plan); 12] = [
+    let groups: &[fn(&mut Plan)] = &[
         types::add,
         reading::add,
         fields::add,
