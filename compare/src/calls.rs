@@ -131,6 +131,17 @@ calls! {
         let text = file::end_text(case.further(0), case.further(1));
         case.written(|output| build::put(text.as_bytes(), output))
     };
+    PartStart "part_start" "part_start" |case| {
+        case.value(frame::part_start(low_byte(case.n), &case.a, case.further(0)))
+    };
+    IdentityPlace "identity_place" "identity_place" |case| {
+        case.stands(record::identity_field(&case.a, case.n))
+    };
+    RecordPlace "record_place" "record_place" |case| {
+        case.stands(record::record_field(&case.a, case.n))
+    };
+    ItemPlace "item_place" "item_place" |case| case.stands(agreement::item(&case.a, case.n));
+    NewerOf "newer_of" "newer_of" |case| case.which(newer::newer(&case.a, &case.b));
 }
 
 impl Op {

@@ -100,6 +100,23 @@ impl Case {
         Answer { line: followed(line, part), number: Some(number) }
     }
 
+    /// The answer of a call that says where a part of a stands: its start and its length.
+    pub fn stands(&self, part: Result<&[u8], Refusal>) -> Answer {
+        let (number, field) = (number(part), field(part));
+        let start = part.map_or(0, |part| part.as_ptr() as usize - self.a.as_ptr() as usize);
+        let line =
+            self.line(format!("{number} {field} {start} {}", part.unwrap_or_default().len()));
+        Answer { line: line.into(), number: Some(number) }
+    }
+
+    /// The answer of the choice: 1 for a, 2 for b, 0 with a refusal.
+    pub fn which(&self, chosen: Result<&[u8], Refusal>) -> Answer {
+        let (number, field) = (number(chosen), field(chosen));
+        let which = chosen.map_or(0, |key| if key.as_ptr() == self.a.as_ptr() { 1 } else { 2 });
+        let line = self.line(format!("{number} {field} {which}"));
+        Answer { line: line.into(), number: Some(number) }
+    }
+
     /// The answer of a call that gives a part alone.
     pub fn part(&self, part: &[u8]) -> Answer {
         let line = self.line(part.len());

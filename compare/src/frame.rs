@@ -40,6 +40,13 @@ pub fn count_fields(mark: u8, body: &[u8]) -> usize {
     parts(mark, body).iter().skip(1).count()
 }
 
+/// Where part n begins: behind the parts before it, each with its mark, and behind the last part if
+/// there are not so many.
+pub fn part_start(mark: u8, body: &[u8], n: u64) -> usize {
+    let before = (0..n).zip(parts(mark, body));
+    before.map(|(_, part)| part.len() + 1).sum()
+}
+
 /// Part n of a body, the kind name being part 0; an empty one if there is none.
 pub fn part(mark: u8, body: &[u8], n: u64) -> &[u8] {
     usize::try_from(n).ok().and_then(|n| parts(mark, body).get(n).copied()).unwrap_or_default()
@@ -74,6 +81,8 @@ mod tests {
         assert_eq!(part(b'|', b"A|b:c|", 1), b"b:c");
         assert_eq!(part(b'|', b"A|b|", 2), b"");
         assert_eq!(part(b'|', b"A|b|", u64::MAX), b"");
+        assert_eq!([0, 1, 2, 3].map(|n| part_start(b'|', b"A||b|", n)), [0, 2, 3, 5]);
+        assert_eq!([0, 1, 2, u64::MAX].map(|n| part_start(b'|', b"A|b", n)), [0, 2, 4, 4]);
     }
 
     #[test]

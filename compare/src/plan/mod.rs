@@ -8,6 +8,7 @@ mod files;
 mod newer;
 mod outputs;
 mod parts;
+mod places;
 mod reading;
 mod rows;
 mod table;
@@ -39,6 +40,8 @@ pub fn all() -> Vec<Case> {
         rows::add,
         outputs::add,
         walks::add,
+        places::add,
+        newer::which,
     ];
     let mut plan = Plan { cases: Vec::new(), random: Random::with_seed(0) };
     for (seed, add) in (1..).zip(groups) {

@@ -59,17 +59,45 @@ impl Plan {
     }
 }
 
+/// Pairs of worked keys, with the same Subject and with another.
+const WORKED: [(&str, &str); 7] = [
+    ("PUBKEY_KMC", "PUBKEY_KMC"),
+    ("PUBKEY_MAN", "PUBKEY_MAN"),
+    ("PUBKEY_SM", "PUBKEY_SM_NOSIG"),
+    ("PUBKEY_SM_NOSIG", "PUBKEY_SM"),
+    ("PUBKEY_KMC", "PUBKEY_SM"),
+    ("PUBKEY_MAN", "PUBKEY_SM_NOSIG"),
+    ("PUBKEY_KMC", "PUBKEY_MAN"),
+];
+
 fn worked_keys(plan: &mut Plan) {
-    for (first, second) in [
-        ("PUBKEY_KMC", "PUBKEY_KMC"),
-        ("PUBKEY_MAN", "PUBKEY_MAN"),
-        ("PUBKEY_SM", "PUBKEY_SM_NOSIG"),
-        ("PUBKEY_SM_NOSIG", "PUBKEY_SM"),
-        ("PUBKEY_KMC", "PUBKEY_SM"),
-        ("PUBKEY_MAN", "PUBKEY_SM_NOSIG"),
-        ("PUBKEY_KMC", "PUBKEY_MAN"),
-    ] {
+    for (first, second) in WORKED {
         plan.pair(Op::Newer, worked(first), worked(second));
+    }
+}
+
+/// Which of the two: the worked keys, an earlier and a later one in both orders, and refusals.
+pub fn which(plan: &mut Plan) {
+    for (first, second) in WORKED {
+        plan.pair(Op::NewerOf, worked(first), worked(second));
+    }
+    for (first, second) in
+        [("20180110T120000Z", "20180110T120001Z"), ("20171231T235959Z", "20180101T000000Z")]
+    {
+        let subject = Subject::any(&mut plan.random);
+        let [first, second] = [first, second]
+            .map(|gnt| Subject { gnt: gnt.into(), ..subject.clone() }.key(&mut plan.random));
+        plan.pair(Op::NewerOf, first.clone(), second.clone());
+        plan.pair(Op::NewerOf, second, first);
+    }
+    let key = worked("PUBKEY_KMC");
+    for &fault in Fault::of(Kind::PkEcdh) {
+        let bad = sample::faulty(&mut plan.random, Kind::PkEcdh, &[fault]);
+        plan.pair(Op::NewerOf, key.clone(), bad);
+    }
+    for bytes in ["", "PK.ECDH.1", "PK.ECDH.1|", "PK.ECDH.1:x"] {
+        plan.pair(Op::NewerOf, bytes, key.clone());
+        plan.pair(Op::NewerOf, key.clone(), bytes);
     }
 }
 

@@ -4,6 +4,7 @@ use crate::input;
 use crate::names;
 use crate::outputs;
 use crate::parts;
+use crate::places;
 use crate::say;
 use crate::walks;
 ghost use Prim.Native.Nat.{_≤_};
@@ -272,7 +273,10 @@ fn run_call<'a>(op: u8, n: u64, a: &'a [u8], b: &'a [u8], c: &'a [u8]) -> u8 {
     if op < 52 {
         return walks::run(op, n, a, c);
     }
-    run_writing(op, n, a, b, c)
+    if op < 56 {
+        return run_writing(op, n, a, b, c);
+    }
+    places::run(op, n, a, b, c)
 }
 
 pub(crate) fn run(case: input::Case, data: &[u8]) -> u8 {

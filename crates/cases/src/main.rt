@@ -5,6 +5,7 @@ mod input;
 mod names;
 mod outputs;
 mod parts;
+mod places;
 mod say;
 mod walks;
 

@@ -34,8 +34,12 @@ pub(crate) fn print_call(op: u8) {
             b"check_no title_of part body_of read_of field_of field_no whole_no",
             n,
         ),
-        _ => word(
+        6 => word(
             b"refuse Reader::new,step step_from print_list put put_byte line_text end_text",
+            n,
+        ),
+        _ => word(
+            b"part_start identity_place record_place item_place newer_of",
             n,
         ),
     }

@@ -47,7 +47,7 @@ use denote.Triple.Walked.{says, Stays, stay-none-slice, walkOf, goes-none-slice,
 use denote.Exit.{yes}
 use Rattle.format.specs.Files.{lineAt}
 use Rattle.files.specs.Walk.{lineSaid, nextOf}
-use Rattle.files.specs.Steps.{Stepped}
+use Rattle.files.specs.Steps.{Begins, Stepped}
 use Rattle.files.specs.declared.Line.{Line}
 use Rattle.files.specs.declared.Reader.{Reader}
 use Rattle.files.proofs.Reader as T
@@ -128,8 +128,8 @@ module _ {M : Type 1} (𝓤 : URA M) (H : Heap 𝓤) (A : Atoms 𝓤) (W : Given
       move ! (1 ∷ []) $ fsplit ! $ use1 W (‵ Own ⊛ ‵ Own) (shr-slice-copy 𝓤 H A W (named 0) κ u8 .twice s (v ∷ [])) $ split ! $
       move ! (0 ∷ 2 ∷ []) $ fjoin ! $ move ! (2 ∷ 0 ∷ []) $ use2 W (raw (New 𝓤 H A at-mem run .pre to-new)) (qed W ((‵ (flft κ q) ⊛ ‵ ftrue) ∷ ‵ (owns (ShrSlice (named 0) κ u8 ∷ []) (s, tt) at) ∷ []) ∵ join ! $ frame ! $ done !) $ frame ! $ done !
 
-  new-said : (h : Reader) → ent 𝓤 (ensured 𝓤 H A new.ended (new.clauses 𝓤 H A at-mem run) (κ, tt) (s, tt) tt h) (fact 𝓤 ((h .file ≡ s) × (h .place ≡ 0)))
-  new-said h = exE 𝓤 _ (λ ws. snd∗ 𝓤 (sem 𝓤 H A (lasts new.ended (κ, tt) (s, tt) ws)) (fact 𝓤 ((h .file ≡ s) × (h .place ≡ 0))))
+  new-said : (h : Reader) → ent 𝓤 (ensured 𝓤 H A new.ended (new.clauses 𝓤 H A at-mem run) (κ, tt) (s, tt) tt h) (fact 𝓤 (Begins s h))
+  new-said h = exE 𝓤 _ (λ ws. snd∗ 𝓤 (sem 𝓤 H A (lasts new.ended (κ, tt) (s, tt) ws)) (fact 𝓤 (Begins s h)))
 
   -- 'a's token is halved: one half goes into the token of the lifetime a ∷ κ of the call, and the other to `step`
   abbrev half : Share
@@ -160,11 +160,11 @@ module _ {M : Type 1} (𝓤 : URA M) (H : Heap 𝓤) (A : Atoms 𝓤) (W : Given
       use1 W (‵ (fat fullShare (T′.mir erased) l 0 (T′.lowered g))) (W .laws .raw-at fullShare (T′.mir erased) l 0 (T′.lowered g)) $ move ! (1 ∷ []) $ drop ! $ done !)
 
   -- two steps of a reader that stands at the start
-  second : (h g k : Reader) (r r′ : Line) → (h .file ≡ s) × (h .place ≡ 0) → Stepped h r g → Stepped g r′ k → r′ ≡ found
+  second : (h g k : Reader) (r r′ : Line) → Begins s h → Stepped h r g → Stepped g r′ k → r′ ≡ found
   second h g k r r′ made e e′ =
       e′ .its-line
-      ∙ (ap (λ (file : RefT (List ℕ)). line file (g .place)) (e .same-file ∙ made .0)
-      ∙ ap (line s) (e .its-place ∙ ap nextOf (e .its-line ∙ (ap (λ (file : RefT (List ℕ)). line file (h .place)) (made .0) ∙ ap (line s) (made .1)))))
+      ∙ (ap (λ (file : RefT (List ℕ)). line file (g .place)) (e .same-file ∙ made .same-file)
+      ∙ ap (line s) (e .its-place ∙ ap nextOf (e .its-line ∙ (ap (λ (file : RefT (List ℕ)). line file (h .place)) (made .same-file) ∙ ap (line s) (made .its-place)))))
 
   exits : (r : Line) (u : Val) → r ≡ found → ent 𝓤 (⋆ 𝓤 H A ((‵ (flft κ q) ⊛ ‵ ftrue) ∷ ‵ (S.the-row .own r (u ∷ [])) ∷ ‵ Own ∷ [])) (Post u)
   exits r u e =
@@ -180,7 +180,7 @@ module _ {M : Type 1} (𝓤 : URA M) (H : Heap 𝓤) (A : Atoms 𝓤) (W : Given
         move ! (14 ∷ []) $ use1 W (raw (New 𝓤 H A at-mem run .pre to-new) ⊛ ‵ Own) goes-new $ split ! $
         calls-at ! fm (New 𝓤 H A at-mem run) known-new to-new (and-then ! (load ! (from ! (stop !)) (look ! 12 refl)) (no-more !)) (λ u.
         use1 W (later (some (λ (h : Reader). ((‵ (flft κ q) ⊛ ‵ ftrue) ⊛ ‵ (B .own h (u ∷ []))) ⊛ raw (ensured 𝓤 H A new.ended (new.clauses 𝓤 H A at-mem run) (κ, tt) (s, tt) tt h)))) (id⊢ 𝓤 _) $ await ! tt $ pick ! (λ h.
-        split ! $ move ! (1 ∷ []) $ use1 W (raw (fact 𝓤 ((h .file ≡ s) × (h .place ≡ 0)))) (new-said h) $ heard ! ((h .file ≡ s) × (h .place ≡ 0)) (λ made. split ! $ move ! (1 ∷ []) $
+        split ! $ move ! (1 ∷ []) $ use1 W (raw (fact 𝓤 (Begins s h))) (new-said h) $ heard ! (Begins s h) (λ made. split ! $ move ! (1 ∷ []) $
         -- [what the reader owns; the token; what file owns; room for _6; …; room for _5; …; room for _4; …; room for _3; …; room for _2; …; _1; …; room for _0; …]
         peeks ! B (Is B) (shows 𝓤 H A B) h (u ∷ []) (λ its.
         land ! (from ! (stop !)) (init ! 9 refl (LL.lawful (T.the-type αᵉ) (T′.the-laws αᵉ) 𝓤 H A W .typed h _ its .0)) $
