@@ -64,14 +64,14 @@ fn print_part(no: u8, field: u8, part: &[u8]) -> u8 {
 fn identity_field(a: &[u8], wanted: usize) -> u8 {
     let mut no: u8 = 0;
     let mut field: u8 = 0;
-    let part = reading::identity_field(a, wanted, &mut no, &mut field);
+    let part = fields::identity_field(a, wanted, &mut no, &mut field);
     print_part(no, field, part)
 }
 
 fn record_field(a: &[u8], wanted: usize) -> u8 {
     let mut no: u8 = 0;
     let mut field: u8 = 0;
-    let part = reading::record_field(a, wanted, &mut no, &mut field);
+    let part = fields::record_field(a, wanted, &mut no, &mut field);
     print_part(no, field, part)
 }
 
@@ -80,7 +80,7 @@ fn field_of(from: usize, a: &[u8], c: &[u8]) -> u8 {
     let mut field: u8 = 0;
     let to = input::number(c, 0) as usize;
     let wanted = input::number(c, 8) as usize;
-    let part = reading::field_of(from, to, a, wanted, &mut no, &mut field);
+    let part = fields::field_of(from, to, a, wanted, &mut no, &mut field);
     print_part(no, field, part)
 }
 

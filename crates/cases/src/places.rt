@@ -13,7 +13,7 @@ fn place(no: u8, field: u8, start: usize, len: usize) -> u8 {
     no
 }
 
-fn field(at: reading::Place) -> u8 {
+fn field(at: fields::Place) -> u8 {
     place(at.no, at.field, at.start, at.len)
 }
 
@@ -39,8 +39,8 @@ pub(crate) fn run(op: u8, n: u64, a: &[u8], b: &[u8], c: &[u8]) -> u8 {
     let wanted = n as usize;
     match op {
         56 => part_start(n, a, c),
-        57 => field(reading::identity_place(a, wanted)),
-        58 => field(reading::record_place(a, wanted)),
+        57 => field(fields::identity_place(a, wanted)),
+        58 => field(fields::record_place(a, wanted)),
         59 => item(items::item_place(a, wanted)),
         _ => choice(newer::newer_of(a, b)),
     }

@@ -10,7 +10,7 @@ use lib.Pow.{pow-add, pow-mono, pow-pos}
 use lib.Bits.{bitXor, xor-self, xor-comm, xor-lt, xor-shifted, xor-block}
 use lib.ListN.{length, getD, List·getD-eq-default}
 use lib.Seq.{ext-getD}
-use Rattle.crc16.specs.Crc.{begin, bitSteps, add, addAll, end, crcOf}
+use Rattle.crc16.specs.Crc.{begin, bitSteps, add, addAll, crcOf}
 use Rattle.crc16.specs.Damage.{AreBytes, SameCheck, Near, bitsOf, NeighboursCaught, BurstCaught}
 use Rattle.crc16.proofs.Xor.{xor-assoc, xor-equal, xor-pairs}
 use Rattle.crc16.proofs.Steps.{steps-xor, steps-down, steps-add, steps-kernel}

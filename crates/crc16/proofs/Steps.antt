@@ -3,14 +3,14 @@
 -- Assumes nothing.
 use Prim.Native.Nat.{ℕ, zero, suc, _+_, _*_, _/_, _%_, _^_, _<_}
 use mathlib.Core.Path.{_≡_, refl, sym, ap, ap₂, _∙_}
-use mathlib.Core.List.{List, [], _∷_, _++_}
+use mathlib.Core.List.{List, [], _∷_}
 use native.Mathlib.Nat.{pow-suc, mul-assoc, mul-one, zero-add, suc-add}
 use native.Mathlib.Omega.{arith}
 use native.Mathlib.Numerals.{add-one}
 use lib.Bits.{bitXor, differ, bitAnd, and-mask, xor-lt, xor-shr, xor-zero-r}
 use lib.ListN.{length, getD, drop}
 use lib.Seq.{drop-cons}
-use Rattle.crc16.specs.Crc.{begin, bitStep, bitSteps, add, addAll, end, crcOf}
+use Rattle.crc16.specs.Crc.{bitStep, bitSteps, add, addAll, crcOf}
 use Rattle.crc16.specs.Damage.{AreBytes}
 use Rattle.crc16.proofs.Xor.{xor-half, xor-odd, xor-pairs}
 

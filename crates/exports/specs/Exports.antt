@@ -5,7 +5,7 @@ use Prim.Native.Nat.{ℕ}
 use mathlib.Core.Bool.{true, false}
 use Rattle.table.specs.Table.{noRow}
 use Rattle.reading.specs.declared.Answer.{Answer}
-use Rattle.reading.specs.declared.Place as reading
+use Rattle.fields.specs.declared.Place as fields
 use Rattle.put.specs.declared.Written.{Written}
 use Rattle.items.specs.declared.Place as items
 use Rattle.files.specs.declared.Line.{Line}
@@ -17,7 +17,7 @@ use Rattle.exports.specs.declared.Found.{Found}
 abbrev pub answer : ℕ → ℕ → ℕ → Answer
 answer n f k = record { no = n; field = f; kind = k }
 
-abbrev pub fieldPlace : ℕ → ℕ → ℕ → ℕ → reading.Place
+abbrev pub fieldPlace : ℕ → ℕ → ℕ → ℕ → fields.Place
 fieldPlace n f start len = record { no = n; field = f; start = start; len = len }
 
 abbrev pub itemPlace : ℕ → ℕ → ℕ → items.Place

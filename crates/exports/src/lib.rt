@@ -2,13 +2,13 @@
 // a lent number a pointer; a part of the caller's bytes is handed back as its start and its length. Each function calls one
 // call of the library and has its contract: bindings/c/obscurlane.h says it to a user of C.
 ghost use mathlib.Core.Path.{_≡_};
-ghost use Prim.Native.Nat.{ℕ};
 ghost use lib.ListN.{length};
 ghost use Rattle.crc16.specs.Crc.{crcOf};
 ghost use Rattle.text.specs.Text.{isIdent, isTimestamp, isHex, isPoint, isSig, isMac, isPrint};
 ghost use Rattle.format.specs.Read.{readIdentity, readRecord};
 ghost use Rattle.format.specs.Files.{lineAt, walk};
-ghost use Rattle.reading.specs.Reading.{answerOf, Placed};
+ghost use Rattle.reading.specs.Reading.{answerOf};
+ghost use Rattle.fields.specs.Fields.{Placed};
 ghost use Rattle.put.specs.Made.{Writes};
 ghost use Rattle.building.specs.Building.{build};
 ghost use Rattle.items.specs.Place.{Placed as ItemPlaced};
@@ -126,7 +126,7 @@ pub extern "C" fn obscurlane_identity_field(
 ) -> u8
     ensures { λ r. ⌜ Placed (readIdentity (now (identity .entry))) wanted (now (identity .entry)) (fieldPlace r (now (field .exit)) (now (start .exit)) (now (len .exit))) ⌝ }
 {
-    let part = reading::identity_place(identity, wanted);
+    let part = fields::identity_place(identity, wanted);
     *field = part.field;
     *start = part.start;
     *len = part.len;
@@ -144,7 +144,7 @@ pub extern "C" fn obscurlane_record_field(
 ) -> u8
     ensures { λ r. ⌜ Placed (readRecord (now («record» .entry))) wanted (now («record» .entry)) (fieldPlace r (now (field .exit)) (now (start .exit)) (now (len .exit))) ⌝ }
 {
-    let place = reading::record_place(record, wanted);
+    let place = fields::record_place(record, wanted);
     *field = place.field;
     *start = place.start;
     *len = place.len;

@@ -8,7 +8,7 @@ use mathlib.Core.Option.{Option, some}
 use mathlib.Core.Bool.{Bool, true, false, not, cond, _&&_}
 use mathlib.Core.List.{List, [], _∷_, map}
 use native.Mathlib.Omega.{arith}
-use lib.Dec.{T, eqb, leb, lit≤, eqb→eq, eqb-refl, leb→le}
+use lib.Dec.{T, eqb, leb, lit≤, eqb→eq, leb→le}
 use lib.ListN.{length, getD}
 use mir.Facts.{and-yes, or-yes, yes-eqb}
 use Rattle.text.specs.Text.{Bytes, same, every, allOf, identCharacter, longest}

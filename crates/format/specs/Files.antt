@@ -1,7 +1,7 @@
 -- A file of records: document 01, "Files of records and the newer key". A file is lines, each ended by one line feed.
 -- Assumes nothing.
 use Prim.Native.Nat.{ℕ, zero, suc, _+_}
-use mathlib.Core.Bool.{Bool, true, false, cond}
+use mathlib.Core.Bool.{cond}
 use mathlib.Core.List.{List, [], _∷_}
 use lib.ListN.{length, drop}
 use lib.Dec.{leb, ltb, eqb}

@@ -16,8 +16,7 @@ use Rattle.format.proofs.Table.{all-among, identity-row, pubkey-row}
 use Rattle.format.proofs.Parts.{built-title}
 use Rattle.format.proofs.Exactly.{ask-complete, identity-exact, read-exact}
 use Rattle.reading.specs.Steps.{Inside}
-use Rattle.reading.proofs.Within.{identity-within, of-within}
-use Rattle.reading.proofs.Wanted.{field-part}
+use Rattle.reading.proofs.Within.{identity-within, of-within, field-part}
 use Rattle.newer.specs.Newer.{subject}
 use Rattle.newer.specs.Keys.{Key, gntOf}
 use Rattle.newer.specs.Steps.{subjectIn, identityPart}

@@ -2,17 +2,17 @@
 -- Assumes nothing.
 use Prim.Native.Nat.{ℕ, _≤_}
 use mathlib.Core.Path.{_≡_, refl, sym, ap, _∙_, subst}
-use mathlib.Core.Logic.{_↔_, _≢_}
-use mathlib.Core.List.{List, _++_}
-use lib.ListN.{length, drop}
+use mathlib.Core.Logic.{_≢_}
+use mathlib.Core.List.{List}
+use lib.ListN.{length}
 use Rattle.text.specs.Text.{Bytes}
 use Rattle.format.specs.Kinds.{Kind, name, identityKinds, recordKinds}
-use Rattle.format.specs.Build.{recordOf, Built, Permitted}
+use Rattle.format.specs.Build.{recordOf, Built}
 use Rattle.format.specs.Read.{Outcome, accepted, refused, answer}
 use Rattle.format.proofs.Exactly.{identity-exact, record-exact}
-use Rattle.put.specs.Made.{Made, made, denied, says, leaves, Writes}
+use Rattle.put.specs.Made.{Made, made, says, leaves, Writes}
 use Rattle.put.specs.declared.Written.{Written}
-use Rattle.building.specs.Building.{run, lengths, buildOf, recordMade, build, Builds}
+use Rattle.building.specs.Building.{run, lengths, buildOf, recordMade, build}
 use Rattle.building.proofs.Exact.{build-exact, build-honest, rebuilt}
 use Rattle.promises.specs.Building.{BuildSaid, Building}
 

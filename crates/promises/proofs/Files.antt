@@ -1,6 +1,6 @@
 -- The promises about files, from the laws of format and files.
 -- Assumes nothing.
-use mathlib.Core.Path.{_≡_, ap}
+use mathlib.Core.Path.{ap}
 use Rattle.format.proofs.Lines.{walk-lines, into-lines, next-beyond, next-inside}
 use Rattle.files.specs.declared.Totals.{Totals}
 use Rattle.files.proofs.Stepping.{reader-walks, begin-same, step-same}

@@ -2,7 +2,7 @@
 -- Assumes nothing.
 use mathlib.Core.Path.{sym, ap, _∙_}
 use Rattle.reading.specs.declared.Answer.{Answer}
-use Rattle.reading.specs.declared.Place as reading
+use Rattle.fields.specs.declared.Place as fields
 use Rattle.put.specs.declared.Written.{Written}
 use Rattle.items.specs.declared.Place as items
 use Rattle.files.specs.declared.Totals.{Totals}
@@ -26,14 +26,14 @@ interface = record {
   read-record-said = λ κs a x y s t p q. ap (λ (x : Answer). x .no) (p ∙ sym q);
   read-record-field = λ κs a x y s t p q. ap (λ (x : Answer). x .field) (p ∙ sym q);
   read-record-kind = λ κs a x y s t p q. ap (λ (x : Answer). x .kind) (p ∙ sym q);
-  identity-field-said = λ κs a x y s t p q. ap (λ (x : reading.Place). x .no) (p .said ∙ sym (q .said));
-  identity-field-field = λ κs a x y s t p q. ap (λ (x : reading.Place). x .field) (p .said ∙ sym (q .said));
-  identity-field-start = λ κs a x y s t p q. ap (λ (x : reading.Place). x .start) (p .said ∙ sym (q .said));
-  identity-field-len = λ κs a x y s t p q. ap (λ (x : reading.Place). x .len) (p .said ∙ sym (q .said));
-  record-field-said = λ κs a x y s t p q. ap (λ (x : reading.Place). x .no) (p .said ∙ sym (q .said));
-  record-field-field = λ κs a x y s t p q. ap (λ (x : reading.Place). x .field) (p .said ∙ sym (q .said));
-  record-field-start = λ κs a x y s t p q. ap (λ (x : reading.Place). x .start) (p .said ∙ sym (q .said));
-  record-field-len = λ κs a x y s t p q. ap (λ (x : reading.Place). x .len) (p .said ∙ sym (q .said));
+  identity-field-said = λ κs a x y s t p q. ap (λ (x : fields.Place). x .no) (p .said ∙ sym (q .said));
+  identity-field-field = λ κs a x y s t p q. ap (λ (x : fields.Place). x .field) (p .said ∙ sym (q .said));
+  identity-field-start = λ κs a x y s t p q. ap (λ (x : fields.Place). x .start) (p .said ∙ sym (q .said));
+  identity-field-len = λ κs a x y s t p q. ap (λ (x : fields.Place). x .len) (p .said ∙ sym (q .said));
+  record-field-said = λ κs a x y s t p q. ap (λ (x : fields.Place). x .no) (p .said ∙ sym (q .said));
+  record-field-field = λ κs a x y s t p q. ap (λ (x : fields.Place). x .field) (p .said ∙ sym (q .said));
+  record-field-start = λ κs a x y s t p q. ap (λ (x : fields.Place). x .start) (p .said ∙ sym (q .said));
+  record-field-len = λ κs a x y s t p q. ap (λ (x : fields.Place). x .len) (p .said ∙ sym (q .said));
   build-said = λ κs a x y s t p q. ap (λ (x : Written). x .no) (p .said ∙ sym (q .said));
   build-out = λ κs a x y s t p q. p .left ∙ sym (q .left);
   build-field = λ κs a x y s t p q. ap (λ (x : Written). x .field) (p .said ∙ sym (q .said));

@@ -14,11 +14,12 @@ use Rattle.text.proofs.Tests.{by-test, cond-yes}
 use Rattle.format.specs.Numbers.{noItem}
 use Rattle.format.specs.Kinds.{Kind, identityKinds, recordKinds}
 use Rattle.format.specs.Build.{Built}
-use Rattle.format.specs.Read.{Outcome, accepted, refused, answer, readIdentity, readRecord}
+use Rattle.format.specs.Read.{Outcome, accepted, refused, answer, readRecord}
 use Rattle.format.proofs.Exactly.{identity-exact, record-exact, identity-honest, read-honest, built-unique, built-length, identity-length, unsigned-length, signed-length}
 use Rattle.table.specs.Table.{rowOf}
 use Rattle.reading.specs.declared.Answer.{Answer}
-use Rattle.reading.specs.Reading.{answerOf, wantedPart, wantedNo, FieldSaid}
+use Rattle.reading.specs.Reading.{answerOf}
+use Rattle.fields.specs.Fields.{wantedPart, wantedNo, FieldSaid}
 use Rattle.promises.specs.Reading.{Reading}
 
 number : (o : Outcome) → answerOf o .no ≡ answer o

@@ -1,18 +1,18 @@
 -- The key agreement texts are the standard's own, and no two different lists of items share one (demand 2); a refused call leaves the
 -- output as it was (demand 1).
 -- Assumes nothing.
-use Prim.Native.Nat.{ℕ, suc, _≤_}
+use Prim.Native.Nat.{ℕ, _≤_}
 use mathlib.Core.Path.{_≡_}
 use mathlib.Core.Logic.{_↔_, _≢_}
-use mathlib.Core.Option.{Option, some}
+use mathlib.Core.Option.{some}
 use mathlib.Core.List.{List, [], _∷_, _++_}
 use lib.ListN.{length, drop, getD}
 use lib.Dec.{T}
-use denote.Ref.{RefT, now}
+use denote.Ref.{now}
 use Rattle.crc16.specs.Damage.{AreBytes}
 use Rattle.text.specs.Text.{Bytes}
 use Rattle.format.specs.Kinds.{REQ}
-use Rattle.format.specs.Build.{recordOf, Permitted, Built}
+use Rattle.format.specs.Build.{Permitted, Built}
 use Rattle.put.specs.declared.Written.{Written}
 use Rattle.items.specs.Items.{lvConcat, concats, nth, itemsOf}
 use Rattle.items.proofs.text_item.Reads as text-item

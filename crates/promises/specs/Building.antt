@@ -11,7 +11,7 @@ use lib.Dec.{T}
 use denote.Ref.{now}
 use Rattle.text.specs.Text.{Bytes}
 use Rattle.format.specs.Kinds.{Kind, name, identityKinds, recordKinds, among}
-use Rattle.format.specs.Build.{recordOf, Built, Permitted}
+use Rattle.format.specs.Build.{recordOf, Permitted}
 use Rattle.format.specs.Read.{accepted, readIdentity, readRecord}
 use Rattle.put.specs.Made.{made}
 use Rattle.put.specs.declared.Written.{Written}

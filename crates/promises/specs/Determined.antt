@@ -43,11 +43,11 @@ use Rattle.reading.proofs.field_no.Reads as field-no
 use Rattle.reading.proofs.whole_no.Reads as whole-no
 use Rattle.reading.proofs.read_of.Reads as read-of
 use Rattle.reading.proofs.read_record.Reads as read-record
-use Rattle.reading.proofs.identity_place.Reads as identity-place
-use Rattle.reading.proofs.record_place.Reads as record-place
-use Rattle.reading.proofs.identity_field.Reads as identity-field
-use Rattle.reading.proofs.field_of.Reads as field-of
-use Rattle.reading.proofs.record_field.Reads as record-field
+use Rattle.fields.proofs.identity_place.Reads as identity-place
+use Rattle.fields.proofs.record_place.Reads as record-place
+use Rattle.fields.proofs.identity_field.Reads as identity-field
+use Rattle.fields.proofs.field_of.Reads as field-of
+use Rattle.fields.proofs.record_field.Reads as record-field
 use Rattle.put.proofs.put.Reads as put
 use Rattle.put.proofs.put_byte.Reads as put-byte
 use Rattle.put.proofs.refuse.Reads as refuse

@@ -3,7 +3,7 @@
 -- Assumes nothing.
 use Prim.Native.Nat.{ℕ, _+_, _<_, _≤_}
 use mathlib.Core.Path.{_≡_}
-use mathlib.Core.List.{List, [], _∷_, _++_, map}
+use mathlib.Core.List.{List, _++_, map}
 use lib.ListN.{length, replicate}
 use lib.Dec.{T}
 use denote.Ref.{RefT, now}
@@ -17,7 +17,6 @@ use Rattle.files.specs.Steps.{Begins, Stepped, Steps}
 use Rattle.files.specs.declared.Line.{Line}
 use Rattle.files.specs.declared.Line.the-variants.{Finished}
 use Rattle.files.specs.declared.Reader.{Reader}
-use Rattle.files.specs.declared.Totals.{Totals}
 use Rattle.files.proofs.line_at.Reads as line-at
 use Rattle.files.proofs.count.Reads as count
 use Rattle.promises.specs.Calls.{Holds}

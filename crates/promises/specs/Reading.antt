@@ -15,12 +15,12 @@ use Rattle.text.specs.Text.{Bytes, between}
 use Rattle.format.specs.Numbers.{noItem}
 use Rattle.format.specs.Kinds.{Kind, name, identityKinds, recordKinds, pubkeyKinds, among}
 use Rattle.format.specs.Build.{recordOf, empty, Permitted, Built}
-use Rattle.table.specs.Table.{rowOf, kindsFrom}
+use Rattle.table.specs.Table.{rowOf}
 use Rattle.reading.specs.declared.Answer.{Answer}
 use Rattle.reading.proofs.read_identity.Reads as read-identity
 use Rattle.reading.proofs.read_record.Reads as read-record
-use Rattle.reading.proofs.identity_field.Reads as identity-field
-use Rattle.reading.proofs.record_field.Reads as record-field
+use Rattle.fields.proofs.identity_field.Reads as identity-field
+use Rattle.fields.proofs.record_field.Reads as record-field
 
 -- the call Q, which is lent `bytes`, answers 0 if and only if these are the record of permitted fields of one of the kinds ks
 abbrev pub Exactly : {K : Type 0} {A S : K → Type 0} → ((κs : K) → A κs → Answer → S κs → Type 0) → ((κs : K) → A κs → Bytes) → List Kind → Type 0

@@ -8,7 +8,7 @@ use native.Mathlib.Numerals.{add-one}
 use lib.ListN.{length, getD, set}
 use lib.Seq.{paste, paste-zero, paste-suc, length-paste, take-length}
 use borrow.Author.Tests.{le-leb, lt-leb}
-use Rattle.put.specs.Put.{over, Puts}
+use Rattle.put.specs.Put.{Puts}
 
 -- i bytes of s are written at place k of o
 pub record Copy (o : List ℕ) (k : ℕ) (s out : List ℕ) (i : ℕ) : Type 0 where

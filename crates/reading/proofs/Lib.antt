@@ -6,4 +6,3 @@ pub mod Fields
 pub mod Places
 pub mod Whole
 pub mod Calls
-pub mod Wanted

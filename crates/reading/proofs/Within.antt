@@ -7,7 +7,7 @@ use mathlib.Core.Bool.{Bool, true, false, _&&_}
 use mathlib.Core.Option.{Option, none, some}
 use mathlib.Core.List.{List, [], _∷_}
 use native.Mathlib.Omega.{arith}
-use lib.ListN.{length}
+use lib.ListN.{length, getD}
 use lib.Dec.{T, leb, eqb, eqb→eq}
 use mir.Facts.{and-yes}
 use borrow.Author.Tests.{eqb-true}
@@ -18,6 +18,7 @@ use Rattle.format.specs.Kinds.{Kind, Field, name, mark, fieldsOf, identityKinds
 use Rattle.format.specs.Read.{Outcome, accepted, refused, provided, passing, title, markAfter, kindIn, ofKind, body, check, lastOr, fieldsIn, fieldAnswer, each, wholeAnswer, judged, readAs, readOver, readIdentity, readOf, readRecord}
 use Rattle.format.proofs.Table.{kindIn-some}
 use Rattle.format.proofs.Parts.{found-parts}
+use Rattle.frame.specs.Frame.{partOf}
 use Rattle.table.specs.Table.{rowOf}
 use Rattle.reading.specs.Reading.{answerOf}
 use Rattle.reading.specs.Steps.{noInner, Inside, Within}
@@ -97,3 +98,8 @@ untaken (refused n i) a e z =
     let p : a .no ≡ n = ap (λ (x : Answer). x .no) e in
     let q : a .field ≡ i = ap (λ (x : Answer). x .field) e in
     cc
+
+-- the fields of an accepted record are parts of its body, from part 1 on
+pub field-part : (ks : List Kind) (s : Bytes) (k : Kind) (fs : List Bytes) → Inside ks s k fs → (j : ℕ) → partOf (mark k) (body s) (suc j) ≡ getD fs j []
+unfolding partOf
+field-part ks s k fs n j = rw (n .its-parts)

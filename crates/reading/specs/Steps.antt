@@ -4,7 +4,7 @@ use Prim.Native.Nat.{ℕ, zero, suc}
 use mathlib.Core.Path.{_≡_}
 use mathlib.Core.Bool.{cond}
 use mathlib.Core.List.{List, _∷_}
-use lib.ListN.{length, take, drop}
+use lib.ListN.{length, drop}
 use lib.Dec.{T, eqb}
 use Rattle.text.specs.Text.{Bytes, TextType, Ident}
 use Rattle.format.specs.Numbers.{noKind, wrongCount}
@@ -12,7 +12,6 @@ use Rattle.format.specs.Kinds.{Kind, Field, Text, Identity, OrEmpty, name, mark
 use Rattle.format.specs.Read.{Outcome, accepted, refused, passing, body, cut, fieldsIn, each}
 use Rattle.frame.specs.Frame.{checkNo}
 use Rattle.table.specs.Table.{noRow, markOf, countOf, fieldsAt}
-use Rattle.reading.specs.declared.Place.{Place}
 
 -- an identity has no identity in it
 abbrev pub noInner : Bytes → Outcome
@@ -51,9 +50,3 @@ abbrev pub Within : List Kind → Bytes → Outcome → Type 0
 Within ks s (accepted k fs) = Inside ks s k fs
 Within ks s (refused zero i) = ⊥
 Within ks s (refused (suc n) i) = Unit {0}
-
--- the part of s at a place, and the place's numbers
-pub record Handed (at : Place) (s part : Bytes) (no field : ℕ) : Type 0 where
-  pub its-part : part ≡ take (at .len) (drop (at .start) s)
-  pub its-no : no ≡ at .no
-  pub its-field : field ≡ at .field

@@ -4,17 +4,17 @@
 ghost use mathlib.Core.Path.{_≡_};
 ghost use mathlib.Core.Bool.{cond, _&&_};
 ghost use mathlib.Core.List.{List};
-ghost use Prim.Native.Nat.{_+_, _<_, _≤_};
+ghost use Prim.Native.Nat.{_<_};
 ghost use lib.ListN.{length};
 ghost use Rattle.text.specs.Text.{Bytes, isOf};
 ghost use Rattle.format.specs.Numbers.{wrongText};
 ghost use Rattle.format.specs.Kinds.{Kind};
 ghost use Rattle.format.specs.Build.{empty};
-ghost use Rattle.format.specs.Read.{Outcome, accepted, refused, passing, fieldAnswer, identityAnswer, readIdentity, readOf, readRecord};
+ghost use Rattle.format.specs.Read.{accepted, refused, passing, fieldAnswer, identityAnswer, readIdentity, readOf, readRecord};
 ghost use Rattle.table.specs.Table.{rowOf, countOf, markOf, fieldType, mayBeEmpty, permitted, kindsFrom};
 ghost use Rattle.frame.specs.Frame.{partOf};
-ghost use Rattle.reading.specs.Reading.{answerOf, wantedNo, FieldSaid, Placed, wholeNo};
-ghost use Rattle.reading.specs.Steps.{noInner, fieldsBy, formNo, textIn, FirstRefused, Within, Handed};
+ghost use Rattle.reading.specs.Reading.{answerOf, wholeNo};
+ghost use Rattle.reading.specs.Steps.{noInner, fieldsBy, formNo, textIn, FirstRefused};
 
 // ---- the numbers given back; frame has 3 and 4
 
@@ -34,8 +34,6 @@ pub const UNPAIRED: u8 = 8;
 
 pub const WRONG_KIND: u8 = 9;
 
-pub const NO_ITEM: u8 = 12;
-
 const LONGEST: usize = 1024;
 
 // What a reading call answers: its number, the field's number (0 where none is named), and the kind's row in the table
@@ -44,14 +42,6 @@ pub struct Answer {
     pub no: u8,
     pub field: u8,
     pub kind: usize,
-}
-
-// Where a field stands in the caller's bytes: its start and its length, both 0 with a refusal.
-pub struct Place {
-    pub no: u8,
-    pub field: u8,
-    pub start: usize,
-    pub len: usize,
 }
 
 // The first field that is refused; both are 0 where none is.
@@ -294,113 +284,4 @@ pub fn read_record(record: &[u8]) -> Answer
     ensures { λ r. ⌜ r ≡ answerOf (readRecord (now («record» .entry))) ⌝ }
 {
     read_of(table::ECDSA, table::NONE, record)
-}
-
-// ---- one field
-
-// A refusal's own number, and 12 for a field that the accepted kind hasn't.
-fn wanted_no(answer: Answer, wanted: usize) -> u8
-    ensures { λ r. ⌜ ((o : Outcome) (ks : List Kind) (s : Bytes) → Within ks s o → answer ≡ answerOf o → r ≡ wantedNo o wanted) ⌝ }
-{
-    if answer.no != ACCEPTED {
-        return answer.no;
-    }
-    if wanted == 0 {
-        return NO_ITEM;
-    }
-    if table::count_of(answer.kind) < wanted {
-        return NO_ITEM;
-    }
-    ACCEPTED
-}
-
-// Where the wanted field of s stands, to which a reading call gave this answer.
-fn place_from(answer: Answer, s: &[u8], wanted: usize) -> Place
-    ensures { λ r. ⌜ ((o : Outcome) (ks : List Kind) → Within ks (now (s .entry)) o → answer ≡ answerOf o → Placed o wanted (now (s .entry)) r) ⌝ }
-{
-    let no = wanted_no(answer, wanted);
-    if no != ACCEPTED {
-        return Place {
-            no,
-            field: answer.field,
-            start: 0,
-            len: 0,
-        };
-    }
-    let mark = table::mark_of(answer.kind);
-    let body = frame::body_of(s);
-    let start = frame::part_start(mark, body, wanted);
-    let end = frame::next_mark(mark, body, start);
-    Place {
-        no,
-        field: answer.field,
-        start,
-        len: end - start,
-    }
-}
-
-// Where the wanted field of an identity stands, counted from 1; number and field number are those that `read_identity`
-// answers. A number that the kind hasn't is 12, after every other. With a refusal start and length are 0.
-pub fn identity_place(identity: &[u8], wanted: usize) -> Place
-    ensures { λ r. ⌜ Placed (readIdentity (now (identity .entry))) wanted (now (identity .entry)) r ⌝ }
-{
-    place_from(read_identity(identity), identity, wanted)
-}
-
-fn place_of(from: usize, to: usize, record: &[u8], wanted: usize) -> Place
-    ensures { λ r. ⌜ Placed (readOf (kindsFrom from to) (now («record» .entry))) wanted (now («record» .entry)) r ⌝ }
-{
-    place_from(read_of(from, to, record), record, wanted)
-}
-
-// The same of a record of any of the four record kinds.
-pub fn record_place(record: &[u8], wanted: usize) -> Place
-    ensures { λ r. ⌜ Placed (readRecord (now («record» .entry))) wanted (now («record» .entry)) r ⌝ }
-{
-    place_of(table::ECDSA, table::NONE, record, wanted)
-}
-
-// The part of s at this place, and the place's numbers.
-fn part_at<'a>(place: Place, s: &'a [u8], no: &mut u8, field: &mut u8) -> &'a [u8]
-    requires { ⌜ place .start + place .len ≤ length (now s) ⌝ }
-    ensures { λ r. ⌜ Handed place (now (s .entry)) (now r) (now (no .exit)) (now (field .exit)) ⌝ }
-{
-    *no = place.no;
-    *field = place.field;
-    let start = place.start;
-    let end = start + place.len;
-    &s[start..end]
-}
-
-// The field that stands there, as a part of the caller's own bytes; with a refusal an empty one.
-pub fn identity_field<'a>(
-    identity: &'a [u8],
-    wanted: usize,
-    no: &mut u8,
-    field: &mut u8,
-) -> &'a [u8]
-    ensures { λ r. ⌜ FieldSaid (readIdentity (now (identity .entry))) wanted (now r) (now (no .exit)) (now (field .exit)) ⌝ }
-{
-    part_at(identity_place(identity, wanted), identity, no, field)
-}
-
-// The same of a record, with the numbers that `read_of` answers.
-pub fn field_of<'a>(
-    from: usize,
-    to: usize,
-    record: &'a [u8],
-    wanted: usize,
-    no: &mut u8,
-    field: &mut u8,
-) -> &'a [u8]
-    ensures { λ r. ⌜ FieldSaid (readOf (kindsFrom from to) (now («record» .entry))) wanted (now r) (now (no .exit)) (now (field .exit)) ⌝ }
-{
-    part_at(place_of(from, to, record, wanted), record, no, field)
-}
-
-// The same of a record of any of the four record kinds.
-pub fn record_field<'a>(record: &'a [u8], wanted: usize, no: &mut u8, field: &mut u8) -> &'a [u8]
-    ensures { λ r. ⌜ FieldSaid (readRecord (now («record» .entry))) wanted (now r) (now (no .exit)) (now (field .exit)) ⌝ }
-{
-    field_of(table::ECDSA, table::NONE, record, wanted, no, field)
 }

@@ -32,11 +32,11 @@ fn print_field(n: usize, field: &[u8]) {
 fn print_fields(n: usize, s: &[u8]) {
     let mut no: u8 = 0;
     let mut field: u8 = 0;
-    let of_identity = reading::identity_field(s, n, &mut no, &mut field);
+    let of_identity = fields::identity_field(s, n, &mut no, &mut field);
     if no == reading::ACCEPTED {
         print_field(n, of_identity);
     }
-    let of_record = reading::record_field(s, n, &mut no, &mut field);
+    let of_record = fields::record_field(s, n, &mut no, &mut field);
     if no == reading::ACCEPTED {
         print_field(n, of_record);
     }

@@ -3,16 +3,16 @@
 use Prim.Native.Nat.{ℕ, zero, suc, _+_, _-_, _*_, _/_, _%_, _≤_, _<_}
 use mathlib.Core.Path.{_≡_, refl, sym, ap, ap₂, _∙_}
 use mathlib.Core.Logic.{_⊎_, inl, inr}
-use mathlib.Core.Bool.{Bool, true, false, not, cond, _&&_, _||_}
-use mathlib.Core.List.{List, [], _∷_}
+use mathlib.Core.Bool.{Bool, true, false, _&&_}
+use mathlib.Core.List.{[], _∷_}
 use native.Mathlib.Omega.{arith}
 use lib.Dec.{T, leb, eqb, eqb→eq}
 use lib.ListN.{length, getD}
-use mir.Facts.{and-yes, yes-and, or-yes}
+use mir.Facts.{and-yes, or-yes}
 use borrow.Author.Tests.{lt-ltb, le-ltb, lt-leb}
 use Rattle.text.specs.Text.{Bytes, between, every, decimal, hexadecimal, isHex}
 use Rattle.text.specs.Base16.{hexDigit, hexValue, base16, base16Decode, checkBytes, checkText}
-use Rattle.text.proofs.Tests.{T-true, cond-yes, cond-no, between-low, between-high, allBelow, below}
+use Rattle.text.proofs.Tests.{T-true, between-low, between-high, allBelow, below}
 
 -- ---- the three cases of a character's value
 

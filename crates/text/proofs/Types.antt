@@ -1,17 +1,16 @@
 -- What holds of every text type: its characters are all ident characters, so that it has no mark and no line feed in it, and
 -- its length is one that the type admits.
 -- Assumes nothing.
-use Prim.Native.Nat.{ℕ, zero, suc, _+_, _≤_}
-use mathlib.Core.Path.{_≡_, refl, sym, ap, _∙_, subst}
+use Prim.Native.Nat.{ℕ}
+use mathlib.Core.Path.{_≡_, sym, subst}
 use mathlib.Core.Logic.{_⊎_, inl, inr}
-use mathlib.Core.Bool.{Bool, true, false, not, cond, _&&_, _||_}
-use mathlib.Core.List.{List, [], _∷_}
+use mathlib.Core.Bool.{true, not, cond, _&&_, _||_}
+use mathlib.Core.List.{[], _∷_}
 use native.Mathlib.Omega.{arith}
-use native.Mathlib.Nat.{le-trans}
 use lib.Dec.{T, T-not, leb, eqb, eqb→eq, le→leb}
 use lib.ListN.{length, take, drop, getD}
-use mir.Facts.{and-yes, yes-and, or-yes, eqb-yes, yes-eqb}
-use Rattle.text.specs.Text.{Bytes, ascii, between, oneOf, every, without, allOf, same, timestampTests, decimal, hexadecimal, alphanumeric, identCharacter, isIdent, fits, looks, isTimestamp, isHex, isPoint, isSig, isMac, isPrint, TextType, Ident, Timestamp, Point, Sig, Mac, Print, Hex, isOf, shortest, longest}
+use mir.Facts.{and-yes, yes-and, or-yes}
+use Rattle.text.specs.Text.{Bytes, ascii, between, oneOf, every, without, same, decimal, hexadecimal, alphanumeric, identCharacter, isIdent, fits, looks, isTimestamp, isHex, isPoint, TextType, Ident, Timestamp, Point, Sig, Mac, Print, Hex, isOf, shortest, longest}
 use Rattle.text.proofs.Tests.{T-true, one-of, or-left, or-right, by-test, cond-yes, cond-no, between-low, between-high, every-mono}
 use Rattle.text.proofs.Loops.{looks-pairwise, pairwise-length}
 

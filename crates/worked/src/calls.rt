@@ -20,14 +20,14 @@ fn read_record(s: &[u8], out: &mut [u8]) -> usize {
 fn identity_field(s: &[u8], n: usize, out: &mut [u8]) -> usize {
     let mut no: u8 = 0;
     let mut field: u8 = 0;
-    let part = reading::identity_field(s, n, &mut no, &mut field);
+    let part = fields::identity_field(s, n, &mut no, &mut field);
     value::of_part(no, part, out)
 }
 
 fn record_field(s: &[u8], n: usize, out: &mut [u8]) -> usize {
     let mut no: u8 = 0;
     let mut field: u8 = 0;
-    let part = reading::record_field(s, n, &mut no, &mut field);
+    let part = fields::record_field(s, n, &mut no, &mut field);
     value::of_part(no, part, out)
 }
 
@@ -44,11 +44,11 @@ fn put_field(s: &[u8], n: usize, bytes: &mut [u8], at: usize) -> usize {
     let mut no: u8 = 0;
     let mut field: u8 = 0;
     if is_identity(s) {
-        let of_identity = reading::identity_field(s, n, &mut no, &mut field);
+        let of_identity = fields::identity_field(s, n, &mut no, &mut field);
         put::put(bytes, at, of_identity);
         return length_of(no, of_identity);
     }
-    let of_record = reading::record_field(s, n, &mut no, &mut field);
+    let of_record = fields::record_field(s, n, &mut no, &mut field);
     put::put(bytes, at, of_record);
     length_of(no, of_record)
 }

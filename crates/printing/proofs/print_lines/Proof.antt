@@ -10,7 +10,7 @@ use Rattle.text.specs.Text.{Bytes}
 use Rattle.format.specs.Files.{Said, finished, read, lineAt, walk}
 use Rattle.format.proofs.Lines.{rest, rest-walk, rest-onward, rest-step}
 use Rattle.files.specs.Walk.{lineSaid}
-use Rattle.files.specs.declared.Line.the-variants.{Finished, Read}
+use Rattle.files.specs.declared.Line.the-variants.{Finished}
 use Rattle.files.proofs.Counting.{Told, told, told-beyond, told-inside}
 use borrow.Author.Needs.{needs}
 use Rattle.printing.proofs.print_lines.Statement.{statement}

@@ -1,6 +1,5 @@
 -- `cases::input::read` lends the front of the data.
 -- Assumes nothing.
-use denote.Ref.{now}
 use mathlib.Core.Path.{sym}
 use native.Mathlib.Omega.{arith}
 use lib.Seq.{length-take-le}

@@ -1,12 +1,12 @@
--- `reading::place_of` meets its contract.
+-- `fields::place_of` meets its contract.
 -- Assumes nothing.
 use denote.Ref.{now}
 use Rattle.format.specs.Read.{readOf}
 use Rattle.table.specs.Table.{kindsFrom}
 use Rattle.reading.proofs.Within.{of-within}
 use borrow.Author.Needs.{needs}
-use Rattle.reading.proofs.place_of.Statement.{statement}
-use Rattle.reading.proofs.place_of.Tie as tie
+use Rattle.fields.proofs.place_of.Statement.{statement}
+use Rattle.fields.proofs.place_of.Tie as tie
 
 read-of-requires : tie.Need-read-of-requires
 read-of-requires c κs = search needs

@@ -1,9 +1,9 @@
--- `reading::record_field` meets its contract: the rows from ECDSA on are all the record kinds.
+-- `fields::record_field` meets its contract: the rows from ECDSA on are all the record kinds.
 -- Assumes nothing.
 use Rattle.reading.proofs.Calls.{record-is}
 use borrow.Author.Needs.{needs}
-use Rattle.reading.proofs.record_field.Statement.{statement}
-use Rattle.reading.proofs.record_field.Tie as tie
+use Rattle.fields.proofs.record_field.Statement.{statement}
+use Rattle.fields.proofs.record_field.Tie as tie
 
 field-of-requires : tie.Need-field-of-requires
 field-of-requires c κs = search needs

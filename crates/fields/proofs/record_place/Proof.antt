@@ -1,9 +1,9 @@
--- `reading::record_place` meets its contract: the rows from ECDSA on are all the record kinds.
+-- `fields::record_place` meets its contract: the rows from ECDSA on are all the record kinds.
 -- Assumes nothing.
 use Rattle.reading.proofs.Calls.{record-is}
 use borrow.Author.Needs.{needs}
-use Rattle.reading.proofs.record_place.Statement.{statement}
-use Rattle.reading.proofs.record_place.Tie as tie
+use Rattle.fields.proofs.record_place.Statement.{statement}
+use Rattle.fields.proofs.record_place.Tie as tie
 
 place-of-requires : tie.Need-place-of-requires
 place-of-requires c κs = search needs

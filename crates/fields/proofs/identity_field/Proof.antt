@@ -1,9 +1,9 @@
--- `reading::identity_field` meets its contract: the part at its place.
+-- `fields::identity_field` meets its contract: the part at its place.
 -- Assumes nothing.
-use Rattle.reading.proofs.Wanted.{field-said}
+use Rattle.fields.proofs.Wanted.{field-said}
 use borrow.Author.Needs.{needs}
-use Rattle.reading.proofs.identity_field.Statement.{statement}
-use Rattle.reading.proofs.identity_field.Tie as tie
+use Rattle.fields.proofs.identity_field.Statement.{statement}
+use Rattle.fields.proofs.identity_field.Tie as tie
 
 identity-place-requires : tie.Need-identity-place-requires
 identity-place-requires c κs = search needs

@@ -1,10 +1,10 @@
--- `reading::wanted_no` meets its contract: the tests in a row.
+-- `fields::wanted_no` meets its contract: the tests in a row.
 -- Assumes nothing.
 use native.Mathlib.Omega.{arith}
-use Rattle.reading.proofs.Wanted.{wanted-refused, wanted-zero, wanted-past, wanted-there}
+use Rattle.fields.proofs.Wanted.{wanted-refused, wanted-zero, wanted-past, wanted-there}
 use borrow.Author.Needs.{needs}
-use Rattle.reading.proofs.wanted_no.Statement.{statement}
-use Rattle.reading.proofs.wanted_no.Tie as tie
+use Rattle.fields.proofs.wanted_no.Statement.{statement}
+use Rattle.fields.proofs.wanted_no.Tie as tie
 
 returns : tie.Need-returns
 returns c = λ o ks s w e. wanted-refused o ks s w _ e _ (c .if1 .taken)

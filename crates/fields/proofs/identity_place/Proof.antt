@@ -1,12 +1,12 @@
--- `reading::identity_place` meets its contract.
+-- `fields::identity_place` meets its contract.
 -- Assumes nothing.
 use denote.Ref.{now}
 use Rattle.format.specs.Kinds.{identityKinds}
 use Rattle.format.specs.Read.{readIdentity}
 use Rattle.reading.proofs.Within.{identity-within}
 use borrow.Author.Needs.{needs}
-use Rattle.reading.proofs.identity_place.Statement.{statement}
-use Rattle.reading.proofs.identity_place.Tie as tie
+use Rattle.fields.proofs.identity_place.Statement.{statement}
+use Rattle.fields.proofs.identity_place.Tie as tie
 
 read-identity-requires : tie.Need-read-identity-requires
 read-identity-requires c κs = search needs

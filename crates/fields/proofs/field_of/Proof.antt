@@ -1,9 +1,9 @@
--- `reading::field_of` meets its contract: the part at its place.
+-- `fields::field_of` meets its contract: the part at its place.
 -- Assumes nothing.
-use Rattle.reading.proofs.Wanted.{field-said}
+use Rattle.fields.proofs.Wanted.{field-said}
 use borrow.Author.Needs.{needs}
-use Rattle.reading.proofs.field_of.Statement.{statement}
-use Rattle.reading.proofs.field_of.Tie as tie
+use Rattle.fields.proofs.field_of.Statement.{statement}
+use Rattle.fields.proofs.field_of.Tie as tie
 
 place-of-requires : tie.Need-place-of-requires
 place-of-requires c κs = search needs

@@ -1,4 +1,4 @@
--- `reading::part_at` meets its contract.
+-- `fields::part_at` meets its contract.
 -- Assumes nothing.
 use denote.Ref.{now}
 use Prim.Native.Nat.{ℕ, _+_, _-_}
@@ -6,8 +6,8 @@ use mathlib.Core.Path.{_≡_, refl, ap}
 use native.Mathlib.Omega.{arith}
 use lib.ListN.{take, drop}
 use borrow.Author.Needs.{needs}
-use Rattle.reading.proofs.part_at.Statement.{statement}
-use Rattle.reading.proofs.part_at.Tie as tie
+use Rattle.fields.proofs.part_at.Statement.{statement}
+use Rattle.fields.proofs.part_at.Tie as tie
 
 add-end : tie.Need-add-end
 add-end c = search needs

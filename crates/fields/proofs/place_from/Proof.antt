@@ -1,4 +1,4 @@
--- `reading::place_from` meets its contract.
+-- `fields::place_from` meets its contract.
 -- Assumes nothing.
 use denote.Ref.{now}
 use Prim.Native.Nat.{ℕ}
@@ -7,10 +7,10 @@ use native.Mathlib.Omega.{arith}
 use Rattle.text.specs.Text.{Bytes}
 use Rattle.frame.specs.Frame.{nextMark, partStart}
 use Rattle.frame.proofs.Parts.{next-from}
-use Rattle.reading.proofs.Wanted.{place-none, place-there}
+use Rattle.fields.proofs.Wanted.{place-none, place-there}
 use borrow.Author.Needs.{needs}
-use Rattle.reading.proofs.place_from.Statement.{statement}
-use Rattle.reading.proofs.place_from.Tie as tie
+use Rattle.fields.proofs.place_from.Statement.{statement}
+use Rattle.fields.proofs.place_from.Tie as tie
 
 wanted-no-requires : tie.Need-wanted-no-requires
 wanted-no-requires c κs = search needs

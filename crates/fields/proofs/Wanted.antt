@@ -12,22 +12,19 @@ use mir.Facts.{and-yes}
 use borrow.Author.Tests.{le-leb, lt-leb}
 use Rattle.text.specs.Text.{Bytes, between}
 use Rattle.text.proofs.Tests.{by-test, T-true, T-false}
-use Rattle.format.specs.Kinds.{Kind, name, mark, fieldsOf}
+use Rattle.format.specs.Kinds.{Kind, mark, fieldsOf}
 use Rattle.format.specs.Read.{Outcome, accepted, refused, place, body, check}
 use Rattle.frame.specs.Frame.{nextMark, partStart, partOf}
 use Rattle.frame.proofs.Parts.{next-within, part-there, start-within}
 use Rattle.table.specs.Table.{markOf, countOf}
 use Rattle.table.proofs.Rows.{less-or, of-kind}
-use Rattle.reading.specs.Reading.{answerOf, wantedPart, wantedNo, wantedStart, Placed, FieldSaid}
-use Rattle.reading.specs.Steps.{Inside, Within, Handed}
+use Rattle.reading.specs.Reading.{answerOf}
+use Rattle.fields.specs.Fields.{wantedPart, wantedNo, wantedStart, Placed, FieldSaid}
+use Rattle.reading.specs.Steps.{Inside, Within}
+use Rattle.fields.specs.Steps.{Handed}
 use Rattle.reading.specs.declared.Answer.{Answer}
-use Rattle.reading.specs.declared.Place.{Place}
-use Rattle.reading.proofs.Within.{Taken, taken, untaken}
-
--- the fields of an accepted record are parts of its body, from part 1 on
-pub field-part : (ks : List Kind) (s : Bytes) (k : Kind) (fs : List Bytes) → Inside ks s k fs → (j : ℕ) → partOf (mark k) (body s) (suc j) ≡ getD fs j []
-unfolding partOf
-field-part ks s k fs n j = rw (n .its-parts)
+use Rattle.fields.specs.declared.Place.{Place}
+use Rattle.reading.proofs.Within.{Taken, taken, untaken, field-part}
 
 -- ---- the number
 

@@ -1,0 +1,131 @@
+// One field of a record, by its number from 1: document 01, "Numbers given back". Each call reads the record first, as the
+// reading calls do; 12 for a field that the kind hasn't comes after every other number. No public call has a `requires`.
+ghost use mathlib.Core.Path.{_≡_};
+ghost use mathlib.Core.List.{List};
+ghost use Prim.Native.Nat.{_+_, _≤_};
+ghost use lib.ListN.{length};
+ghost use Rattle.text.specs.Text.{Bytes};
+ghost use Rattle.format.specs.Kinds.{Kind};
+ghost use Rattle.format.specs.Read.{Outcome, readIdentity, readOf, readRecord};
+ghost use Rattle.table.specs.Table.{kindsFrom};
+ghost use Rattle.reading.specs.Reading.{answerOf};
+ghost use Rattle.reading.specs.Steps.{Within};
+ghost use Rattle.fields.specs.Fields.{wantedNo, FieldSaid, Placed};
+ghost use Rattle.fields.specs.Steps.{Handed};
+
+const NO_ITEM: u8 = 12;
+
+// Where a field stands in the caller's bytes: its start and its length, both 0 with a refusal.
+pub struct Place {
+    pub no: u8,
+    pub field: u8,
+    pub start: usize,
+    pub len: usize,
+}
+
+// A refusal's own number, and 12 for a field that the accepted kind hasn't.
+fn wanted_no(answer: reading::Answer, wanted: usize) -> u8
+    ensures { λ r. ⌜ ((o : Outcome) (ks : List Kind) (s : Bytes) → Within ks s o → answer ≡ answerOf o → r ≡ wantedNo o wanted) ⌝ }
+{
+    if answer.no != reading::ACCEPTED {
+        return answer.no;
+    }
+    if wanted == 0 {
+        return NO_ITEM;
+    }
+    if table::count_of(answer.kind) < wanted {
+        return NO_ITEM;
+    }
+    reading::ACCEPTED
+}
+
+// Where the wanted field of s stands, to which a reading call gave this answer.
+fn place_from(answer: reading::Answer, s: &[u8], wanted: usize) -> Place
+    ensures { λ r. ⌜ ((o : Outcome) (ks : List Kind) → Within ks (now (s .entry)) o → answer ≡ answerOf o → Placed o wanted (now (s .entry)) r) ⌝ }
+{
+    let no = wanted_no(answer, wanted);
+    if no != reading::ACCEPTED {
+        return Place {
+            no,
+            field: answer.field,
+            start: 0,
+            len: 0,
+        };
+    }
+    let mark = table::mark_of(answer.kind);
+    let body = frame::body_of(s);
+    let start = frame::part_start(mark, body, wanted);
+    let end = frame::next_mark(mark, body, start);
+    Place {
+        no,
+        field: answer.field,
+        start,
+        len: end - start,
+    }
+}
+
+// Where the wanted field of an identity stands, counted from 1; number and field number are those that `read_identity`
+// answers. A number that the kind hasn't is 12, after every other. With a refusal start and length are 0.
+pub fn identity_place(identity: &[u8], wanted: usize) -> Place
+    ensures { λ r. ⌜ Placed (readIdentity (now (identity .entry))) wanted (now (identity .entry)) r ⌝ }
+{
+    place_from(reading::read_identity(identity), identity, wanted)
+}
+
+fn place_of(from: usize, to: usize, record: &[u8], wanted: usize) -> Place
+    ensures { λ r. ⌜ Placed (readOf (kindsFrom from to) (now («record» .entry))) wanted (now («record» .entry)) r ⌝ }
+{
+    place_from(reading::read_of(from, to, record), record, wanted)
+}
+
+// The same of a record of any of the four record kinds.
+pub fn record_place(record: &[u8], wanted: usize) -> Place
+    ensures { λ r. ⌜ Placed (readRecord (now («record» .entry))) wanted (now («record» .entry)) r ⌝ }
+{
+    place_of(table::ECDSA, table::NONE, record, wanted)
+}
+
+// The part of s at this place, and the place's numbers.
+fn part_at<'a>(place: Place, s: &'a [u8], no: &mut u8, field: &mut u8) -> &'a [u8]
+    requires { ⌜ place .start + place .len ≤ length (now s) ⌝ }
+    ensures { λ r. ⌜ Handed place (now (s .entry)) (now r) (now (no .exit)) (now (field .exit)) ⌝ }
+{
+    *no = place.no;
+    *field = place.field;
+    let start = place.start;
+    let end = start + place.len;
+    &s[start..end]
+}
+
+// The field that stands there, as a part of the caller's own bytes; with a refusal an empty one.
+pub fn identity_field<'a>(
+    identity: &'a [u8],
+    wanted: usize,
+    no: &mut u8,
+    field: &mut u8,
+) -> &'a [u8]
+    ensures { λ r. ⌜ FieldSaid (readIdentity (now (identity .entry))) wanted (now r) (now (no .exit)) (now (field .exit)) ⌝ }
+{
+    part_at(identity_place(identity, wanted), identity, no, field)
+}
+
+// The same of a record, with the numbers that `read_of` answers.
+pub fn field_of<'a>(
+    from: usize,
+    to: usize,
+    record: &'a [u8],
+    wanted: usize,
+    no: &mut u8,
+    field: &mut u8,
+) -> &'a [u8]
+    ensures { λ r. ⌜ FieldSaid (readOf (kindsFrom from to) (now («record» .entry))) wanted (now r) (now (no .exit)) (now (field .exit)) ⌝ }
+{
+    part_at(place_of(from, to, record, wanted), record, no, field)
+}
+
+// The same of a record of any of the four record kinds.
+pub fn record_field<'a>(record: &'a [u8], wanted: usize, no: &mut u8, field: &mut u8) -> &'a [u8]
+    ensures { λ r. ⌜ FieldSaid (readRecord (now («record» .entry))) wanted (now r) (now (no .exit)) (now (field .exit)) ⌝ }
+{
+    field_of(table::ECDSA, table::NONE, record, wanted, no, field)
+}
