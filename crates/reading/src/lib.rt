@@ -248,10 +248,13 @@ pub fn whole_no(row: usize, issuer: &[u8], signature: &[u8]) -> u8
     UNPAIRED
 }
 
-// Issuer and Signature are fields 4 and 5 of a public key.
+// Issuer and Signature are fields 4 and 5 of a public key. No other kind's fields are looked for.
 fn body_no(row: usize, body: &[u8]) -> u8
     ensures { λ r. ⌜ r ≡ wholeNo row (partOf (markOf row) (now (body .entry)) 4) (partOf (markOf row) (now (body .entry)) 5) ⌝ }
 {
+    if !table::is_pubkey(row) {
+        return ACCEPTED;
+    }
     let mark = table::mark_of(row);
     whole_no(row, frame::part(mark, body, 4), frame::part(mark, body, 5))
 }
