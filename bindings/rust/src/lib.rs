@@ -1,0 +1,43 @@
+//! Obscurlane: reading, checking and building the identity, public key, load request and load response records of
+//! STS 600-4-2, and the texts that a key agreement hashes.
+//!
+//! The calls behind these functions are proved: each takes any bytes and comes back with its answer or one [`Refusal`]. A
+//! refused call leaves a lent output as it was. Parts are handed back as parts of the caller's own bytes, and nothing is
+//! allocated.
+//!
+//! ```
+//! use obscurlane::{build, identity_field, read_identity, Kind, Reason};
+//!
+//! let mut out = [0; 64];
+//! let fields = b"Prism0600000120180120T090000Z320C265FDC769D3E";
+//! let identity = build(b"SMID.1", fields, &[5, 8, 16, 16], &mut out)?;
+//! assert_eq!(read_identity(identity), Ok(Kind::Smid));
+//! assert_eq!(identity_field(identity, 3), Ok(&b"20180120T090000Z"[..]));
+//!
+//! let mut damaged = identity.to_vec();
+//! damaged[8] ^= 1;
+//! assert_eq!(read_identity(&damaged).unwrap_err().reason, Reason::WrongCheck);
+//! # Ok::<(), obscurlane::Refusal>(())
+//! ```
+
+#![deny(missing_docs)]
+#![deny(unsafe_code)]
+
+mod files;
+mod kind;
+mod reading;
+mod refusal;
+mod sys;
+mod text;
+mod writing;
+
+pub use files::{count, line_at, lines, newer, Line, Lines, Totals};
+pub use kind::Kind;
+pub use reading::{identity_field, read_identity, read_record, record_field, LONGEST_READ};
+pub use refusal::{Reason, Refusal};
+pub use text::{crc_of, is_hex, is_ident, is_mac, is_point, is_print, is_sig, is_timestamp};
+pub use writing::{
+    build, centre_text, end_text, line_text, module_text, shared_info, text_item,
+    LONGEST_CENTRE_TEXT, LONGEST_END_TEXT, LONGEST_IDENTITY, LONGEST_LINE_TEXT,
+    LONGEST_MODULE_TEXT, LONGEST_RECORD, LONGEST_SHARED_INFO,
+};

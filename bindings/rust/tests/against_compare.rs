@@ -1,0 +1,413 @@
+//! Every call held against `compare/`, the independent implementation, on inputs with a fixed seed.
+//!
+//! `OBSCURLANE_ROUNDS` is the number of inputs for each call (3,000 where it is not set).
+
+mod sample;
+
+use compare::refusal::Refusal as Expected;
+use compare::{agreement, file, record, text};
+use obscurlane::{Kind, Refusal};
+use sample::Random;
+
+fn rounds() -> usize {
+    let named = std::env::var("OBSCURLANE_ROUNDS").ok();
+    named.map_or(3000, |rounds| rounds.parse().expect("OBSCURLANE_ROUNDS is a number"))
+}
+
+/// The number and the field's number.
+fn numbers<T>(answer: Result<T, Refusal>) -> Result<T, (u8, u8)> {
+    answer.map_err(|refusal| {
+        (refusal.reason.number(), refusal.field.map_or(0, std::num::NonZeroU8::get))
+    })
+}
+
+fn expected<T>(answer: Result<T, Expected>) -> Result<T, (u8, u8)> {
+    answer.map_err(|refusal| (refusal.number(), refusal.field()))
+}
+
+/// The same part of the same bytes, not only equal ones.
+fn place(part: &[u8]) -> (*const u8, usize) {
+    (part.as_ptr(), part.len())
+}
+
+fn row(record: record::Record<'_>) -> usize {
+    record.kind as usize
+}
+
+#[test]
+fn text_types() {
+    type Types = [(fn(&[u8]) -> bool, fn(&[u8]) -> bool); 6];
+    let types: Types = [
+        (obscurlane::is_ident, text::is_ident),
+        (obscurlane::is_timestamp, text::is_timestamp),
+        (obscurlane::is_point, text::is_point),
+        (obscurlane::is_sig, text::is_sig),
+        (obscurlane::is_mac, text::is_mac),
+        (obscurlane::is_print, text::is_print),
+    ];
+    let mut random = Random::with_seed(1);
+    let mut accepted = 0;
+    for _ in 0..rounds() {
+        let length = random.one_of(&[0, 1, 4, 16, 48, 192, 194]);
+        let whole = match random.below(5) {
+            0 => sample::point(&mut random),
+            1 => sample::timestamp(&mut random),
+            2 => sample::hex(&mut random, length),
+            3 => {
+                let length = random.between(1, 34);
+                sample::ident(&mut random, length)
+            }
+            _ => random.bytes(length),
+        };
+        let changes = random.below(2);
+        let bytes = sample::damaged(&mut random, &whole, changes);
+        for (ours, theirs) in types {
+            assert_eq!(ours(&bytes), theirs(&bytes), "{bytes:?}");
+            accepted += usize::from(ours(&bytes));
+        }
+        for n in [bytes.len(), bytes.len() + 1, 0] {
+            assert_eq!(obscurlane::is_hex(n, &bytes), text::is_hex(&bytes, n as u64), "{bytes:?}");
+        }
+        assert_eq!(obscurlane::crc_of(&bytes), compare::crc::crc16(&bytes), "{bytes:?}");
+    }
+    assert!(accepted > rounds() / 4, "only {accepted} were accepted");
+}
+
+#[test]
+fn reading() {
+    let mut random = Random::with_seed(2);
+    let mut seen = [0; 14];
+    for _ in 0..rounds() {
+        let bytes = sample::anything(&mut random);
+        let identity = numbers(obscurlane::read_identity(&bytes).map(Kind::row));
+        assert_eq!(identity, expected(record::read_identity(&bytes).map(row)), "{bytes:?}");
+        let read = numbers(obscurlane::read_record(&bytes).map(Kind::row));
+        assert_eq!(read, expected(record::read_record(&bytes).map(row)), "{bytes:?}");
+        for answer in [identity, read] {
+            seen[usize::from(answer.err().map_or(0, |(number, _)| number))] += 1;
+        }
+    }
+    if rounds() >= 3000 {
+        assert!(seen[..10].iter().all(|&times| times > 9), "0 to 9 were seen so often: {seen:?}");
+    }
+}
+
+#[test]
+fn fields() {
+    let mut random = Random::with_seed(3);
+    for _ in 0..rounds() {
+        let bytes = sample::anything(&mut random);
+        for wanted in [0, 1, 2, 3, 4, 5, 6, 7, 8, usize::MAX] {
+            assert_eq!(
+                numbers(obscurlane::identity_field(&bytes, wanted)).map(place),
+                expected(record::identity_field(&bytes, wanted as u64)).map(place),
+                "field {wanted} of {bytes:?}"
+            );
+            assert_eq!(
+                numbers(obscurlane::record_field(&bytes, wanted)).map(place),
+                expected(record::record_field(&bytes, wanted as u64)).map(place),
+                "field {wanted} of {bytes:?}"
+            );
+        }
+    }
+}
+
+/// What a build may be handed.
+struct Order {
+    kind: Vec<u8>,
+    bytes: Vec<u8>,
+    lens: Vec<usize>,
+}
+
+impl Order {
+    fn of(kind: Kind, fields: &[Vec<u8>]) -> Order {
+        Order {
+            kind: kind.name().as_bytes().to_vec(),
+            bytes: fields.concat(),
+            lens: fields.iter().map(Vec::len).collect(),
+        }
+    }
+
+    fn any(random: &mut Random) -> Order {
+        let kind = random.one_of(&Kind::ALL);
+        let signed = random.below(2) == 0;
+        let mut fields = sample::fields(random, kind, signed);
+        let index = random.below(fields.len());
+        match random.below(6) {
+            0 => fields[index] = sample::damaged(random, &fields[index].clone(), 1),
+            1 => fields[index].clear(),
+            2 => fields[index] = sample::identity(random, Kind::Smid),
+            _ => {}
+        }
+        let mut order = Order::of(kind, &fields);
+        match random.below(12) {
+            0 => order.kind = sample::damaged(random, &order.kind, 1),
+            1 => order.lens[index] = random.one_of(&[0, 1, usize::MAX, usize::MAX / 2 + 1]),
+            2 => drop(order.lens.pop()),
+            3 => order.lens.push(0),
+            4 => order.bytes = random.bytes(30),
+            _ => {}
+        }
+        order
+    }
+
+    /// Builds with so much room on both sides, and compares the answers and every byte of the outputs.
+    fn build(&self, room: usize) -> Result<usize, (u8, u8)> {
+        let lent: Vec<u8> = (0..room).map(|index| index as u8 ^ 0xA5).collect();
+        let (mut ours, mut theirs) = (lent.clone(), lent.clone());
+        let lens: Vec<u64> = self.lens.iter().map(|&len| len as u64).collect();
+        let answer = numbers(
+            obscurlane::build(&self.kind, &self.bytes, &self.lens, &mut ours).map(<[u8]>::len),
+        );
+        let wanted = expected(compare::build::build(&self.kind, &self.bytes, &lens, &mut theirs));
+        assert_eq!(answer, wanted, "{:?} {:?} {:?}", self.kind, self.bytes, self.lens);
+        assert_eq!(ours, theirs);
+        if answer.is_err() {
+            assert_eq!(ours, lent, "a refused build leaves the output");
+        }
+        answer
+    }
+}
+
+#[test]
+fn building() {
+    let mut random = Random::with_seed(4);
+    let mut seen = [0; 14];
+    for _ in 0..rounds() {
+        let room = random.one_of(&[0, 60, 300, 700]);
+        let answer = Order::any(&mut random).build(room);
+        seen[usize::from(answer.err().map_or(0, |(number, _)| number))] += 1;
+    }
+    if rounds() >= 3000 {
+        for number in [0, 2, 5, 6, 7, 8, 9, 10] {
+            assert!(seen[number] > 9, "{number} was seen so often: {seen:?}");
+        }
+    }
+}
+
+#[test]
+fn building_with_every_room() {
+    let mut random = Random::with_seed(5);
+    for kind in Kind::ALL {
+        for _ in 0..rounds().div_ceil(300) {
+            let signed = random.below(2) == 0;
+            let fields = sample::fields(&mut random, kind, signed);
+            let record = sample::record_of(kind, &fields);
+            let order = Order::of(kind, &fields);
+            for room in 0..=record.len() + 2 {
+                let fits = if room < record.len() { Err((10, 0)) } else { Ok(record.len()) };
+                assert_eq!(order.build(room), fits);
+            }
+            let mut out = vec![0; record.len()];
+            let built = obscurlane::build(&order.kind, &order.bytes, &order.lens, &mut out);
+            assert_eq!(built, Ok(&record[..]));
+        }
+    }
+}
+
+type Ours = for<'o> fn(&[u8], &'o mut [u8]) -> Result<&'o [u8], Refusal>;
+type Theirs = fn(&[u8], &mut [u8]) -> Result<usize, Expected>;
+
+const TEXTS: [(Ours, Theirs, usize); 3] = [
+    (obscurlane::shared_info, agreement::shared_info, obscurlane::LONGEST_SHARED_INFO),
+    (obscurlane::module_text, agreement::module_text, obscurlane::LONGEST_MODULE_TEXT),
+    (obscurlane::centre_text, agreement::centre_text, obscurlane::LONGEST_CENTRE_TEXT),
+];
+
+/// Makes a text with so much room on both sides, and compares the answers and every byte of the outputs.
+fn same_text(ours: Ours, theirs: Theirs, request: &[u8], room: usize) -> Result<usize, (u8, u8)> {
+    let lent: Vec<u8> = (0..room).map(|index| index as u8 ^ 0xA5).collect();
+    let (mut out, mut wanted) = (lent.clone(), lent.clone());
+    let answer = numbers(ours(request, &mut out).map(<[u8]>::len));
+    assert_eq!(answer, expected(theirs(request, &mut wanted)), "{request:?}");
+    assert_eq!(out, wanted, "{request:?}");
+    if answer.is_err() {
+        assert_eq!(out, lent, "a refused text leaves the output");
+    }
+    answer
+}
+
+#[test]
+fn texts() {
+    let mut random = Random::with_seed(6);
+    for _ in 0..rounds() {
+        let request = match random.below(2) {
+            0 => sample::record(&mut random, Kind::Request),
+            _ => sample::anything(&mut random),
+        };
+        for (ours, theirs, longest) in TEXTS {
+            let room = random.one_of(&[0, 150, longest]);
+            let _ = same_text(ours, theirs, &request, room);
+        }
+    }
+}
+
+#[test]
+fn texts_with_every_room() {
+    let mut random = Random::with_seed(7);
+    for _ in 0..rounds().div_ceil(300) {
+        let request = sample::record(&mut random, Kind::Request);
+        for (ours, theirs, longest) in TEXTS {
+            let needed = same_text(ours, theirs, &request, longest).expect("room for any text");
+            for room in 0..=longest {
+                let fits = if room < needed { Err((10, 0)) } else { Ok(needed) };
+                assert_eq!(same_text(ours, theirs, &request, room), fits);
+            }
+        }
+    }
+}
+
+#[test]
+fn items() {
+    let mut random = Random::with_seed(8);
+    for _ in 0..rounds() {
+        let count = random.one_of(&[0, 1, 2, 3, 7, 255]);
+        let items: Vec<Vec<u8>> = (0..count)
+            .map(|_| {
+                let length = random.one_of(&[0, 1, 2, 16, 97, 255]);
+                random.bytes(length)
+            })
+            .collect();
+        let items: Vec<&[u8]> = items.iter().map(Vec::as_slice).collect();
+        let mut text = agreement::join(&items);
+        match random.below(4) {
+            0 => text = sample::damaged(&mut random, &text, 1),
+            1 => text.truncate(random.below(text.len() + 1)),
+            2 if random.below(4) == 0 => text.push(0),
+            _ => {}
+        }
+        for wanted in [0, 1, 2, 3, count, count + 1, 255, 256, 257, usize::MAX] {
+            assert_eq!(
+                numbers(obscurlane::text_item(&text, wanted)).map(place),
+                expected(agreement::item(&text, wanted as u64)).map(place),
+                "item {wanted} of {text:?}"
+            );
+        }
+    }
+}
+
+/// A file of a few lines, with a line feed at its end or without.
+fn any_file(random: &mut Random) -> Vec<u8> {
+    let mut file = Vec::new();
+    for _ in 0..random.below(8) {
+        match random.below(6) {
+            0 => {}
+            1 => {
+                let length = random.between(1023, 1026);
+                file.extend(random.bytes_of(b"A|:", length));
+            }
+            2..=3 => {
+                let kind = random.one_of(&sample::RECORDS);
+                file.extend(sample::record(random, kind));
+            }
+            _ => file.extend(sample::anything(random)),
+        }
+        file.extend_from_slice(random.one_of(&[&b"\n"[..], b"\n", b"\n", b"\r\n"]));
+    }
+    if random.below(2) == 0 {
+        file.extend(sample::record(random, Kind::Response));
+    }
+    file.shrink_to_fit();
+    file
+}
+
+#[test]
+fn files() {
+    let mut random = Random::with_seed(9);
+    for _ in 0..rounds() {
+        let file = any_file(&mut random);
+        let ours: Vec<_> = obscurlane::lines(&file)
+            .map(|line| {
+                assert_eq!(line.bytes.as_ptr(), file[line.start..].as_ptr());
+                let answer = numbers(line.answer.map(Kind::row));
+                (answer, line.start, line.bytes.len(), line.next)
+            })
+            .collect();
+        let theirs: Vec<_> = file::lines(&file)
+            .map(|line| {
+                let answer = expected(line.answer.map(|kind| kind as usize));
+                (answer, line.start as usize, line.length as usize, line.next as usize)
+            })
+            .collect();
+        assert_eq!(ours, theirs, "{file:?}");
+
+        let totals = obscurlane::count(&file);
+        assert_eq!((totals.lines, totals.accepted), file::count(&file), "{file:?}");
+
+        let anywhere = random.below(file.len() + 2);
+        for at in [anywhere, file.len(), file.len() + 1, usize::MAX] {
+            let step = match obscurlane::line_at(&file, at) {
+                None => file::Step::Finished { place: at as u64 },
+                Some(line) => {
+                    let file::Step::Read(read) = file::line_at(&file, at as u64) else {
+                        panic!("a line at {at} of {file:?}");
+                    };
+                    let answer = numbers(line.answer.map(Kind::row));
+                    assert_eq!(answer, expected(read.answer.map(|kind| kind as usize)));
+                    file::Step::Read(file::Line {
+                        answer: read.answer,
+                        start: line.start as u64,
+                        length: line.bytes.len() as u64,
+                        next: line.next as u64,
+                    })
+                }
+            };
+            assert_eq!(step, file::line_at(&file, at as u64), "place {at} of {file:?}");
+        }
+    }
+}
+
+#[test]
+fn newer() {
+    let mut random = Random::with_seed(10);
+    let mut seen = [0; 14];
+    for _ in 0..rounds() {
+        let kind = random.one_of(&[Kind::Ecdsa, Kind::Ecdh]);
+        let fields = sample::fields(&mut random, kind, false);
+        let mut others = fields.clone();
+        if random.below(4) != 0 {
+            // the same Subject with another GNT, and now and then another MID
+            let title = fields[0].iter().position(|&byte| byte == b':').expect("a mark");
+            let subject = Kind::ALL
+                .into_iter()
+                .find(|kind| kind.name().as_bytes() == &fields[0][..title])
+                .expect("a kind");
+            let mut parts: Vec<Vec<u8>> = (1..=4)
+                .map(|n| obscurlane::identity_field(&fields[0], n).expect("a field").to_vec())
+                .collect();
+            parts[2] = sample::timestamp(&mut random);
+            if random.below(4) == 0 {
+                parts[1] = sample::any_ident(&mut random);
+            }
+            others[0] = sample::record_of(subject, &parts);
+        }
+        let mut keys = [sample::record_of(kind, &fields), sample::record_of(kind, &others)];
+        if random.below(3) == 0 {
+            keys[random.below(2)] = sample::anything(&mut random);
+        }
+        let [first, second] = &keys;
+        let ours = numbers(obscurlane::newer(first, second)).map(place);
+        assert_eq!(ours, expected(compare::newer::newer(first, second)).map(place), "{keys:?}");
+        seen[usize::from(ours.err().map_or(0, |(number, _)| number))] += 1;
+    }
+    assert!(seen[0] > rounds() / 10 && seen[13] > rounds() / 50, "{seen:?}");
+}
+
+#[test]
+fn the_list() {
+    let mut random = Random::with_seed(11);
+    for _ in 0..rounds() {
+        let mut number = || random.next() as usize >> random.below(64);
+        let (a, b, c) = (number(), number(), number());
+        let no = random.next() as u8;
+        let wanted = format!("{a} {b} {c} {no}\n");
+        let mut out = [0; obscurlane::LONGEST_LINE_TEXT];
+        assert_eq!(obscurlane::line_text(a, b, c, no, &mut out), Ok(wanted.as_bytes()));
+        let short = &mut out[..wanted.len() - 1];
+        assert_eq!(numbers(obscurlane::line_text(a, b, c, no, short)), Err((10, 0)));
+        let wanted = format!("end {a} {b}\n");
+        assert_eq!(obscurlane::end_text(a, b, &mut out), Ok(wanted.as_bytes()));
+        let short = &mut out[..wanted.len() - 1];
+        assert_eq!(numbers(obscurlane::end_text(a, b, short)), Err((10, 0)));
+    }
+}
