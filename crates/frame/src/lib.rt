@@ -4,7 +4,7 @@ ghost use mathlib.Core.Path.{_≡_};
 ghost use Prim.Native.Nat.{_-_};
 ghost use lib.ListN.{length, drop};
 ghost use Rattle.format.specs.Read.{isMark, title, markAfter, body, check, lastOr, cut};
-ghost use Rattle.frame.specs.Frame.{nextMark, partStart, partOf, checkNo};
+ghost use Rattle.frame.specs.Frame.{nextMark, marksIn, partStart, partOf, checkNo};
 
 pub const NO_CHECK: u8 = 3;
 
@@ -72,16 +72,43 @@ pub fn next_mark(mark: u8, s: &[u8], from: usize) -> usize
     i
 }
 
-fn count_parts(mark: u8, s: &[u8]) -> usize
-    ensures { λ r. ⌜ r ≡ length (cut mark (now (s .entry))) ⌝ }
+fn last_byte(s: &[u8]) -> u8
+    ensures { λ r. ⌜ r ≡ lastOr 0 (now (s .entry)) ⌝ }
+{
+    if s.len() == 0 {
+        return 0;
+    }
+    let at = s.len() - 1;
+    s[at]
+}
+
+// How often the mark stands in s. The loop has no early end, so LLVM counts many bytes at a time.
+fn count_marks(mark: u8, s: &[u8]) -> usize
+    ensures { λ r. ⌜ r ≡ marksIn mark (now (s .entry)) ⌝ }
 {
     let mut n: usize = 0;
     let mut i: usize = 0;
     while i < s.len() {
-        i = next_mark(mark, s, i) + 1;
-        n += 1;
+        if mark == s[i] {
+            n += 1;
+        }
+        i += 1;
     }
     n
+}
+
+// Each mark ends a part, and what no mark ends is one more.
+fn count_parts(mark: u8, s: &[u8]) -> usize
+    ensures { λ r. ⌜ r ≡ length (cut mark (now (s .entry))) ⌝ }
+{
+    if s.len() == 0 {
+        return 0;
+    }
+    let marks = count_marks(mark, s);
+    if last_byte(s) == mark {
+        return marks;
+    }
+    marks + 1
 }
 
 // The number of fields: the parts of a body but for the first, which is the kind's name.
@@ -150,16 +177,6 @@ fn check_of<'a>(s: &'a [u8]) -> &'a [u8]
 {
     let start = body_length(s);
     &s[start..]
-}
-
-fn last_byte(s: &[u8]) -> u8
-    ensures { λ r. ⌜ r ≡ lastOr 0 (now (s .entry)) ⌝ }
-{
-    if s.len() == 0 {
-        return 0;
-    }
-    let at = s.len() - 1;
-    s[at]
 }
 
 // NO_CHECK where no check or no mark before it stands at the end, WRONG_CHECK where the check differs, else 0.
