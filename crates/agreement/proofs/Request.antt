@@ -1,24 +1,22 @@
 -- What is known of an accepted request: its kind, its fields, and that they go into a text.
 -- Assumes nothing.
-use Prim.Native.Nat.{ℕ, zero, suc, _+_, _≤_, _<_}
-use mathlib.Core.Path.{_≡_, refl, sym, ap, ap₂, _∙_}
+use Prim.Native.Nat.{ℕ, zero, suc, _≤_, _<_}
+use mathlib.Core.Path.{_≡_, refl, ap, ap₂, _∙_}
 use mathlib.Core.Logic.{inl, inr}
 use mathlib.Core.List.{List, [], _∷_}
 use native.Mathlib.Omega.{arith}
 use native.Mathlib.Nat.{le-trans}
 use lib.ListN.{length, getD, List·getD-eq-default}
-use lib.Seq.{getD-drop}
 use lib.Dec.{leb, ltb, leb→le, ltb→lt, nltb→le}
 use Rattle.text.specs.Text.{Bytes, Ident, shortest, longest}
 use Rattle.text.proofs.Tests.{by-test, between-high, allBelow, below}
 use Rattle.text.proofs.Types.{lengths, point-hex}
-use Rattle.format.specs.Kinds.{REQ, Field, Text, Identity, OrEmpty, mark, fieldsOf}
+use Rattle.format.specs.Kinds.{REQ, Field, Text, Identity, OrEmpty, fieldsOf}
 use Rattle.format.specs.Build.{Fits, FitAll, IsIdentity, Permitted}
-use Rattle.format.specs.Read.{Outcome, accepted, body, cut, fieldsIn, readOf}
+use Rattle.format.specs.Read.{Outcome, accepted, fieldsIn, readOf}
 use Rattle.format.proofs.Table.{all-among, longestOf}
 use Rattle.format.proofs.Fields.{fit-length}
 use Rattle.format.proofs.Exactly.{identity-tame, read-exact}
-use Rattle.frame.specs.Frame.{partOf}
 use Rattle.reading.specs.Reading.{answerOf}
 use Rattle.reading.specs.declared.Answer.{Answer}
 use Rattle.reading.proofs.Within.{taken, of-within}
@@ -31,11 +29,6 @@ request-read s a e z =
     let t = taken (REQ ∷ []) s (readOf (REQ ∷ []) s) a (of-within (REQ ∷ []) s) e z in
     let k = all-among (λ j. j ≡ REQ) (REQ ∷ []) (refl, tt) (t .kind) (t .inside .of-kind) in
     t .is ∙ ap₂ {C = Outcome} accepted k (t .inside .its-fields ∙ ap (λ j. fieldsIn j s) k)
-
--- part 0 is the kind's name; b is the body as the code has it
-pub field-part : (s b : Bytes) (n : ℕ) → b ≡ body s → partOf (mark REQ) b (n + 1) ≡ getD (fieldsIn REQ s) n []
-unfolding partOf
-field-part s b n e = let z : n + 1 ≡ 1 + n = omega arith in rw (e, z) (sym (getD-drop 1 (cut (mark REQ) (body s)) n []))
 
 -- ---- its fields go into a text
 
@@ -69,5 +62,12 @@ permitted-suited fs p =
       point = point-hex (getD fs 5 []) (fit 5 (omega arith));
     }
 
-pub request-suited : (s : Bytes) (a : Answer) → a ≡ answerOf (readOf (REQ ∷ []) s) → a .no ≡ 0 → Suited (fieldsIn REQ s)
-request-suited s a e z = permitted-suited (fieldsIn REQ s) (read-exact (REQ ∷ []) s REQ (fieldsIn REQ s) .0 (request-read s a e z) .permitted)
+module _ (s : Bytes) (a : Answer) (e : a ≡ answerOf (readOf (REQ ∷ []) s)) (z : a .no ≡ 0) where
+  request-permitted : Permitted REQ (fieldsIn REQ s)
+  request-permitted = read-exact (REQ ∷ []) s REQ (fieldsIn REQ s) .0 (request-read s a e z) .permitted
+
+  pub request-suited : Suited (fieldsIn REQ s)
+  request-suited = permitted-suited (fieldsIn REQ s) request-permitted
+
+  pub request-seven : length (fieldsIn REQ s) ≡ 7
+  request-seven = fit-length IsIdentity (fieldsOf REQ) (fieldsIn REQ s) (request-permitted .fit)

@@ -1,14 +1,16 @@
 -- What the private functions of the crate answer. No clause of a document stands here.
 -- Assumes nothing.
-use Prim.Native.Nat.{ℕ, _≤_, _<_}
+use Prim.Native.Nat.{ℕ, suc, _≤_, _<_}
+use mathlib.Core.Path.{_≡_}
 use mathlib.Core.Bool.{cond}
 use mathlib.Core.List.{List, [], _∷_, map}
 use lib.ListN.{length, getD}
 use lib.Dec.{T, eqb}
 use Rattle.text.specs.Text.{Bytes, isHex}
 use Rattle.text.specs.Base16.{base16Decode}
-use Rattle.format.specs.Kinds.{REQ}
-use Rattle.format.specs.Read.{fieldsIn}
+use Rattle.format.specs.Kinds.{REQ, mark}
+use Rattle.format.specs.Read.{body, fieldsIn}
+use Rattle.frame.specs.Frame.{partStart}
 use Rattle.items.specs.Items.{lvConcat}
 
 -- one item: its length and its bytes
@@ -35,3 +37,9 @@ pub record Small (label : Bytes) (ns : List ℕ) : Type 0 where
 pub record Suited (fs : List Bytes) : Type 0 where
   pub short : (n : ℕ) → length (getD fs n []) ≤ 255
   pub point : T (isHex 194 (getD fs 5 []))
+
+-- the places at which the fields of a request start, and behind them the one at which an eighth would; part 0 of a body is
+-- the kind's name
+pub record Starts (request : Bytes) (places : List ℕ) : Type 0 where
+  pub seven : length (fieldsIn REQ request) ≡ 7
+  pub place : (j : ℕ) → j < 8 → getD places j 0 ≡ partStart (mark REQ) (body request) (suc j)

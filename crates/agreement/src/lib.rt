@@ -12,7 +12,7 @@ ghost use Rattle.format.specs.Read.{fieldsIn, readOf};
 ghost use Rattle.put.specs.Put.{Put};
 ghost use Rattle.put.specs.Made.{Writes};
 ghost use Rattle.agreement.specs.Texts.{textMade, sharedInfo, moduleText, centreText};
-ghost use Rattle.agreement.specs.Steps.{lvItem, itemFor, itemsBy, textOf, Small, Suited};
+ghost use Rattle.agreement.specs.Steps.{lvItem, itemFor, itemsBy, textOf, Small, Suited, Starts};
 
 const NO_ROOM: u8 = 10;
 
@@ -33,11 +33,39 @@ const QE: u8 = 5;
 // A decoded point has so many bytes.
 const POINT_BYTES: usize = 97;
 
-// A part of the request's own bytes; part 0 of its body is the kind's name.
-fn field<'a>(request: &'a [u8], n: u8) -> &'a [u8]
+// A request has so many fields.
+const FIELDS: usize = 7;
+
+// Where each field of a request starts, and behind them where one more would. The request is walked over once, here: part
+// 0 of its body is the kind's name, and each further part starts behind a mark.
+fn starts_of(request: &[u8]) -> [usize; 8]
+    requires { ⌜ length (fieldsIn REQ (now request)) ≡ 7 ⌝ }
+    ensures { λ r. ⌜ Starts (now (request .entry)) r ⌝ }
+{
+    let body = frame::body_of(request);
+    let mut starts = [0; 8];
+    let mut at = 0;
+    let mut j = 0;
+    while j < 8 {
+        at = frame::next_mark(b'|', body, at) + 1;
+        starts[j] = at;
+        j += 1;
+    }
+    starts
+}
+
+// A part of the request's own bytes, up to the mark before the next one's start; an empty one past the last field.
+fn field<'a>(request: &'a [u8], starts: &[usize; 8], n: u8) -> &'a [u8]
+    requires { ⌜ Starts (now request) (now starts) ⌝ }
     ensures { λ r. ⌜ now r ≡ getD (fieldsIn REQ (now (request .entry))) n [] ⌝ }
 {
-    frame::part(b'|', frame::body_of(request), n as usize + 1)
+    let i = n as usize;
+    if FIELDS <= i {
+        return &request[0..0];
+    }
+    let start = starts[i];
+    let end = starts[i + 1] - 1;
+    &request[start..end]
 }
 
 // ---- items
@@ -74,11 +102,11 @@ fn put_point(out: &mut [u8], at: usize, point: &[u8]) -> usize
 }
 
 // Field n as an item: QE is decoded, all else goes in as it stands.
-fn put_field(out: &mut [u8], at: usize, request: &[u8], n: u8) -> usize
-    requires { ⌜ Suited (fieldsIn REQ (now request)) × (at + 1 + length (itemFor (fieldsIn REQ (now request)) n) ≤ length (now out)) ⌝ }
+fn put_field(out: &mut [u8], at: usize, request: &[u8], starts: &[usize; 8], n: u8) -> usize
+    requires { ⌜ Starts (now request) (now starts) × Suited (fieldsIn REQ (now request)) × (at + 1 + length (itemFor (fieldsIn REQ (now request)) n) ≤ length (now out)) ⌝ }
     ensures { λ r. ⌜ Put (now (out .entry)) at (lvItem (itemFor (fieldsIn REQ (now (request .entry))) n)) (now (out .exit)) r ⌝ }
 {
-    let bytes = field(request, n);
+    let bytes = field(request, starts, n);
     if n == QE {
         return put_point(out, at, bytes);
     }
@@ -86,12 +114,12 @@ fn put_field(out: &mut [u8], at: usize, request: &[u8], n: u8) -> usize
 }
 
 // The length of that item, without the byte that tells it.
-fn field_length(request: &[u8], n: u8) -> usize
-    requires { ⌜ Suited (fieldsIn REQ (now request)) ⌝ }
+fn field_length(request: &[u8], starts: &[usize; 8], n: u8) -> usize
+    requires { ⌜ Starts (now request) (now starts) × Suited (fieldsIn REQ (now request)) ⌝ }
     ensures { λ r. ⌜ r ≡ length (itemFor (fieldsIn REQ (now (request .entry))) n) ⌝ }
 {
     if n != QE {
-        return field(request, n).len();
+        return field(request, starts, n).len();
     }
     POINT_BYTES
 }
@@ -99,30 +127,36 @@ fn field_length(request: &[u8], n: u8) -> usize
 // ---- texts
 
 // The length of the text that has this label and these fields.
-fn text_length(label: &[u8], fields: &[u8], request: &[u8]) -> usize
-    requires { ⌜ Small (now label) (now fields) × Suited (fieldsIn REQ (now request)) ⌝ }
+fn text_length(label: &[u8], fields: &[u8], request: &[u8], starts: &[usize; 8]) -> usize
+    requires { ⌜ Small (now label) (now fields) × Starts (now request) (now starts) × Suited (fieldsIn REQ (now request)) ⌝ }
     ensures { λ r. ⌜ r ≡ length (textOf (now (label .entry)) (now (fields .entry)) (now (request .entry))) ⌝ }
 {
     // The count, and the label with its length.
     let mut total = 2 + label.len();
     let mut i = 0;
     while i < fields.len() {
-        total += 1 + field_length(request, fields[i]);
+        total += 1 + field_length(request, starts, fields[i]);
         i += 1;
     }
     total
 }
 
 // That text, from the front of an output that has room for it.
-fn put_text(out: &mut [u8], label: &[u8], fields: &[u8], request: &[u8]) -> usize
-    requires { ⌜ Small (now label) (now fields) × Suited (fieldsIn REQ (now request)) × (length (textOf (now label) (now fields) (now request)) ≤ length (now out)) ⌝ }
+fn put_text(
+    out: &mut [u8],
+    label: &[u8],
+    fields: &[u8],
+    request: &[u8],
+    starts: &[usize; 8],
+) -> usize
+    requires { ⌜ Small (now label) (now fields) × Starts (now request) (now starts) × Suited (fieldsIn REQ (now request)) × (length (textOf (now label) (now fields) (now request)) ≤ length (now out)) ⌝ }
     ensures { λ r. ⌜ Put (now (out .entry)) 0 (textOf (now (label .entry)) (now (fields .entry)) (now (request .entry))) (now (out .exit)) r ⌝ }
 {
     let next = put::put_byte(out, 0, (1 + fields.len()) as u8);
     let mut at = put_item(out, next, label);
     let mut i = 0;
     while i < fields.len() {
-        at = put_field(out, at, request, fields[i]);
+        at = put_field(out, at, request, starts, fields[i]);
         i += 1;
     }
     at
@@ -137,10 +171,11 @@ fn write_text(label: &[u8], fields: &[u8], request: &[u8], out: &mut [u8]) -> pu
     if answer.no != reading::ACCEPTED {
         return put::refuse(answer.no, answer.field);
     }
-    if out.len() < text_length(label, fields, request) {
+    let starts = starts_of(request);
+    if out.len() < text_length(label, fields, request, &starts) {
         return put::refuse(NO_ROOM, 0);
     }
-    let len = put_text(out, label, fields, request);
+    let len = put_text(out, label, fields, request, &starts);
     put::Written {
         no: reading::ACCEPTED,
         field: 0,

@@ -17,7 +17,7 @@ returns : tie.Need-returns
 returns c = ap length (item-other (fieldsIn REQ (now (c .before .before .before .args .request))) _ _ (c .field .ensures) (c .before .if1 .taken))
 
 returns-2 : tie.Need-returns-2
-returns-2 c = sym (item-point _ _ _ refl (c .if1 .left) (c .before .before .pre))
+returns-2 c = sym (item-point _ _ _ refl (c .if1 .left) (c .before .before .pre .1))
 
 pub field-length-spec : {M : Type 1} → statement M
 field-length-spec = tie.close (tie.spec field-requires returns returns-2)

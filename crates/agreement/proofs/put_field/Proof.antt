@@ -22,7 +22,7 @@ put-point-requires c κs =
     let fs = fieldsIn REQ (now (s .args .request)) in
     let e = c .before .before .field .ensures in
     let q = c .before .if1 .taken in
-    (item-hex fs _ _ e q (s .pre .0), omega (arith, s .pre .1, item-point fs _ _ e q (s .pre .0)))
+    (item-hex fs _ _ e q (s .pre .1), omega (arith, s .pre .2, item-point fs _ _ e q (s .pre .1)))
 
 same-length : tie.Need-same-length
 same-length c = search needs
@@ -37,7 +37,7 @@ put-item-requires c κs =
     let s = c .before .before .before .before .before in
     let fs = fieldsIn REQ (now (s .args .request)) in
     let e = c .before .before .field .ensures in
-    (omega (arith, ap length e, s .pre .0 .short (s .args .n)), omega (arith, s .pre .1, ap length (item-other fs (s .args .n) _ e (c .before .if1 .left))))
+    (omega (arith, ap length e, s .pre .1 .short (s .args .n)), omega (arith, s .pre .2, ap length (item-other fs (s .args .n) _ e (c .before .if1 .left))))
 
 same-length-2 : tie.Need-same-length-2
 same-length-2 c = search needs

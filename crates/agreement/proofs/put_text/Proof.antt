@@ -14,10 +14,10 @@ use Rattle.agreement.proofs.put_text.Statement.{statement}
 use Rattle.agreement.proofs.put_text.Tie as tie
 
 abbrev Inv-loop : tie.InvT-loop
-Inv-loop out₀ label fields request next at₀ i₀ out at i = Entered out₀ at₀ fields (fieldsIn REQ request) out at i
+Inv-loop out₀ label fields request starts next at₀ i₀ out at i = Entered out₀ at₀ fields (fieldsIn REQ request) out at i
 
 abbrev μ-loop : tie.MeasureT-loop
-μ-loop out₀ label fields request next at₀ i₀ out at i = length fields - i
+μ-loop out₀ label fields request starts next at₀ i₀ out at i = length fields - i
 
 add-put-byte : tie.Need-add-put-byte Inv-loop μ-loop
 add-put-byte c = search needs
@@ -32,22 +32,22 @@ put-item-requires : tie.Need-put-item-requires Inv-loop μ-loop
 put-item-requires c κs =
     let s = c .before .before .before .before .before .before .before .before .before in
     let l = text-length (now (s .args .label)) (now (s .args .fields)) (fieldsIn REQ (now (s .args .request))) in
-    let first = put-of (omega (arith, s .pre .2)) (c .before .before .before .put-byte .ensures) in
-    (s .pre .0 .short-label, omega (arith, l, s .pre .2, first .next, put-length first))
+    let first = put-of (omega (arith, s .pre .3)) (c .before .before .before .put-byte .ensures) in
+    (s .pre .0 .short-label, omega (arith, l, s .pre .3, first .next, put-length first))
 
 loop-holds : tie.Need-loop-holds Inv-loop μ-loop
 loop-holds c =
     let s = c .before .before .before .before .before .before .before .before .before .before .before .before in
     let l = text-length (now (s .args .label)) (now (s .args .fields)) (fieldsIn REQ (now (s .args .request))) in
-    let first = put-of (omega (arith, s .pre .2)) (c .before .before .before .before .before .before .put-byte .ensures) in
+    let first = put-of (omega (arith, s .pre .3)) (c .before .before .before .before .before .before .put-byte .ensures) in
     let second = c .before .before .put-item .ensures in
-    entered-none (omega (arith, l, s .pre .2, first .next, put-length first, second .next, put-length second))
+    entered-none (omega (arith, l, s .pre .3, first .next, put-length first, second .next, put-length second))
 
 shared-slice-read-put-field : tie.Need-shared-slice-read-put-field Inv-loop μ-loop
 shared-slice-read-put-field c = search needs
 
 put-field-requires : tie.Need-put-field-requires Inv-loop μ-loop
-put-field-requires c κs = (c .before .before .before .before .before .before .before .before .before .before .before .before .before .before .before .before .pre .1, entered-room (c .before .before .before .loop .inv) (c .before .before .loop-test .taken))
+put-field-requires c κs = (c .before .before .before .before .before .before .before .before .before .before .before .before .before .before .before .before .pre .1, c .before .before .before .before .before .before .before .before .before .before .before .before .before .before .before .before .pre .2, entered-room (c .before .before .before .loop .inv) (c .before .before .loop-test .taken))
 
 add-i : tie.Need-add-i Inv-loop μ-loop
 add-i c = search needs
@@ -65,7 +65,7 @@ returns : tie.Need-returns Inv-loop μ-loop
 returns c =
     let s = c .before .before .before .before .before .before .before .before .before .before .before .before .before .before in
     text-pieces (now (s .args .label)) (now (s .args .fields)) (fieldsIn REQ (now (s .args .request)))
-    (put-of (omega (arith, s .pre .2)) (c .before .before .before .before .before .before .before .before .put-byte .ensures))
+    (put-of (omega (arith, s .pre .3)) (c .before .before .before .before .before .before .before .before .put-byte .ensures))
     (c .before .before .before .before .put-item .ensures)
     (entered-all (c .before .loop .inv) (c .loop-test .left))
 

@@ -11,16 +11,16 @@ use Rattle.agreement.proofs.text_length.Statement.{statement}
 use Rattle.agreement.proofs.text_length.Tie as tie
 
 abbrev Inv-loop : tie.InvT-loop
-Inv-loop label fields request total₀ i₀ total i = Counted label fields (fieldsIn REQ request) total i
+Inv-loop label fields request starts total₀ i₀ total i = Counted label fields (fieldsIn REQ request) total i
 
 abbrev μ-loop : tie.MeasureT-loop
-μ-loop label fields request total₀ i₀ total i = length fields - i
+μ-loop label fields request starts total₀ i₀ total i = length fields - i
 
 add-total : tie.Need-add-total Inv-loop μ-loop
 add-total c = search needs
 
 loop-holds : tie.Need-loop-holds Inv-loop μ-loop
-loop-holds c = counted-none (c .before .before .before .pre .0) (c .before .before .before .pre .1)
+loop-holds c = counted-none (c .before .before .before .pre .0) (c .before .before .before .pre .2)
 
 shared-slice-read-field-length : tie.Need-shared-slice-read-field-length Inv-loop μ-loop
 shared-slice-read-field-length c = search needs
