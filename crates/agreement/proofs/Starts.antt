@@ -1,6 +1,6 @@
 -- Where the fields of a request start: the walk that finds the places, and the field between two of them.
 -- Assumes nothing.
-use Prim.Native.Nat.{ℕ, zero, suc, _+_, _-_, _≤_, _<_}
+use Prim.Native.Nat.{ℕ, suc, _+_, _-_, _≤_, _<_}
 use mathlib.Core.Path.{_≡_, refl, ap, sym, _∙_}
 use mathlib.Core.List.{List, []}
 use native.Mathlib.Omega.{arith}
@@ -13,7 +13,7 @@ use Rattle.text.proofs.Tests.{by-test}
 use Rattle.format.specs.Kinds.{REQ, mark}
 use Rattle.format.specs.Read.{body, check, cut, fieldsIn}
 use Rattle.frame.specs.Frame.{nextMark, partStart, partOf}
-use Rattle.frame.proofs.Parts.{Walk, walk-start, walk-on, next-from, next-within, part-there, start-within}
+use Rattle.frame.proofs.Parts.{Walk, walk-start, walk-on, walk-to, next-from, next-within, part-there, start-within}
 use Rattle.agreement.specs.Steps.{Starts}
 
 -- ---- the loop: of the body b the first j places are known, and part j starts at `at`
@@ -63,12 +63,6 @@ module _ {b : Bytes} {places : List ℕ} {at j : ℕ} (p : Placed b places at j)
   }
 
 -- ---- field n, between two places
-
-walk-to : (m : ℕ) (s : Bytes) (n : ℕ) → n ≤ length (cut m s) → Walk m s n (partStart m s n)
-unfolding partStart
-walk-to m s zero h = walk-start m s
-walk-to m s (suc n) h =
-    let v = rw (add-one n) at (walk-on m s n _ (walk-to m s n (omega arith)) (start-within m s n (omega arith)) _ refl) in rw (← v .start) v
 
 -- part 0 is the kind's name
 field-part : (s : Bytes) (n : ℕ) → partOf (mark REQ) (body s) (suc n) ≡ getD (fieldsIn REQ s) n []

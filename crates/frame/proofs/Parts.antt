@@ -199,7 +199,7 @@ module _ (m : ℕ) (s : Bytes) where
   on-from n w h = let v = rw add-one at (walk-on m s n _ w h _ refl) in rw (← v .start) v
 
   -- the walk to part n, and the parts' end where there are not so many
-  walk-to : (n : ℕ) → n ≤ length (cut m s) → Walk m s n (partStart m s n)
+  pub walk-to : (n : ℕ) → n ≤ length (cut m s) → Walk m s n (partStart m s n)
   unfolding partStart
   walk-to zero h = walk-start m s
   walk-to (suc n) h = go (walk-to n (omega arith))
