@@ -142,6 +142,9 @@ calls! {
     };
     ItemPlace "item_place" "item_place" |case| case.stands(agreement::item(&case.a, case.n));
     NewerOf "newer_of" "newer_of" |case| case.which(newer::newer(&case.a, &case.b));
+    PlaceOf "place_of" "place_of" |case| {
+        case.stands(rows::field_of(case.n, case.further(0), &case.a, case.further(1)))
+    };
 }
 
 impl Op {

@@ -42,6 +42,7 @@ pub fn all() -> Vec<Case> {
         walks::add,
         places::add,
         newer::which,
+        places::by_rows,
     ];
     let mut plan = Plan { cases: Vec::new(), random: Random::with_seed(0) };
     for (seed, add) in (1..).zip(groups) {

@@ -2,7 +2,7 @@
 
 use super::Plan;
 use crate::calls::Op;
-use crate::sample::{self, Fault};
+use crate::sample::{self, Fault, Signed};
 use compare::agreement;
 use compare::kind::Kind;
 use compare::worked::{worked, IDENTITIES, RECORDS};
@@ -64,5 +64,21 @@ fn items(plan: &mut Plan) {
         for number in [1, 2] {
             plan.numbered(Op::ItemPlace, number, bytes);
         }
+    }
+}
+
+/// A record of every kind, read among the kinds of some rows; and one with a wrong check.
+pub fn by_rows(plan: &mut Plan) {
+    for kind in Kind::RECORDS {
+        let fields = sample::short_fields(&mut plan.random, kind, Signed::No);
+        let record = sample::of_kind(kind, &fields);
+        let (row, count) = (kind as u64, fields.len() as u64);
+        for (from, to, wanted) in
+            [(3, 7, 1), (row, row + 1, count), (row, u64::MAX, count + 1), (row + 1, 7, 1), (0, row, 2)]
+        {
+            plan.with(Op::PlaceOf, from, record.clone(), &[to, wanted]);
+        }
+        let damaged = sample::faulty(&mut plan.random, kind, &[Fault::Check]);
+        plan.with(Op::PlaceOf, row, damaged, &[row + 1, 2]);
     }
 }

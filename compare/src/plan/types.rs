@@ -19,7 +19,7 @@ fn idents(plan: &mut Plan) {
     for byte in 0..=255 {
         plan.call(Op::Ident, [byte]);
     }
-    for byte in (0..128).chain((128..=255).step_by(9)) {
+    for byte in (0..128).chain([128, 255]) {
         plan.call(Op::Ident, [b'A', byte]);
     }
     for text in ["", "Prism", "A", "TEST1", "06000001", "sts-KeyAgreement-1.2", "A_-.,", "a,.-_"] {

@@ -5,15 +5,15 @@ use mathlib.Core.Path.{_≡_, refl, ap, sym, _∙_}
 use mathlib.Core.List.{List, []}
 use native.Mathlib.Omega.{arith}
 use native.Mathlib.Numerals.{add-one}
-use lib.ListN.{length, take, drop, getD, set, length-set, length-drop, take-append-drop, List·getD-eq-default}
-use lib.Seq.{length-take-le, take-append-le, drop-append-le, getD-drop, getD-set-same, getD-set-other}
+use lib.ListN.{length, take, drop, getD, set, length-set, length-drop, List·getD-eq-default}
+use lib.Seq.{length-take-le, getD-drop, getD-set-same, getD-set-other}
 use lib.Dec.{ltb, ltb→lt, nltb→le}
 use Rattle.text.specs.Text.{Bytes}
 use Rattle.text.proofs.Tests.{by-test}
 use Rattle.format.specs.Kinds.{REQ, mark}
-use Rattle.format.specs.Read.{body, check, cut, fieldsIn}
+use Rattle.format.specs.Read.{body, cut, fieldsIn}
 use Rattle.frame.specs.Frame.{nextMark, partStart, partOf}
-use Rattle.frame.proofs.Parts.{Walk, walk-start, walk-on, walk-to, next-from, next-within, part-there, start-within}
+use Rattle.frame.proofs.Parts.{Walk, walk-start, walk-on, walk-to, next-from, next-within, part-there, start-within, body-bytes}
 use Rattle.agreement.specs.Steps.{Starts}
 
 -- ---- the loop: of the body b the first j places are known, and part j starts at `at`
@@ -103,8 +103,6 @@ module _ (s : Bytes) (places : List ℕ) (n : ℕ) (t : Starts s places) (h : n 
       let j = getD places (n + 1) 0 - 1 in
       let r : getD places (n + 1) 0 - 1 ≡ nextMark (mark REQ) (body s) (getD places n 0) = omega (arith, to-next) in
       let ends = next-within (mark REQ) (body s) (getD places n 0) (omega (arith, starts)) in
-      ap (λ (x : Bytes). take (j - i) (drop i x)) (sym (take-append-drop (length s - 4) s))
-      ∙ ap (take (j - i)) (drop-append-le i (body s) (check s) (omega (arith, starts)))
-      ∙ take-append-le (j - i) (drop i (body s)) (check s) (omega (arith, r, ends, length-drop i (body s)))
+      body-bytes s i j (omega (arith, starts)) (omega (arith, r, ends))
       ∙ part-there (mark REQ) (body s) (suc n) i (t .place n (omega arith)) starts j r
       ∙ field-part s n

@@ -39,7 +39,7 @@ pub(crate) fn print_call(op: u8) {
             n,
         ),
         _ => word(
-            b"part_start identity_place record_place item_place newer_of",
+            b"part_start identity_place record_place item_place newer_of place_of",
             n,
         ),
     }

@@ -35,6 +35,12 @@ fn part_start(n: u64, a: &[u8], c: &[u8]) -> u8 {
     calls::NONE
 }
 
+fn place_of(n: u64, a: &[u8], c: &[u8]) -> u8 {
+    let to = input::number(c, 0) as usize;
+    let wanted = input::number(c, 8) as usize;
+    field(fields::place_of(n as usize, to, a, wanted))
+}
+
 pub(crate) fn run(op: u8, n: u64, a: &[u8], b: &[u8], c: &[u8]) -> u8 {
     let wanted = n as usize;
     match op {
@@ -42,6 +48,7 @@ pub(crate) fn run(op: u8, n: u64, a: &[u8], b: &[u8], c: &[u8]) -> u8 {
         57 => field(fields::identity_place(a, wanted)),
         58 => field(fields::record_place(a, wanted)),
         59 => item(items::item_place(a, wanted)),
-        _ => choice(newer::newer_of(a, b)),
+        60 => choice(newer::newer_of(a, b)),
+        _ => place_of(n, a, c),
     }
 }

@@ -12,7 +12,7 @@ use Rattle.files.specs.declared.Line.{Line}
 use Rattle.files.specs.declared.Line.the-variants.{Finished, Read}
 use Rattle.files.specs.declared.Totals.{Totals}
 use Rattle.newer.specs.declared.Choice.{Choice}
-use Rattle.exports.specs.declared.Found.{Found}
+use Rattle.exports.specs.declared.walking.Found.{Found}
 
 abbrev pub answer : ℕ → ℕ → ℕ → Answer
 answer n f k = record { no = n; field = f; kind = k }

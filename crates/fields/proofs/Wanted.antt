@@ -5,17 +5,17 @@ use mathlib.Core.Path.{_≡_, refl, ap, sym, _∙_}
 use mathlib.Core.Bool.{not, cond}
 use mathlib.Core.List.{List, [], _∷_}
 use native.Mathlib.Omega.{arith}
-use lib.ListN.{length, take, drop, getD, length-drop, take-append-drop, List·getD-eq-default}
-use lib.Seq.{length-take-le, take-append-le, drop-append-le}
+use lib.ListN.{length, take, drop, getD, length-drop, List·getD-eq-default}
+use lib.Seq.{length-take-le}
 use lib.Dec.{T, leb, leb→le}
 use mir.Facts.{and-yes}
 use borrow.Author.Tests.{le-leb, lt-leb}
 use Rattle.text.specs.Text.{Bytes, between}
 use Rattle.text.proofs.Tests.{by-test, T-true, T-false}
 use Rattle.format.specs.Kinds.{Kind, mark, fieldsOf}
-use Rattle.format.specs.Read.{Outcome, accepted, refused, place, body, check}
+use Rattle.format.specs.Read.{Outcome, accepted, refused, place, body}
 use Rattle.frame.specs.Frame.{nextMark, partStart, partOf}
-use Rattle.frame.proofs.Parts.{next-within, part-there, start-within}
+use Rattle.frame.proofs.Parts.{next-within, part-there, start-within, body-bytes}
 use Rattle.table.specs.Table.{markOf, countOf}
 use Rattle.table.proofs.Rows.{less-or, of-kind}
 use Rattle.reading.specs.Reading.{answerOf}
@@ -106,9 +106,7 @@ module _ (s : Bytes) (wanted : ℕ) where
 
     its-bytes : take (j - i) (drop i s) ≡ wantedPart (accepted k fs) wanted
     its-bytes =
-        ap (λ (x : Bytes). take (j - i) (drop i x)) (sym (take-append-drop (length s - 4) s))
-        ∙ ap (take (j - i)) (drop-append-le i (body s) (check s) (omega (arith, starts)))
-        ∙ take-append-le (j - i) (drop i (body s)) (check s) (omega (arith, ends, length-drop i (body s)))
+        body-bytes s i j (omega (arith, starts)) ends
         ∙ part-there (mark k) (body s) wanted i p starts j r ∙ its-part
 
   there-said : (o : Outcome) (ks : List Kind) → Within ks s o → (a : Answer) → a ≡ answerOf o → wantedNo o wanted ≡ 0 → (i j : ℕ)

@@ -72,7 +72,8 @@ pub fn identity_place(identity: &[u8], wanted: usize) -> Place
     place_from(reading::read_identity(identity), identity, wanted)
 }
 
-fn place_of(from: usize, to: usize, record: &[u8], wanted: usize) -> Place
+// The same of a record of the kinds in the table's rows from `from` to before `to`.
+pub fn place_of(from: usize, to: usize, record: &[u8], wanted: usize) -> Place
     ensures { λ r. ⌜ Placed (readOf (kindsFrom from to) (now («record» .entry))) wanted (now («record» .entry)) r ⌝ }
 {
     place_from(reading::read_of(from, to, record), record, wanted)

@@ -2,7 +2,6 @@
 -- Assumes nothing.
 use Prim.Native.Nat.{ℕ, _+_, _-_, _≤_, _<_}
 use mathlib.Core.Path.{_≡_, ap, sym, _∙_}
-use native.Mathlib.Omega.{arith}
 use lib.ListN.{length, take, drop}
 use Rattle.text.specs.Text.{Bytes}
 use Rattle.format.specs.Read.{readRecord}
@@ -30,7 +29,7 @@ module _ (file : Bytes) (place e : ℕ) (q : e ≡ lineEnd file place) where
       → Read (a .no) (a .field) (a .kind) place (e - place) (e + 1) ≡ lineSaid (lineAt file place)
   says-line h a r = ap (λ (x : Answer). Read (x .no) (x .field) (x .kind) place (e - place) (e + 1)) r ∙ sym (ap lineSaid (at-line file place e feed h))
 
--- ---- the answer's values: its start, those of a finished file, and that the next place lies beyond
+-- ---- the answer's values: its start, and those of a finished file
 
 module _ (file : Bytes) (place : ℕ) where
   pub starts-here : startOf (lineSaid (lineAt file place)) ≡ place
@@ -39,7 +38,3 @@ module _ (file : Bytes) (place : ℕ) where
 
   pub finished-values : length file ≤ place → (lengthOf (lineSaid (lineAt file place)) ≡ 0) × (nextOf (lineSaid (lineAt file place)) ≡ place)
   finished-values h = (rw (at-end file place h), rw (at-end file place h))
-
-  pub goes-beyond : place < length file → place < nextOf (lineSaid (lineAt file place))
-  goes-beyond l =
-      by-place file place (λ h. absurd (omega arith)) (λ e f h. rw (at-line file place e f h) (omega arith)) (λ e f k h. rw (at-unfinished file place e f k h) l)

@@ -206,11 +206,5 @@ signed-length k s q e i g h p n = let l = pubkey-length k s q e i g h p in omega
 
 -- ---- the fields that a builder is given
 
-pub judged-accepted : (k : Kind) (fs : List Bytes) (o : Outcome) {j : Kind} {gs : List Bytes} → length fs ≡ length (fieldsOf k)
-    → judged readIdentity k fs o ≡ accepted j gs → Permitted k fs × (o ≡ accepted j gs)
-judged-accepted k fs o {j} {gs} l =
-    judged-law readIdentity IsIdentity ask-exact (λ r. r ≡ accepted j gs → Permitted k fs × (o ≡ accepted j gs)) (λ n i e. absurd (never e)) k fs o l
-    (λ p e. (p, e))
-
 pub permitted-judged : (k : Kind) (fs : List Bytes) (o : Outcome) → Permitted k fs → judged readIdentity k fs o ≡ o
 permitted-judged = fits-judged readIdentity IsIdentity ask-exact

@@ -7,14 +7,14 @@ use mathlib.Core.List.{List, [], _∷_}
 use native.Mathlib.Omega.{arith}
 use native.Mathlib.Numerals.{add-one}
 use native.Mathlib.Nat.{add-zero}
-use lib.ListN.{length, take, drop, getD, drop-of-length-le, length-append, length-drop, List·getD-eq-default}
-use lib.Seq.{take-all, length-take-le, drop-cons, drop-drop, getD-drop}
+use lib.ListN.{length, take, drop, getD, drop-of-length-le, length-append, length-drop, take-append-drop, List·getD-eq-default}
+use lib.Seq.{take-all, length-take-le, take-append-le, drop-append-le, drop-cons, drop-drop, getD-drop}
 use lib.Dec.{eqb, ltb, ltb→lt, nltb→le}
 use borrow.Author.Tests.{eq-eqb, ne-eqb}
 use Rattle.text.specs.Text.{Bytes}
 use Rattle.text.proofs.Tests.{by-test}
 use Rattle.format.specs.Build.{joined}
-use Rattle.format.specs.Read.{cut, onFirst, lastOr}
+use Rattle.format.specs.Read.{body, check, cut, onFirst, lastOr}
 use Rattle.frame.specs.Frame.{nextMark, marksIn, partStart, partOf}
 use Rattle.format.specs.Files.{upTo}
 
@@ -241,3 +241,11 @@ module _ (m : ℕ) (s : Bytes) where
       by-test (ltb (partStart m s n) (length s))
       (λ t. ltb→lt _ _ t)
       (λ t. absurd (omega (arith, walk-done m s n _ (walk-to n (omega arith)) (nltb→le _ _ t))))
+
+-- ---- a part of a record's body is the same part of the record
+
+pub body-bytes : (s : Bytes) (i j : ℕ) → i ≤ length (body s) → j ≤ length (body s) → take (j - i) (drop i s) ≡ take (j - i) (drop i (body s))
+body-bytes s i j h l =
+    ap (λ (x : Bytes). take (j - i) (drop i x)) (sym (take-append-drop (length s - 4) s))
+    ∙ ap (take (j - i)) (drop-append-le i (body s) (check s) h)
+    ∙ take-append-le (j - i) (drop i (body s)) (check s) (omega (arith, l, length-drop i (body s)))

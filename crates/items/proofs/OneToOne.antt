@@ -4,11 +4,10 @@ use Prim.Native.Nat.{ℕ, zero, suc, _+_, _≤_, _<_}
 use mathlib.Core.Path.{_≡_, refl, sym, ap, ap₂, _∙_, subst}
 use mathlib.Core.Logic.{_↔_}
 use mathlib.Core.Option.{Option, none, some}
-use mathlib.Core.Bool.{cond}
 use mathlib.Core.List.{List, [], _∷_, _++_}
 use native.Mathlib.Omega.{arith}
 use lib.Dec.{T, leb, leb→le, le→leb}
-use lib.ListN.{length, take, drop, getD, length-append, take-append-drop}
+use lib.ListN.{length, take, drop, length-append, take-append-drop}
 use lib.Seq.{take-append-seam, drop-append-seam, length-take-le, getD-drop}
 use mir.Facts.{yes-and}
 use Rattle.text.specs.Text.{Bytes}

@@ -7,7 +7,6 @@ use mathlib.Core.Path.{_≡_, refl, sym, ap, _∙_}
 use mathlib.Core.Logic.{_⊎_, inl, inr, _↔_}
 use mathlib.Core.Bool.{Bool, true, false, cond}
 use mathlib.Core.List.{[]}
-use native.Mathlib.Omega.{arith}
 use lib.Dec.{T}
 use mir.Facts.{and-yes}
 use Rattle.text.specs.Text.{Bytes, same, isTimestamp}
@@ -90,20 +89,3 @@ module _ (a b part : Bytes) (n i : ℕ) (c : Chosen (newer a b) a b part n i) wh
 
     pub first-when-equal : gntOf p ≡ gntOf q → part ≡ a
     first-when-equal e = by-gnt ∙ rw (e, later-itself (gntOf q))
-
--- a refusal's number is never 0
-pub denied-number : (a b : Bytes) (n i : ℕ) → newer a b ≡ denied n i → n ≡ 0 → ⊥
-denied-number a b n i e z =
-    let z′ : choiceNo (newer a b) ≡ 0 = ap choiceNo e ∙ z in
-    let keys = chosen-keys a b z′ in
-    go (later (gntOf (keys .1)) (gntOf (keys .0))) (sym e ∙ chosen-later a b z′ (keys .0) (keys .1))
-  where
-    go : (l : Bool) → denied n i ≡ cond l theSecond theFirst → ⊥
-    go true h = let o : _≡_ {A = ℕ} 0 1 = cc in omega arith
-    go false h = let o : _≡_ {A = ℕ} 0 1 = cc in omega arith
-
--- the contract allows one result
-pub one-result : (d : Decision) (a b part part′ : Bytes) (n n′ i i′ : ℕ) → Chosen d a b part n i → Chosen d a b part′ n′ i′
-    → (part ≡ part′) × (n ≡ n′) × (i ≡ i′)
-one-result d a b part part′ n n′ i i′ c c′ =
-    (c .part-so ∙ sym (c′ .part-so), c .number-so ∙ sym (c′ .number-so), c .field-so ∙ sym (c′ .field-so))

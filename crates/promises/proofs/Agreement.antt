@@ -3,12 +3,11 @@
 use Prim.Native.Nat.{ℕ, _≤_}
 use mathlib.Core.Path.{_≡_, refl, sym, ap, _∙_, subst}
 use mathlib.Core.Logic.{_≢_}
-use mathlib.Core.Bool.{cond}
 use mathlib.Core.Option.{Option, none, some}
 use mathlib.Core.List.{List, [], _∷_}
 use native.Mathlib.Omega.{arith}
 use lib.ListN.{length}
-use lib.Dec.{T, leb, leb→le, le→leb}
+use lib.Dec.{leb, leb→le, le→leb}
 use Rattle.text.specs.Text.{Bytes}
 use Rattle.text.proofs.Tests.{by-test, cond-yes, cond-no}
 use Rattle.format.specs.Numbers.{noRoom}
@@ -19,7 +18,7 @@ use Rattle.format.proofs.Exactly.{read-exact, read-honest}
 use Rattle.table.proofs.Rows.{among-one}
 use Rattle.put.specs.Made.{Made, made, denied, says, leaves, Writes}
 use Rattle.put.specs.declared.Written.{Written}
-use Rattle.items.specs.Items.{lvConcat, itemsOf, nth, nthOf, textItem, partOf, numberOf, Handed}
+use Rattle.items.specs.Items.{lvConcat, itemsOf, nthOf, textItem, partOf, numberOf, Handed}
 use Rattle.items.proofs.OneToOne.{concat-inj, items-back, item-exact}
 use Rattle.agreement.specs.Texts.{textMade, sharedInfo, moduleText, centreText}
 use Rattle.agreement.proofs.Texts.{items-concat, qe-length}

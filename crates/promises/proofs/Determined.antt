@@ -52,6 +52,7 @@ determined = record {
   read-of = λ κs a x y s t p q. p ∙ sym q;
   read-record = λ κs a x y s t p q. p ∙ sym q;
   identity-place = λ κs a x y s t p q. p .said ∙ sym (q .said);
+  place-of = λ κs a x y s t p q. p .said ∙ sym (q .said);
   record-place = λ κs a x y s t p q. p .said ∙ sym (q .said);
   identity-field-part = λ κs a x y s t p q. p .its-part ∙ sym (q .its-part);
   identity-field-no = λ κs a x y s t p q. p .its-no ∙ sym (q .its-no);

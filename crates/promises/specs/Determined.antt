@@ -44,6 +44,7 @@ use Rattle.reading.proofs.whole_no.Reads as whole-no
 use Rattle.reading.proofs.read_of.Reads as read-of
 use Rattle.reading.proofs.read_record.Reads as read-record
 use Rattle.fields.proofs.identity_place.Reads as identity-place
+use Rattle.fields.proofs.place_of.Reads as place-of
 use Rattle.fields.proofs.record_place.Reads as record-place
 use Rattle.fields.proofs.identity_field.Reads as identity-field
 use Rattle.fields.proofs.field_of.Reads as field-of
@@ -125,6 +126,7 @@ pub record Determined : Type 0 where
   pub read-of : OneAnswer read-of.Post
   pub read-record : OneAnswer read-record.Post
   pub identity-place : OneAnswer identity-place.Post
+  pub place-of : OneAnswer place-of.Post
   pub record-place : OneAnswer record-place.Post
   pub identity-field-part : OnePart identity-field.Post
   pub identity-field-no : OneLeft identity-field.Post (λ κs s. now (s .1 .1 .0))

@@ -12,7 +12,7 @@ use Rattle.format.specs.Build.{joined}
 use Rattle.format.specs.Files as format
 use Rattle.format.specs.Files.{lineFeed, read, lineAt, walk, linesFrom, acceptedLines}
 use Rattle.format.proofs.Parts.{WithoutAll}
-use Rattle.files.specs.Walk.{lineSaid}
+use Rattle.files.specs.Walk.{lineSaid, startOf, lengthOf, nextOf}
 use Rattle.files.specs.Steps.{Begins, Stepped, Steps}
 use Rattle.files.specs.declared.Line.{Line}
 use Rattle.files.specs.declared.Line.the-variants.{Finished}
@@ -31,6 +31,10 @@ pub record Files : Type 0 where
   -- the file call's answer at a place is that of the walk's line there; the next place lies beyond the place, and not past the end
   pub plain-call : Holds line-at.Post (λ κs a r s. r ≡ lineSaid (lineAt (now (a .0)) (a .1 .0)))
   pub beyond : (file : Bytes) (place : ℕ) (l : format.Line) → lineAt file place ≡ read l → (place < l .next) × (l .next ≤ length file)
+  -- every answer starts at the place asked; that of a finished file has length 0, and the place asked is its next place too
+  pub starts : (file : Bytes) (place : ℕ) → startOf (lineSaid (lineAt file place)) ≡ place
+  pub finished : (file : Bytes) (place : ℕ) → length file ≤ place
+      → (lengthOf (lineSaid (lineAt file place)) ≡ 0) × (nextOf (lineSaid (lineAt file place)) ≡ place)
   -- both totals equal the counts of lines and of accepted lines
   pub totals : Holds count.Post (λ κs a r s. (r .lines ≡ length (walk (now (a .0)))) × (r .accepted ≡ acceptedLines (walk (now (a .0)))))
   -- the steps of a new reader give the answers of the walk's lines, and then that the file is finished

@@ -1,9 +1,8 @@
 -- `text::alphabet::is_ident_character` meets its contract: the alphanumeric characters, then the four others in their order.
 -- Assumes nothing.
 use mathlib.Core.Path.{_≡_, sym, _∙_}
-use lib.Dec.{eqb}
 use borrow.Author.Tests.{eq-eqb, ne-eqb}
-use Rattle.text.specs.Text.{identCharacter, alphanumeric, oneOf, ascii}
+use Rattle.text.specs.Text.{identCharacter, oneOf, ascii}
 use Rattle.text.proofs.Tests.{or-stop, or-on, or-last}
 use borrow.Author.Needs.{needs}
 use Rattle.text.proofs.alphabet.is_ident_character.Statement.{statement}

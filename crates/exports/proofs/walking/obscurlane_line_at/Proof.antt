@@ -1,10 +1,10 @@
--- `exports::obscurlane_line_at` meets its contract.
+-- `exports::walking::obscurlane_line_at` meets its contract.
 -- Assumes nothing.
 use mathlib.Core.Path.{ap, _∙_}
 use Rattle.exports.specs.Exports.{found}
 use borrow.Author.Needs.{needs}
-use Rattle.exports.proofs.obscurlane_line_at.Statement.{statement}
-use Rattle.exports.proofs.obscurlane_line_at.Tie as tie
+use Rattle.exports.proofs.walking.obscurlane_line_at.Statement.{statement}
+use Rattle.exports.proofs.walking.obscurlane_line_at.Tie as tie
 
 line-at-requires : tie.Need-line-at-requires
 line-at-requires c κs = search needs

@@ -1,10 +1,10 @@
--- `exports::find` meets its contract.
+-- `exports::walking::find` meets its contract.
 -- Assumes nothing.
 use mathlib.Core.Path.{sym, ap}
 use Rattle.exports.specs.Exports.{found}
 use borrow.Author.Needs.{needs}
-use Rattle.exports.proofs.find.Statement.{statement}
-use Rattle.exports.proofs.find.Tie as tie
+use Rattle.exports.proofs.walking.find.Statement.{statement}
+use Rattle.exports.proofs.walking.find.Tie as tie
 
 enum-known-line : tie.Need-enum-known-line
 enum-known-line c = search needs
