@@ -1,35 +1,28 @@
 /*
  * Calls every function of the header, accepted and refused, and compares everything that it writes. The exit status is 1
  * if anything is not as expected; the last line says how many comparisons were made.
+ *
+ * Here stand the functions for whole records, texts and files; those that they are made of stand in parts.c.
  */
-#include "obscurlane.h"
+#include "expect.h"
 #include "worked.h"
 
 #include <stdio.h>
 #include <stdlib.h>
 #include <string.h>
 
-/* A text as a pointer and its length, without its final zero. */
-#define BYTES(text) (const uint8_t *)(text), (sizeof(text) - 1)
-
-#define EXPECT(holds) expect((holds), #holds, __LINE__)
-
-/* What stands in a lent output, or in a number, before a call. */
-#define UNTOUCHED 0xA5
-
 static unsigned long expectations = 0;
 
-static void expect(bool holds, const char *what, int line)
+void expect(bool holds, const char *what, const char *file, int line)
 {
     expectations++;
     if (!holds) {
-        fprintf(stderr, "every.c:%d: not as expected: %s\n", line, what);
+        fprintf(stderr, "%s:%d: not as expected: %s\n", file, line, what);
         exit(EXIT_FAILURE);
     }
 }
 
-/* Every byte from `from` on is as it was lent. */
-static bool untouched(const uint8_t *out, size_t from, size_t to)
+bool untouched(const uint8_t *out, size_t from, size_t to)
 {
     for (size_t i = from; i < to; i++) {
         if (out[i] != UNTOUCHED) {
@@ -291,6 +284,7 @@ int main(void)
     files();
     newer();
     listing();
+    call_parts();
     printf("every function: %lu as expected\n", expectations);
     return EXIT_SUCCESS;
 }

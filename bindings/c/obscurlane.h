@@ -18,7 +18,19 @@
  * were. Fields, items and lines are counted from 1, starts and places from 0.
  *
  * No function allocates, keeps anything between calls, or keeps a pointer: any thread may call any of them at any time. Of
- * the C library they need memcpy alone.
+ * the C library they need memcpy. obscurlane_print_list needs memset and write too: it prints to standard output, and no
+ * other function does anything outside its outputs.
+ *
+ * Every public call of the library has its function here, and the function has the call's name. A part is handed back as
+ * its start and its length, a record by its number; where two calls have the same form in that way, one function serves
+ * both:
+ *
+ *   identity_place, identity_field  obscurlane_identity_field
+ *   record_place, record_field      obscurlane_record_field
+ *   place_of, field_of              obscurlane_field_of
+ *   item_place, text_item           obscurlane_text_item
+ *   newer_of, newer                 obscurlane_newer
+ *   line_at, step_from              obscurlane_line_at
  */
 #ifndef OBSCURLANE_H
 #define OBSCURLANE_H
@@ -78,6 +90,22 @@ enum {
     OBSCURLANE_KIND_NONE = 7   /* no kind: something was refused */
 };
 
+/* ---- the types of fields, as codes of the table of kinds */
+
+enum {
+    OBSCURLANE_TYPE_IDENT = 0,
+    OBSCURLANE_TYPE_TIMESTAMP = 1,
+    OBSCURLANE_TYPE_PRINT = 2,
+    OBSCURLANE_TYPE_POINT = 3,
+    OBSCURLANE_TYPE_MAC = 4,
+    OBSCURLANE_TYPE_SIG_OR_EMPTY = 5,      /* Signature: a SIG, or nothing */
+    OBSCURLANE_TYPE_ID_SMMAN = 6,          /* an identity of kind SMMAN, and so on */
+    OBSCURLANE_TYPE_ID_SMID = 7,
+    OBSCURLANE_TYPE_ID_KMCID = 8,
+    OBSCURLANE_TYPE_ID_SMID_OR_KMCID = 9,  /* an identity of either kind */
+    OBSCURLANE_TYPE_ID_SMMAN_OR_EMPTY = 10 /* Issuer: an identity of kind SMMAN, or nothing */
+};
+
 /* ---- which of two public keys is the newer; 0 with a refusal */
 
 enum { OBSCURLANE_FIRST = 1, OBSCURLANE_SECOND = 2 };
@@ -92,13 +120,25 @@ enum {
     OBSCURLANE_LONGEST_MODULE_TEXT = 411,
     OBSCURLANE_LONGEST_CENTRE_TEXT = 344,
     OBSCURLANE_LONGEST_LINE_TEXT = 67, /* the longest line of a list, and its end, line feed included */
-    OBSCURLANE_LONGEST_END_TEXT = 46
+    OBSCURLANE_LONGEST_END_TEXT = 46,
+    OBSCURLANE_LONGEST_LISTED = 65536 /* the longest file that is listed */
 };
 
-/* ---- the check and the text types */
+/* ---- the check */
 
 /* The CRC16-MODBUS of the bytes; FFFF hex for none. A record has it as four HEX characters, the higher byte first. */
 uint16_t obscurlane_crc_of(const uint8_t *bytes, size_t bytes_len);
+
+/* The same byte by byte. The state before the first byte. */
+uint16_t obscurlane_crc_begin(void);
+
+/* The state with one byte more. */
+uint16_t obscurlane_crc_add(uint16_t state, uint8_t byte);
+
+/* The check of all bytes given. */
+uint16_t obscurlane_crc_end(uint16_t state);
+
+/* ---- the text types, and hexadecimal characters and values */
 
 /* IDENT: 1 to 32 characters, the first alphanumeric, the others alphanumeric or one of _ - . , */
 bool obscurlane_is_ident(const uint8_t *s, size_t s_len);
@@ -121,6 +161,87 @@ bool obscurlane_is_print(const uint8_t *s, size_t s_len);
 /* HEX(n): exactly n characters 0-9 and A-F. Small letters are refused. */
 bool obscurlane_is_hex(size_t n, const uint8_t *s, size_t s_len);
 
+/* The two hold the same bytes. */
+bool obscurlane_are_same(const uint8_t *a, size_t a_len, const uint8_t *b, size_t b_len);
+
+/* The character 0-9 or A-F of a value below 16, and 0 for any other. */
+uint8_t obscurlane_hex_digit(uint8_t value);
+
+/* The value of a character 0-9 or A-F, and 16 for any other byte. */
+uint8_t obscurlane_hex_value(uint8_t c);
+
+/* Writes the four characters of a check, the higher byte first. */
+void obscurlane_check_text(uint16_t check, uint8_t text[4]);
+
+/* ---- the table of kinds, by row and by code; every look-up takes any number */
+
+/* The mark of a row's kind, ':' or '|', and 0 for a row that is not there. */
+uint8_t obscurlane_mark_of(size_t row);
+
+/* How many fields a row's kind has, and 0 for a row that is not there. */
+size_t obscurlane_count_of(size_t row);
+
+/* The code of the type of field j of a row's kind, here counted from 0. OBSCURLANE_TYPE_IDENT for a row or a field that is
+ * not there. */
+uint8_t obscurlane_type_of(size_t row, size_t j);
+
+/* The row is ECDSA's or ECDH's, whose Issuer and Signature go together. */
+bool obscurlane_is_pubkey(size_t row);
+
+/* The row that has this name and this mark, looked for from row `from` to before row `to`; OBSCURLANE_KIND_NONE where there
+ * is none. */
+size_t obscurlane_row_in(const uint8_t *title, size_t title_len, uint8_t mark, size_t from, size_t to);
+
+/* The same among the identity kinds SMMAN, SMID and KMCID. */
+size_t obscurlane_identity_kind(const uint8_t *title, size_t title_len, uint8_t mark);
+
+/* The same among the record kinds, ECDSA to RESP, from row `from` to before row `to`. */
+size_t obscurlane_record_kind(const uint8_t *title, size_t title_len, uint8_t mark, size_t from, size_t to);
+
+/* The row that has this name, whatever its mark; OBSCURLANE_KIND_NONE where there is none. */
+size_t obscurlane_kind_named(const uint8_t *title, size_t title_len);
+
+/* A field of this type is an identity, or nothing in its place. False for a number that is no code. */
+bool obscurlane_is_identity(uint8_t code);
+
+/* A field of this type may be empty. False for a number that is no code. */
+bool obscurlane_may_be_empty(uint8_t code);
+
+/* A field of this type may be an identity of the row's kind. False for a number that is no code or no row. */
+bool obscurlane_does_permit(uint8_t code, size_t row);
+
+/* ---- what every record has whatever its kind: marks, parts and the check; any bytes are taken */
+
+/* What stands before the first mark, ':' or '|', and all if there is none: s[start] to before s[start + len]. start is
+ * given 0. */
+void obscurlane_title_of(const uint8_t *s, size_t s_len, size_t *start, size_t *len);
+
+/* The first mark, ':' or '|', and 0 if there is none. */
+uint8_t obscurlane_mark_after(const uint8_t *s, size_t s_len);
+
+/* The first place of this mark at or after `from`. Where there is none: the end, and `from` if that lies past the end. */
+size_t obscurlane_next_mark(uint8_t mark, const uint8_t *s, size_t s_len, size_t from);
+
+/* The number of fields of a body: the parts that the mark ends, without the first, which is the kind's name. What no mark
+ * ends is a part too. */
+size_t obscurlane_count_fields(uint8_t mark, const uint8_t *body, size_t body_len);
+
+/* Where part n begins, the kind's name being part 0: behind the parts before it, each with its mark. Where there are not so
+ * many, behind the last, which may be one past the end. */
+size_t obscurlane_part_start(uint8_t mark, const uint8_t *s, size_t s_len, size_t n);
+
+/* Part n, the kind's name being part 0, so that a field's number is its part's: s[start] to before s[start + len]. start and
+ * len are given 0 and 0 if there is none. */
+void obscurlane_part(uint8_t mark, const uint8_t *s, size_t s_len, size_t n, size_t *start, size_t *len);
+
+/* The body, which is all but the last four bytes: s[start] to before s[start + len]. start is given 0, len too if there are
+ * fewer. */
+void obscurlane_body_of(const uint8_t *s, size_t s_len, size_t *start, size_t *len);
+
+/* The check at the end. Answers OBSCURLANE_NO_CHECK where the last four bytes are not HEX(4) or the byte before them is not
+ * the mark, OBSCURLANE_WRONG_CHECK where the check differs, else 0. */
+uint8_t obscurlane_check_no(uint8_t mark, const uint8_t *s, size_t s_len);
+
 /* ---- reading */
 
 /*
@@ -133,6 +254,22 @@ uint8_t obscurlane_read_identity(const uint8_t *identity, size_t identity_len, u
 
 /* Reads a record: kinds ECDSA, ECDH, REQ and RESP. Answers 0 to 9. field and kind are as above. */
 uint8_t obscurlane_read_record(const uint8_t *record, size_t record_len, uint8_t *field, size_t *kind);
+
+/* The same, where only the kinds from row `from` to before row `to` are read, and no identities in any case. Answers
+ * OBSCURLANE_NO_KIND for a record of another kind. */
+uint8_t obscurlane_read_of(size_t from, size_t to, const uint8_t *record, size_t record_len, uint8_t *field,
+                           size_t *kind);
+
+/* One field by the code of its type; a number that is no code is taken for IDENT's. Answers 0, OBSCURLANE_WRONG_TEXT, or of
+ * an identity OBSCURLANE_NO_IDENTITY or OBSCURLANE_WRONG_KIND. */
+uint8_t obscurlane_field_no(uint8_t code, const uint8_t *field, size_t field_len);
+
+/* The fields together: OBSCURLANE_UNPAIRED for a public key's row where one of the two is empty and the other is not, else
+ * 0. */
+uint8_t obscurlane_whole_no(size_t row, const uint8_t *issuer, size_t issuer_len, const uint8_t *signature,
+                            size_t signature_len);
+
+/* ---- one field of what is read */
 
 /*
  * Where field `wanted` of an identity stands. Answers what obscurlane_read_identity answers, and OBSCURLANE_NO_ITEM for an
@@ -149,6 +286,10 @@ uint8_t obscurlane_identity_field(const uint8_t *identity, size_t identity_len, 
 uint8_t obscurlane_record_field(const uint8_t *record, size_t record_len, size_t wanted, uint8_t *field, size_t *start,
                                 size_t *len);
 
+/* The same, where only the kinds from row `from` to before row `to` are read, with the numbers of obscurlane_read_of. */
+uint8_t obscurlane_field_of(size_t from, size_t to, const uint8_t *record, size_t record_len, size_t wanted,
+                            uint8_t *field, size_t *start, size_t *len);
+
 /* ---- building */
 
 /*
@@ -163,6 +304,17 @@ uint8_t obscurlane_record_field(const uint8_t *record, size_t record_len, size_t
  */
 uint8_t obscurlane_build(const uint8_t *kind, size_t kind_len, const uint8_t *bytes, size_t bytes_len,
                          const size_t *lens, size_t lens_len, uint8_t *out, size_t out_len, uint8_t *field, size_t *len);
+
+/* Writes the piece into `out` from place `at` on and answers the place after it. Where it does not fit, `out` is as it was,
+ * every byte, and the answer is `at`. */
+size_t obscurlane_put(uint8_t *out, size_t out_len, size_t at, const uint8_t *piece, size_t piece_len);
+
+/* The same for one byte. */
+size_t obscurlane_put_byte(uint8_t *out, size_t out_len, size_t at, uint8_t byte);
+
+/* The answer of a call that writes and that refuses with this number, about this field. Answers `no`; field is given `at`,
+ * and len 0. */
+uint8_t obscurlane_refuse(uint8_t no, uint8_t at, uint8_t *field, size_t *len);
 
 /* ---- the key agreement texts of a load request */
 
@@ -185,6 +337,8 @@ uint8_t obscurlane_module_text(const uint8_t *request, size_t request_len, uint8
 uint8_t obscurlane_centre_text(const uint8_t *request, size_t request_len, uint8_t *out, size_t out_len, uint8_t *field,
                                size_t *len);
 
+/* ---- the items of a text */
+
 /*
  * Where item `wanted` of a key agreement text stands; the text may be any list of items and has no limit of length.
  * Answers 0, or OBSCURLANE_NO_ITEM where the bytes are no such text or have no such item.
@@ -194,7 +348,7 @@ uint8_t obscurlane_centre_text(const uint8_t *request, size_t request_len, uint8
  */
 uint8_t obscurlane_text_item(const uint8_t *text, size_t text_len, size_t wanted, size_t *start, size_t *len);
 
-/* ---- files of records */
+/* ---- files of records, and a reader of them */
 
 /*
  * The line that begins at a place of a file, each line ended by one line feed. True where there is a line, false where the
@@ -210,6 +364,16 @@ uint8_t obscurlane_text_item(const uint8_t *text, size_t text_len, size_t wanted
  */
 bool obscurlane_line_at(const uint8_t *file, size_t file_len, size_t place, uint8_t *no, uint8_t *field, size_t *kind,
                         size_t *start, size_t *len, size_t *next);
+
+/* A reader of a file is the file's bytes and a place. Answers the place of a new one, the start: 0. */
+size_t obscurlane_reader_new(const uint8_t *file, size_t file_len);
+
+/*
+ * The line at the reader's place. True where there is a line, and `place` goes on to the next; false where the file is
+ * finished, and `place` stays. The others are as in obscurlane_line_at.
+ */
+bool obscurlane_reader_step(const uint8_t *file, size_t file_len, size_t *place, uint8_t *no, uint8_t *field,
+                            size_t *kind, size_t *start, size_t *len);
 
 /* How many lines a file has, an unfinished last one too, and how many of them are accepted records. Refuses nothing. */
 void obscurlane_count(const uint8_t *file, size_t file_len, size_t *lines, size_t *accepted);
@@ -227,7 +391,7 @@ void obscurlane_count(const uint8_t *file, size_t file_len, size_t *lines, size_
 uint8_t obscurlane_newer(const uint8_t *first, size_t first_len, const uint8_t *second, size_t second_len, uint8_t *field,
                          uint8_t *which);
 
-/* ---- what a list of a file says of a line, and at the end */
+/* ---- the list of a file: what it says of a line and at the end, and printing it */
 
 /*
  * Writes number, start, size and no in decimal, with single spaces and a line feed, from the front of `out`. Answers 0 or
@@ -238,6 +402,11 @@ uint8_t obscurlane_line_text(size_t number, size_t start, size_t size, uint8_t n
 
 /* The same for "end", lines and accepted. */
 uint8_t obscurlane_end_text(size_t lines, size_t accepted, uint8_t *out, size_t out_len, uint8_t *field, size_t *len);
+
+/* Prints a line of the list for each line of the file, and the end; or "too big" alone for a file of more than
+ * OBSCURLANE_LONGEST_LISTED bytes. Answers how many lines it printed. It writes to standard output itself: what a program
+ * has printed by stdio before comes first only after fflush. */
+size_t obscurlane_print_list(const uint8_t *file, size_t file_len);
 
 #ifdef __cplusplus
 }

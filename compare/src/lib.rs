@@ -21,6 +21,7 @@
 //! | [`agreement`] | key agreement texts |
 //! | [`mod@file`] | files of records and the lister |
 //! | [`newer`] | the chooser |
+//! | [`random`] | the numbers that inputs are drawn by |
 //! | [`worked`] | the worked values of the documents |
 
 pub mod agreement;
@@ -30,6 +31,7 @@ pub mod file;
 pub mod frame;
 pub mod kind;
 pub mod newer;
+pub mod random;
 pub mod record;
 pub mod refusal;
 pub mod rows;

@@ -6,7 +6,6 @@
 mod calls;
 mod cases;
 mod plan;
-mod random;
 mod sample;
 
 use calls::{Op, CALLS};

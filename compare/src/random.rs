@@ -1,4 +1,5 @@
-//! The generator's own numbers: SplitMix64 with a fixed seed, the same on every machine.
+//! The numbers that cases and the inputs of tests are drawn by: SplitMix64 with a fixed seed, the
+//! same on every machine.
 
 /// A source of numbers that look random and depend on the seed alone.
 pub struct Random(u64);
@@ -9,7 +10,7 @@ impl Random {
     }
 
     /// The next number.
-    pub fn next(&mut self) -> u64 {
+    pub fn number(&mut self) -> u64 {
         self.0 = self.0.wrapping_add(0x9E37_79B9_7F4A_7C15);
         let mixed = (self.0 ^ (self.0 >> 30)).wrapping_mul(0xBF58_476D_1CE4_E5B9);
         let mixed = (mixed ^ (mixed >> 27)).wrapping_mul(0x94D0_49BB_1331_11EB);
@@ -18,7 +19,7 @@ impl Random {
 
     /// A number below `limit`, which is not 0.
     pub fn below(&mut self, limit: usize) -> usize {
-        (self.next() % limit as u64) as usize
+        (self.number() % limit as u64) as usize
     }
 
     /// A number from `least` to `most`, both included.
@@ -32,7 +33,7 @@ impl Random {
     }
 
     pub fn byte(&mut self) -> u8 {
-        self.next() as u8
+        self.number() as u8
     }
 
     /// So many bytes of any value.
@@ -58,7 +59,7 @@ mod tests {
     #[test]
     fn the_published_first_numbers_come_out() {
         let mut random = Random::with_seed(1_234_567);
-        assert_eq!(random.next(), 6_457_827_717_110_365_317);
-        assert_eq!(random.next(), 3_203_168_211_198_807_973);
+        assert_eq!(random.number(), 6_457_827_717_110_365_317);
+        assert_eq!(random.number(), 3_203_168_211_198_807_973);
     }
 }

@@ -1,8 +1,8 @@
 //! What cases are made of: permitted fields and records, and damage to them.
 
-use crate::random::Random;
 use compare::crc::crc16;
 use compare::kind::{FieldType, Kind};
+use compare::random::Random;
 use compare::text::check_text;
 
 const LETTERS_AND_DIGITS: &[u8] = b"ABCDEFGHIJKLMNOPQRSTUVWXYZabcdefghijklmnopqrstuvwxyz0123456789";

@@ -1,7 +1,10 @@
-//! Files of records, and the newer of two public keys.
+//! Files of records, the list of one, and the newer of two public keys.
 
 use crate::{sys, Kind, Refusal};
 use std::iter::FusedIterator;
+
+/// The longest file that is listed.
+pub const LONGEST_LISTED: usize = 65_536;
 
 /// A line of a file.
 #[derive(Clone, Copy, Debug, PartialEq, Eq)]
@@ -27,7 +30,12 @@ pub struct Line<'a> {
 #[must_use]
 #[inline]
 pub fn line_at(file: &[u8], place: usize) -> Option<Line<'_>> {
-    let found = sys::line_at(file, place);
+    line_of(file, &sys::line_at(file, place))
+}
+
+/// The line that was found in the file, if one was.
+#[inline]
+fn line_of<'a>(file: &'a [u8], found: &sys::Found) -> Option<Line<'a>> {
     if !found.line {
         return None;
     }
@@ -35,6 +43,62 @@ pub fn line_at(file: &[u8], place: usize) -> Option<Line<'_>> {
         .map(|()| Kind::from_row(found.kind).expect("an accepted line has a kind"));
     let bytes = &file[found.start..found.start + found.len];
     Some(Line { start: found.start, bytes, next: found.next, answer })
+}
+
+/// A reader of a file: the lent bytes, and the place where the next line begins.
+///
+/// ```
+/// let mut reader = obscurlane::Reader::new(b"abc\ndef");
+/// assert_eq!(reader.step().unwrap().bytes, b"abc");
+/// assert_eq!(reader.step().unwrap().bytes, b"def");
+/// assert!(reader.step().is_none());
+/// ```
+#[derive(Clone, Debug)]
+pub struct Reader<'a> {
+    file: &'a [u8],
+    place: usize,
+}
+
+impl<'a> Reader<'a> {
+    /// A reader of these bytes, at their start.
+    ///
+    /// ```
+    /// assert_eq!(obscurlane::Reader::new(b"abc\n").place(), 0);
+    /// ```
+    #[must_use]
+    #[inline]
+    pub fn new(file: &'a [u8]) -> Reader<'a> {
+        Reader { file, place: sys::reader_new(file) }
+    }
+
+    /// The line at the reader's place, and the reader goes on to the next; none where the file is finished, and the reader
+    /// stays.
+    ///
+    /// ```
+    /// let mut reader = obscurlane::Reader::new(b"abc\n");
+    /// let line = reader.step().unwrap();
+    /// assert_eq!((line.bytes, line.next), (&b"abc"[..], reader.place()));
+    /// assert!(reader.step().is_none());
+    /// ```
+    #[inline]
+    pub fn step(&mut self) -> Option<Line<'a>> {
+        let found = sys::reader_step(self.file, self.place);
+        self.place = found.next;
+        line_of(self.file, &found)
+    }
+
+    /// Where the reader stands.
+    ///
+    /// ```
+    /// let mut reader = obscurlane::Reader::new(b"abc\ndef");
+    /// reader.step();
+    /// assert_eq!(reader.place(), 4);
+    /// ```
+    #[must_use]
+    #[inline]
+    pub fn place(&self) -> usize {
+        self.place
+    }
 }
 
 /// All lines of a file, each once, in order.
@@ -45,14 +109,13 @@ pub fn line_at(file: &[u8], place: usize) -> Option<Line<'_>> {
 /// ```
 #[must_use]
 pub fn lines(file: &[u8]) -> Lines<'_> {
-    Lines { file, place: 0 }
+    Lines { reader: Reader::new(file) }
 }
 
-/// An iterator over the lines of a file: the lent bytes, and the place of the next line.
+/// An iterator over the lines of a file: a reader that steps.
 #[derive(Clone, Debug)]
 pub struct Lines<'a> {
-    file: &'a [u8],
-    place: usize,
+    reader: Reader<'a>,
 }
 
 impl<'a> Iterator for Lines<'a> {
@@ -60,9 +123,7 @@ impl<'a> Iterator for Lines<'a> {
 
     #[inline]
     fn next(&mut self) -> Option<Line<'a>> {
-        let line = line_at(self.file, self.place)?;
-        self.place = line.next;
-        Some(line)
+        self.reader.step()
     }
 }
 
@@ -88,6 +149,20 @@ pub struct Totals {
 pub fn count(file: &[u8]) -> Totals {
     let (lines, accepted) = sys::count(file);
     Totals { lines, accepted }
+}
+
+/// Prints the list of a file: what [`line_text`](crate::line_text) writes of each line, and [`end_text`](crate::end_text) at
+/// the end; or `too big` alone for a file of more than [`LONGEST_LISTED`] bytes. Gives back how many lines it printed.
+///
+/// The library writes to standard output itself, past [`std::io::Stdout`]: what was printed before is flushed first by the
+/// caller.
+///
+/// ```
+/// assert_eq!(obscurlane::print_list(b"\nPK.ECDH.2|x\nabc"), 4);
+/// ```
+#[inline]
+pub fn print_list(file: &[u8]) -> usize {
+    sys::print_list(file)
 }
 
 /// Of two public keys the one whose Subject has the later GNT, the first when equal.

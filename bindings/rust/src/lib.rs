@@ -19,25 +19,38 @@
 //! assert_eq!(read_identity(&damaged).unwrap_err().reason, Reason::WrongCheck);
 //! # Ok::<(), obscurlane::Refusal>(())
 //! ```
+//!
+//! The calls that these are made of are there too: the check byte by byte ([`Crc`]), the table of kinds by rows and codes
+//! ([`table`]), marks, parts and the check of a record ([`frame`]), and pieces of an output ([`put`]).
 
 #![deny(missing_docs)]
 #![deny(unsafe_code)]
 
 mod files;
+pub mod frame;
 mod kind;
 mod reading;
 mod refusal;
 mod sys;
+pub mod table;
 mod text;
 mod writing;
 
-pub use files::{count, line_at, lines, newer, Line, Lines, Totals};
+pub use files::{
+    count, line_at, lines, newer, print_list, Line, Lines, Reader, Totals, LONGEST_LISTED,
+};
 pub use kind::Kind;
-pub use reading::{identity_field, read_identity, read_record, record_field, LONGEST_READ};
+pub use reading::{
+    field_no, field_of, identity_field, read_identity, read_of, read_record, record_field,
+    whole_no, LONGEST_READ,
+};
 pub use refusal::{Reason, Refusal};
-pub use text::{crc_of, is_hex, is_ident, is_mac, is_point, is_print, is_sig, is_timestamp};
+pub use text::{
+    are_same, check_text, crc_of, hex_digit, hex_value, is_hex, is_ident, is_mac, is_point,
+    is_print, is_sig, is_timestamp, Crc,
+};
 pub use writing::{
-    build, centre_text, end_text, line_text, module_text, shared_info, text_item,
-    LONGEST_CENTRE_TEXT, LONGEST_END_TEXT, LONGEST_IDENTITY, LONGEST_LINE_TEXT,
+    build, centre_text, end_text, line_text, module_text, put, put_byte, refuse, shared_info,
+    text_item, LONGEST_CENTRE_TEXT, LONGEST_END_TEXT, LONGEST_IDENTITY, LONGEST_LINE_TEXT,
     LONGEST_MODULE_TEXT, LONGEST_RECORD, LONGEST_SHARED_INFO,
 };

@@ -1,7 +1,8 @@
-//! Building records, and the texts of a key agreement.
+//! Building records, pieces of an output, and the texts of a key agreement.
 
 use crate::reading::part;
-use crate::{sys, Refusal};
+use crate::{sys, Reason, Refusal};
+use std::num::NonZeroU8;
 
 /// The longest record that is built or accepted.
 pub const LONGEST_RECORD: usize = 646;
@@ -54,8 +55,65 @@ pub fn build<'o>(
     made(&sys::build(kind, bytes, lens, out), out)
 }
 
+/// Writes the piece into `out` from place `at` on and gives back the place after it. Where it does not fit, nothing is
+/// written and `at` is given back.
+///
+/// ```
+/// let mut out = *b"......";
+/// let at = obscurlane::put(&mut out, 1, b"xyz");
+/// assert_eq!((at, &out), (4, b".xyz.."));
+/// assert_eq!((obscurlane::put(&mut out, at, b"xyz"), &out), (4, b".xyz.."));
+/// ```
+#[inline]
+pub fn put(out: &mut [u8], at: usize, piece: &[u8]) -> usize {
+    sys::put(out, at, piece)
+}
+
+/// The same for one byte.
+///
+/// ```
+/// let mut out = *b"...";
+/// assert_eq!((obscurlane::put_byte(&mut out, 2, b'x'), &out), (3, b"..x"));
+/// assert_eq!((obscurlane::put_byte(&mut out, 3, b'x'), &out), (3, b"..x"));
+/// ```
+#[inline]
+pub fn put_byte(out: &mut [u8], at: usize, byte: u8) -> usize {
+    sys::put_byte(out, at, byte)
+}
+
+/// The answer of a call that refuses for this reason, about this field where it is about one.
+///
+/// ```
+/// use obscurlane::{build, refuse, Reason};
+/// use std::num::NonZeroU8;
+///
+/// let refusal = build(b"SMID.1", b"_A", &[1, 1, 0, 0], &mut []).unwrap_err();
+/// assert_eq!(refuse(Reason::WrongText, NonZeroU8::new(1)), refusal);
+/// ```
+#[must_use]
+#[inline]
+pub fn refuse(reason: Reason, field: Option<NonZeroU8>) -> Refusal {
+    let refused = sys::refuse(reason.number(), field.map_or(0, NonZeroU8::get));
+    Refusal::check(refused.no, refused.field).expect_err("a reason is no acceptance")
+}
+
 /// Writes SharedInfo of a load request from the front of `out`, and gives back the bytes written: `STS.KAA.1`, ID_SM,
 /// ID_KMC, TVP. A refusal leaves `out` as it was.
+///
+/// ```
+/// use obscurlane::{shared_info, text_item, LONGEST_SHARED_INFO};
+///
+/// let request = b"VKLOAD.REQ.1|SMID.1:Prism:06000001:20180120T090000Z:320C265FDC769D3E:8EFF|\
+///     KMCID.1:sts-KeyAgreement-1.2:TEST1:20180110T120000Z:4712CFF444570C8A:4C31|20180125T150000Z|\
+///     Prism-VSM-1|STS6-001|0473E2C294EE44A17A5668ABE67C1F93CBDBCE38DEF4848584C279047A8DDCFFBAE8857\
+///     C2CCC101A50E4ADB1ECDE9E14735B8CBFA88D18BD25F247DF0014298F48BB11CA8415320E7AF7172B0B20D5C00D5\
+///     7D04E33D07343EDE185299CF2CA1E10|BE6CB4AC631E12EEB5D3F85496042A3274FEAB0477935778|F6B3";
+/// let mut out = [0; LONGEST_SHARED_INFO];
+/// let text = shared_info(request, &mut out)?;
+/// assert_eq!((text.len(), text_item(text, 1)?), (163, &b"STS.KAA.1"[..]));
+/// assert_eq!(shared_info(request, &mut [0; 162]).unwrap_err().reason.number(), 10);
+/// # Ok::<(), obscurlane::Refusal>(())
+/// ```
 ///
 /// # Errors
 ///
@@ -67,6 +125,20 @@ pub fn shared_info<'o>(request: &[u8], out: &'o mut [u8]) -> Result<&'o [u8], Re
 
 /// The same for the module text: `U_2`, ID_SM, ID_KMC, QE as 97 decoded bytes, TVP, HWID, FWID.
 ///
+/// ```
+/// use obscurlane::{module_text, text_item, LONGEST_MODULE_TEXT};
+///
+/// # let request = b"VKLOAD.REQ.1|SMID.1:Prism:06000001:20180120T090000Z:320C265FDC769D3E:8EFF|\
+/// #     KMCID.1:sts-KeyAgreement-1.2:TEST1:20180110T120000Z:4712CFF444570C8A:4C31|20180125T150000Z|\
+/// #     Prism-VSM-1|STS6-001|0473E2C294EE44A17A5668ABE67C1F93CBDBCE38DEF4848584C279047A8DDCFFBAE8857\
+/// #     C2CCC101A50E4ADB1ECDE9E14735B8CBFA88D18BD25F247DF0014298F48BB11CA8415320E7AF7172B0B20D5C00D5\
+/// #     7D04E33D07343EDE185299CF2CA1E10|BE6CB4AC631E12EEB5D3F85496042A3274FEAB0477935778|F6B3";
+/// let mut out = [0; LONGEST_MODULE_TEXT];
+/// let text = module_text(request, &mut out)?;
+/// assert_eq!((text.len(), text_item(text, 1)?), (276, &b"U_2"[..]));
+/// # Ok::<(), obscurlane::Refusal>(())
+/// ```
+///
 /// # Errors
 ///
 /// As [`shared_info`].
@@ -76,6 +148,20 @@ pub fn module_text<'o>(request: &[u8], out: &'o mut [u8]) -> Result<&'o [u8], Re
 }
 
 /// The same for the centre text: `V2`, ID_KMC, ID_SM, TVP, QE as 97 decoded bytes.
+///
+/// ```
+/// use obscurlane::{centre_text, text_item, LONGEST_CENTRE_TEXT};
+///
+/// # let request = b"VKLOAD.REQ.1|SMID.1:Prism:06000001:20180120T090000Z:320C265FDC769D3E:8EFF|\
+/// #     KMCID.1:sts-KeyAgreement-1.2:TEST1:20180110T120000Z:4712CFF444570C8A:4C31|20180125T150000Z|\
+/// #     Prism-VSM-1|STS6-001|0473E2C294EE44A17A5668ABE67C1F93CBDBCE38DEF4848584C279047A8DDCFFBAE8857\
+/// #     C2CCC101A50E4ADB1ECDE9E14735B8CBFA88D18BD25F247DF0014298F48BB11CA8415320E7AF7172B0B20D5C00D5\
+/// #     7D04E33D07343EDE185299CF2CA1E10|BE6CB4AC631E12EEB5D3F85496042A3274FEAB0477935778|F6B3";
+/// let mut out = [0; LONGEST_CENTRE_TEXT];
+/// let text = centre_text(request, &mut out)?;
+/// assert_eq!((text.len(), text_item(text, 1)?), (254, &b"V2"[..]));
+/// # Ok::<(), obscurlane::Refusal>(())
+/// ```
 ///
 /// # Errors
 ///
@@ -128,6 +214,12 @@ pub fn line_text(
 }
 
 /// The same for the end of a list: `end`, the number of lines, and of accepted ones.
+///
+/// ```
+/// let mut out = [0; obscurlane::LONGEST_END_TEXT];
+/// assert_eq!(obscurlane::end_text(3, 0, &mut out), Ok(&b"end 3 0\n"[..]));
+/// assert_eq!(obscurlane::end_text(3, 0, &mut out[..7]).unwrap_err().reason.number(), 10);
+/// ```
 ///
 /// # Errors
 ///

@@ -2,33 +2,16 @@
 //!
 //! `OBSCURLANE_ROUNDS` is the number of inputs for each call (3,000 where it is not set).
 
+mod held;
 mod sample;
 
+use compare::random::{self, Random};
 use compare::refusal::Refusal as Expected;
 use compare::{agreement, file, record, text};
+use held::{
+    expected, expected_at, expected_line, line_numbers, numbers, place, rounds, Numbers, Seen,
+};
 use obscurlane::{Kind, Refusal};
-use sample::Random;
-
-fn rounds() -> usize {
-    let named = std::env::var("OBSCURLANE_ROUNDS").ok();
-    named.map_or(3000, |rounds| rounds.parse().expect("OBSCURLANE_ROUNDS is a number"))
-}
-
-/// The number and the field's number.
-fn numbers<T>(answer: Result<T, Refusal>) -> Result<T, (u8, u8)> {
-    answer.map_err(|refusal| {
-        (refusal.reason.number(), refusal.field.map_or(0, std::num::NonZeroU8::get))
-    })
-}
-
-fn expected<T>(answer: Result<T, Expected>) -> Result<T, (u8, u8)> {
-    answer.map_err(|refusal| (refusal.number(), refusal.field()))
-}
-
-/// The same part of the same bytes, not only equal ones.
-fn place(part: &[u8]) -> (*const u8, usize) {
-    (part.as_ptr(), part.len())
-}
 
 fn row(record: record::Record<'_>) -> usize {
     record.kind as usize
@@ -76,20 +59,17 @@ fn text_types() {
 #[test]
 fn reading() {
     let mut random = Random::with_seed(2);
-    let mut seen = [0; 14];
+    let mut seen = Seen::default();
     for _ in 0..rounds() {
         let bytes = sample::anything(&mut random);
         let identity = numbers(obscurlane::read_identity(&bytes).map(Kind::row));
         assert_eq!(identity, expected(record::read_identity(&bytes).map(row)), "{bytes:?}");
         let read = numbers(obscurlane::read_record(&bytes).map(Kind::row));
         assert_eq!(read, expected(record::read_record(&bytes).map(row)), "{bytes:?}");
-        for answer in [identity, read] {
-            seen[usize::from(answer.err().map_or(0, |(number, _)| number))] += 1;
-        }
+        seen.add(&identity);
+        seen.add(&read);
     }
-    if rounds() >= 3000 {
-        assert!(seen[..10].iter().all(|&times| times > 9), "0 to 9 were seen so often: {seen:?}");
-    }
+    seen.expect(0..=9, 9);
 }
 
 #[test]
@@ -152,7 +132,7 @@ impl Order {
     }
 
     /// Builds with so much room on both sides, and compares the answers and every byte of the outputs.
-    fn build(&self, room: usize) -> Result<usize, (u8, u8)> {
+    fn build(&self, room: usize) -> Result<usize, Numbers> {
         let lent: Vec<u8> = (0..room).map(|index| index as u8 ^ 0xA5).collect();
         let (mut ours, mut theirs) = (lent.clone(), lent.clone());
         let lens: Vec<u64> = self.lens.iter().map(|&len| len as u64).collect();
@@ -172,17 +152,12 @@ impl Order {
 #[test]
 fn building() {
     let mut random = Random::with_seed(4);
-    let mut seen = [0; 14];
+    let mut seen = Seen::default();
     for _ in 0..rounds() {
         let room = random.one_of(&[0, 60, 300, 700]);
-        let answer = Order::any(&mut random).build(room);
-        seen[usize::from(answer.err().map_or(0, |(number, _)| number))] += 1;
+        seen.add(&Order::any(&mut random).build(room));
     }
-    if rounds() >= 3000 {
-        for number in [0, 2, 5, 6, 7, 8, 9, 10] {
-            assert!(seen[number] > 9, "{number} was seen so often: {seen:?}");
-        }
-    }
+    seen.expect([0, 2, 5, 6, 7, 8, 9, 10], 9);
 }
 
 #[test]
@@ -215,7 +190,7 @@ const TEXTS: [(Ours, Theirs, usize); 3] = [
 ];
 
 /// Makes a text with so much room on both sides, and compares the answers and every byte of the outputs.
-fn same_text(ours: Ours, theirs: Theirs, request: &[u8], room: usize) -> Result<usize, (u8, u8)> {
+fn same_text(ours: Ours, theirs: Theirs, request: &[u8], room: usize) -> Result<usize, Numbers> {
     let lent: Vec<u8> = (0..room).map(|index| index as u8 ^ 0xA5).collect();
     let (mut out, mut wanted) = (lent.clone(), lent.clone());
     let answer = numbers(ours(request, &mut out).map(<[u8]>::len));
@@ -286,49 +261,13 @@ fn items() {
     }
 }
 
-/// A file of a few lines, with a line feed at its end or without.
-fn any_file(random: &mut Random) -> Vec<u8> {
-    let mut file = Vec::new();
-    for _ in 0..random.below(8) {
-        match random.below(6) {
-            0 => {}
-            1 => {
-                let length = random.between(1023, 1026);
-                file.extend(random.bytes_of(b"A|:", length));
-            }
-            2..=3 => {
-                let kind = random.one_of(&sample::RECORDS);
-                file.extend(sample::record(random, kind));
-            }
-            _ => file.extend(sample::anything(random)),
-        }
-        file.extend_from_slice(random.one_of(&[&b"\n"[..], b"\n", b"\n", b"\r\n"]));
-    }
-    if random.below(2) == 0 {
-        file.extend(sample::record(random, Kind::Response));
-    }
-    file.shrink_to_fit();
-    file
-}
-
 #[test]
 fn files() {
     let mut random = Random::with_seed(9);
     for _ in 0..rounds() {
-        let file = any_file(&mut random);
-        let ours: Vec<_> = obscurlane::lines(&file)
-            .map(|line| {
-                assert_eq!(line.bytes.as_ptr(), file[line.start..].as_ptr());
-                let answer = numbers(line.answer.map(Kind::row));
-                (answer, line.start, line.bytes.len(), line.next)
-            })
-            .collect();
-        let theirs: Vec<_> = file::lines(&file)
-            .map(|line| {
-                let answer = expected(line.answer.map(|kind| kind as usize));
-                (answer, line.start as usize, line.length as usize, line.next as usize)
-            })
-            .collect();
+        let file = sample::file(&mut random);
+        let ours: Vec<_> = obscurlane::lines(&file).map(|line| line_numbers(&file, line)).collect();
+        let theirs: Vec<_> = file::lines(&file).map(expected_line).collect();
         assert_eq!(ours, theirs, "{file:?}");
 
         let totals = obscurlane::count(&file);
@@ -336,23 +275,8 @@ fn files() {
 
         let anywhere = random.below(file.len() + 2);
         for at in [anywhere, file.len(), file.len() + 1, usize::MAX] {
-            let step = match obscurlane::line_at(&file, at) {
-                None => file::Step::Finished { place: at as u64 },
-                Some(line) => {
-                    let file::Step::Read(read) = file::line_at(&file, at as u64) else {
-                        panic!("a line at {at} of {file:?}");
-                    };
-                    let answer = numbers(line.answer.map(Kind::row));
-                    assert_eq!(answer, expected(read.answer.map(|kind| kind as usize)));
-                    file::Step::Read(file::Line {
-                        answer: read.answer,
-                        start: line.start as u64,
-                        length: line.bytes.len() as u64,
-                        next: line.next as u64,
-                    })
-                }
-            };
-            assert_eq!(step, file::line_at(&file, at as u64), "place {at} of {file:?}");
+            let line = obscurlane::line_at(&file, at).map(|line| line_numbers(&file, line));
+            assert_eq!(line, expected_at(&file, at), "place {at} of {file:?}");
         }
     }
 }
@@ -360,7 +284,7 @@ fn files() {
 #[test]
 fn newer() {
     let mut random = Random::with_seed(10);
-    let mut seen = [0; 14];
+    let mut seen = Seen::default();
     for _ in 0..rounds() {
         let kind = random.one_of(&[Kind::Ecdsa, Kind::Ecdh]);
         let fields = sample::fields(&mut random, kind, false);
@@ -388,18 +312,19 @@ fn newer() {
         let [first, second] = &keys;
         let ours = numbers(obscurlane::newer(first, second)).map(place);
         assert_eq!(ours, expected(compare::newer::newer(first, second)).map(place), "{keys:?}");
-        seen[usize::from(ours.err().map_or(0, |(number, _)| number))] += 1;
+        seen.add(&ours);
     }
-    assert!(seen[0] > rounds() / 10 && seen[13] > rounds() / 50, "{seen:?}");
+    seen.expect([0], 300);
+    seen.expect([13], 60);
 }
 
 #[test]
 fn the_list() {
     let mut random = Random::with_seed(11);
     for _ in 0..rounds() {
-        let mut number = || random.next() as usize >> random.below(64);
+        let mut number = || random.number() as usize >> random.below(64);
         let (a, b, c) = (number(), number(), number());
-        let no = random.next() as u8;
+        let no = random.byte();
         let wanted = format!("{a} {b} {c} {no}\n");
         let mut out = [0; obscurlane::LONGEST_LINE_TEXT];
         assert_eq!(obscurlane::line_text(a, b, c, no, &mut out), Ok(wanted.as_bytes()));

@@ -2,10 +2,10 @@
 
 use super::Plan;
 use crate::calls::Op;
-use crate::random::Random;
 use crate::sample::{self, Fault, Place, Signed};
 use compare::file::lines;
 use compare::kind::Kind;
+use compare::random::Random;
 use compare::worked::{worked, IDENTITIES, RECORDS};
 
 pub fn add(plan: &mut Plan) {

@@ -17,7 +17,7 @@ mod walks;
 
 use crate::calls::Op;
 use crate::cases::Case;
-use crate::random::Random;
+use compare::random::Random;
 
 /// The cases so far, and the numbers that the group at work draws.
 pub struct Plan {

@@ -2,9 +2,9 @@
 
 use super::Plan;
 use crate::calls::Op;
-use crate::random::Random;
 use crate::sample::{self, Fault, Signed};
 use compare::kind::Kind;
+use compare::random::Random;
 use compare::worked::{worked, IDENTITIES, RECORDS};
 
 pub fn add(plan: &mut Plan) {

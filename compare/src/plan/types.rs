@@ -292,7 +292,7 @@ fn digits_and_checks(plan: &mut Plan) {
         plan.number(Op::Check, n);
     }
     for _ in 0..12 {
-        let n = plan.random.next() & 0xFFFF;
+        let n = plan.random.number() & 0xFFFF;
         plan.number(Op::Check, n);
     }
 }

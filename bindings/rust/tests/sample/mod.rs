@@ -2,6 +2,9 @@
 
 #![allow(dead_code)] // each program takes what it needs
 
+// Numbers of `compare/`: each program names them at its root, the tests from the crate, and the measurement, which has no
+// development dependencies, from the crate's file.
+use crate::random::Random;
 use obscurlane::Kind;
 
 const LETTERS_AND_DIGITS: &[u8] = b"ABCDEFGHIJKLMNOPQRSTUVWXYZabcdefghijklmnopqrstuvwxyz0123456789";
@@ -11,45 +14,6 @@ const HEX_DIGITS: &[u8] = b"0123456789ABCDEF";
 
 /// The four kinds that the record call reads.
 pub const RECORDS: [Kind; 4] = [Kind::Ecdsa, Kind::Ecdh, Kind::Request, Kind::Response];
-
-/// Numbers that look random and depend on the seed alone: SplitMix64.
-pub struct Random(u64);
-
-impl Random {
-    pub fn with_seed(seed: u64) -> Self {
-        Random(seed)
-    }
-
-    pub fn next(&mut self) -> u64 {
-        self.0 = self.0.wrapping_add(0x9E37_79B9_7F4A_7C15);
-        let mixed = (self.0 ^ (self.0 >> 30)).wrapping_mul(0xBF58_476D_1CE4_E5B9);
-        let mixed = (mixed ^ (mixed >> 27)).wrapping_mul(0x94D0_49BB_1331_11EB);
-        mixed ^ (mixed >> 31)
-    }
-
-    /// A number below `limit`, which is not 0.
-    pub fn below(&mut self, limit: usize) -> usize {
-        (self.next() % limit as u64) as usize
-    }
-
-    /// A number from `least` to `most`, both included.
-    pub fn between(&mut self, least: usize, most: usize) -> usize {
-        least + self.below(most - least + 1)
-    }
-
-    pub fn one_of<T: Copy>(&mut self, choices: &[T]) -> T {
-        choices[self.below(choices.len())]
-    }
-
-    pub fn bytes_of(&mut self, alphabet: &[u8], length: usize) -> Vec<u8> {
-        (0..length).map(|_| self.one_of(alphabet)).collect()
-    }
-
-    /// So many bytes of any value.
-    pub fn bytes(&mut self, length: usize) -> Vec<u8> {
-        (0..length).map(|_| self.next() as u8).collect()
-    }
-}
 
 /// An IDENT of this length, which is not 0; beyond 32 it is none.
 pub fn ident(random: &mut Random, length: usize) -> Vec<u8> {
@@ -172,7 +136,7 @@ pub fn damaged(random: &mut Random, bytes: &[u8], changes: usize) -> Vec<u8> {
             0 => result[index] ^ (1 << random.below(8)),
             1 => result[index] ^ 0x20,
             2 => random.one_of(b":|#\n\r\0 \x7F\xFF"),
-            3 => random.next() as u8,
+            3 => random.byte(),
             _ => random.one_of(HEX_DIGITS),
         };
     }
@@ -229,4 +193,29 @@ fn any_bytes(random: &mut Random) -> Vec<u8> {
         }
         _ => faulty(random, kind),
     }
+}
+
+/// A file of a few lines, with a line feed at its end or without.
+pub fn file(random: &mut Random) -> Vec<u8> {
+    let mut file = Vec::new();
+    for _ in 0..random.below(8) {
+        match random.below(6) {
+            0 => {}
+            1 => {
+                let length = random.between(1023, 1026);
+                file.extend(random.bytes_of(b"A|:", length));
+            }
+            2..=3 => {
+                let kind = random.one_of(&RECORDS);
+                file.extend(record(random, kind));
+            }
+            _ => file.extend(anything(random)),
+        }
+        file.extend_from_slice(random.one_of(&[&b"\n"[..], b"\n", b"\n", b"\r\n"]));
+    }
+    if random.below(2) == 0 {
+        file.extend(record(random, Kind::Response));
+    }
+    file.shrink_to_fit();
+    file
 }

@@ -6,10 +6,14 @@
 #[path = "../../../tests/sample/mod.rs"]
 mod sample;
 
+#[allow(dead_code)] // the tests take more of them
+#[path = "../../../../../compare/src/random.rs"]
+mod random;
+
 mod plain;
 
 use obscurlane::{Kind, Refusal, LONGEST_MODULE_TEXT, LONGEST_RECORD};
-use sample::Random;
+use random::Random;
 use std::hint::black_box;
 use std::time::Instant;
 

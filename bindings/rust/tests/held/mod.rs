@@ -1,0 +1,88 @@
+//! What it takes to hold an answer of the crate against one of `compare/`.
+
+#![allow(dead_code)] // each program takes what it needs
+
+use compare::file::{self, Step};
+use compare::refusal::Refusal as Expected;
+use obscurlane::{Kind, Line, Refusal};
+use std::num::NonZeroU8;
+use std::ops::RangeInclusive;
+
+const USUAL: usize = 3000;
+
+/// How many inputs each call is given: `OBSCURLANE_ROUNDS`, and 3,000 where it is not set.
+pub fn rounds() -> usize {
+    let named = std::env::var("OBSCURLANE_ROUNDS").ok();
+    named.map_or(USUAL, |rounds| rounds.parse().expect("OBSCURLANE_ROUNDS is a number"))
+}
+
+/// That so many of the rounds lie within a share, in percent; fewer rounds than the usual need not.
+pub fn expect_share(percent: RangeInclusive<usize>, times: usize, what: &str) {
+    let share = 100 * times / rounds();
+    assert!(rounds() < USUAL || percent.contains(&share), "{share} % {what}");
+}
+
+/// A refusal's number, and the number of the field that it is about, 0 where it is about none.
+pub type Numbers = (u8, u8);
+
+/// The crate's answer.
+pub fn numbers<T>(answer: Result<T, Refusal>) -> Result<T, Numbers> {
+    answer.map_err(|refusal| (refusal.reason.number(), refusal.field.map_or(0, NonZeroU8::get)))
+}
+
+/// The answer of `compare/`.
+pub fn expected<T>(answer: Result<T, Expected>) -> Result<T, Numbers> {
+    answer.map_err(|refusal| (refusal.number(), refusal.field()))
+}
+
+/// The same part of the same bytes, not only equal ones.
+pub fn place(part: &[u8]) -> (*const u8, usize) {
+    (part.as_ptr(), part.len())
+}
+
+/// A mark of `compare/`, where 0 stands for none.
+pub fn expected_mark(mark: u8) -> Option<u8> {
+    NonZeroU8::new(mark).map(NonZeroU8::get)
+}
+
+/// A line of a file: its answer with the kind's row, its start, its length, and the next place.
+pub type LineNumbers = (Result<usize, Numbers>, usize, usize, usize);
+
+/// The crate's line; its bytes are those of the file.
+pub fn line_numbers(file: &[u8], line: Line<'_>) -> LineNumbers {
+    assert_eq!(line.bytes.as_ptr(), file[line.start..].as_ptr());
+    (numbers(line.answer.map(Kind::row)), line.start, line.bytes.len(), line.next)
+}
+
+/// The line of `compare/`.
+pub fn expected_line(line: file::Line) -> LineNumbers {
+    let answer = expected(line.answer.map(|kind| kind as usize));
+    (answer, line.start as usize, line.length as usize, line.next as usize)
+}
+
+/// The line that `compare/` finds at a place; none where the file is finished.
+pub fn expected_at(file: &[u8], place: usize) -> Option<LineNumbers> {
+    match file::line_at(file, place as u64) {
+        Step::Finished { .. } => None,
+        Step::Read(line) => Some(expected_line(line)),
+    }
+}
+
+/// How often each number was answered, 0 being accepted.
+#[derive(Debug, Default)]
+pub struct Seen([usize; 14]);
+
+impl Seen {
+    pub fn add<T>(&mut self, answer: &Result<T, Numbers>) {
+        let number = answer.as_ref().err().map_or(0, |&(number, _)| number);
+        self.0[usize::from(number)] += 1;
+    }
+
+    /// Each of these numbers was answered more than `least` times; fewer rounds than the usual need not meet them all.
+    pub fn expect(&self, numbers: impl IntoIterator<Item = usize>, least: usize) {
+        for number in numbers {
+            let often = rounds() < USUAL || self.0[number] > least;
+            assert!(often, "{number} was seen so often: {self:?}");
+        }
+    }
+}
