@@ -9,13 +9,16 @@
  *
  * - A pointer that a length follows points to that many readable (an output: writable) bytes. `lens` points to `lens_len`
  *   numbers and is aligned for size_t.
+ * - A pointer without a length points to one writable number and is aligned for it; `text` of obscurlane_check_text points to
+ *   four writable bytes.
  * - No pointer is NULL, also where its length is 0.
  * - An output overlaps nothing else that is given: no input, no other output. Inputs may overlap.
  *
- * A function that answers a number answers OBSCURLANE_ACCEPTED (0) or one refusal. It writes through every pointer to a
- * single number or length, whatever it answers. With a refusal lengths and starts are 0, the kind is OBSCURLANE_KIND_NONE,
- * and a lent output is as it was, every byte. Once accepted, the bytes of a lent output past the length written are as they
- * were. Fields, items and lines are counted from 1, starts and places from 0.
+ * A function that can refuse answers OBSCURLANE_ACCEPTED (0) or the refusal's number. Every function writes through every
+ * pointer to a single number, whatever it answers. With a refusal lengths and starts are 0 (but those of a line are its place,
+ * see obscurlane_line_at), the kind is OBSCURLANE_KIND_NONE, and a lent output is as it was, every byte. Once accepted, the
+ * bytes of a lent output past the length written are as they were. Fields, items and lines are counted from 1, starts and
+ * places from 0.
  *
  * No function allocates, keeps anything between calls, or keeps a pointer: any thread may call any of them at any time. Of
  * the C library they need memcpy. obscurlane_print_list needs memset and write too: it prints to standard output, and no
@@ -110,7 +113,7 @@ enum {
 
 enum { OBSCURLANE_FIRST = 1, OBSCURLANE_SECOND = 2 };
 
-/* ---- lengths: an output of this many bytes is always enough */
+/* ---- lengths: the longest inputs that are taken, and outputs that are always enough */
 
 enum {
     OBSCURLANE_LONGEST_READ = 1024,       /* the longest bytes that are read as a record or identity */
@@ -404,8 +407,8 @@ uint8_t obscurlane_line_text(size_t number, size_t start, size_t size, uint8_t n
 uint8_t obscurlane_end_text(size_t lines, size_t accepted, uint8_t *out, size_t out_len, uint8_t *field, size_t *len);
 
 /* Prints a line of the list for each line of the file, and the end; or "too big" alone for a file of more than
- * OBSCURLANE_LONGEST_LISTED bytes. Answers how many lines it printed. It writes to standard output itself: what a program
- * has printed by stdio before comes first only after fflush. */
+ * OBSCURLANE_LONGEST_LISTED bytes. Answers how many lines the list has. It writes to standard output itself: what a program
+ * has printed by stdio before comes first only after fflush, and a write that fails is not reported. */
 size_t obscurlane_print_list(const uint8_t *file, size_t file_len);
 
 #ifdef __cplusplus

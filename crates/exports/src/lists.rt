@@ -42,7 +42,7 @@ pub extern "C" fn obscurlane_end_text(
     end.no
 }
 
-// Prints the list of a file and answers how many lines it printed.
+// Prints the list of a file and answers how many lines the list has.
 #[no_mangle]
 pub extern "C" fn obscurlane_print_list(file: &[u8]) -> usize
     ensures { λ r. ⌜ r ≡ printList (now (file .entry)) ⌝ }

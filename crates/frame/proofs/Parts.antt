@@ -242,6 +242,24 @@ module _ (m : ℕ) (s : Bytes) where
       (λ t. ltb→lt _ _ t)
       (λ t. absurd (omega (arith, walk-done m s n _ (walk-to n (omega arith)) (nltb→le _ _ t))))
 
+  -- the parts from part n on are those of the bytes from its start on
+  pub parts-from : (n i k : ℕ) → i ≡ partStart m s n → i ≤ length s → partOf m (drop i s) k ≡ partOf m s (n + k)
+  unfolding partOf
+  parts-from n i k q h =
+      by-test (ltb (length (cut m s)) n)
+      (λ t.
+      let few = ltb→lt (length (cut m s)) n t in
+      rw (drop-of-length-le s {i = i} (omega (arith, q, walk-past n (omega arith)))) (sym (List·getD-eq-default (cut m s) [] {n = n + k} (omega arith))))
+      (λ t. rw q (ap (λ (ps : List Bytes). getD ps k []) (sym (walk-to n (nltb→le _ _ t) .parts)) ∙ getD-drop n (cut m s) k []))
+
+  -- and none where part n would start at the end or behind it
+  pub parts-past : (n i k : ℕ) → i ≡ partStart m s n → length s ≤ i → [] ≡ partOf m s (n + k)
+  unfolding partOf
+  parts-past n i k q h =
+      by-test (ltb n (length (cut m s)))
+      (λ t. absurd (omega (arith, q, start-within n (ltb→lt _ _ t))))
+      (λ t. sym (List·getD-eq-default (cut m s) [] {n = n + k} (omega (arith, nltb→le n (length (cut m s)) t))))
+
 -- ---- a part of a record's body is the same part of the record
 
 pub body-bytes : (s : Bytes) (i j : ℕ) → i ≤ length (body s) → j ≤ length (body s) → take (j - i) (drop i s) ≡ take (j - i) (drop i (body s))

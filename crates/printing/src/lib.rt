@@ -60,7 +60,8 @@ fn print_end(file: &[u8]) {
     print_front(&out, written.len);
 }
 
-// The list of a file, or "too big" and nothing else. Answers how many lines it printed.
+// Prints the list of a file, or "too big" and nothing else. Answers how many lines the list has; a write that fails is not
+// reported.
 pub fn print_list(file: &[u8]) -> usize
     ensures { λ r. ⌜ r ≡ printList (now (file .entry)) ⌝ }
 {

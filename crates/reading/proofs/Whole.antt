@@ -1,17 +1,19 @@
 -- The fields together: number 8, by the row of the kind.
 -- Assumes nothing.
-use Prim.Native.Nat.{ℕ}
+use Prim.Native.Nat.{ℕ, _≤_, _<_}
 use mathlib.Core.Path.{_≡_, refl, sym}
 use mathlib.Core.Bool.{true, false, cond, Bool·beq}
 use mathlib.Core.List.{List, [], _∷_}
-use lib.ListN.{length, getD}
+use native.Mathlib.Omega.{arith}
+use lib.ListN.{length, drop, getD}
 use lib.Seq.{getD-drop}
 use lib.Dec.{eqb, eqb·suc-zero}
 use Rattle.text.specs.Text.{Bytes}
 use Rattle.format.specs.Kinds.{Kind, mark, pubkeyKinds, among}
 use Rattle.format.specs.Build.{empty}
 use Rattle.format.specs.Read.{body, cut, fieldsIn, wholeAnswer}
-use Rattle.frame.specs.Frame.{partOf}
+use Rattle.frame.specs.Frame.{partStart, partOf}
+use Rattle.frame.proofs.Parts.{parts-from, parts-past}
 use Rattle.table.specs.Table.{rowOf, markOf, isPubkey}
 use Rattle.table.proofs.Rows.{of-kind}
 use Rattle.reading.specs.Reading.{wholeNo}
@@ -31,6 +33,10 @@ module _ (row : ℕ) (issuer signature : Bytes) where
   unfolding wholeNo
   whole-pubkey e = rw (e, empty-is issuer, empty-is signature)
 
+-- neither is there
+pub whole-empty : (row : ℕ) → isPubkey row ≡ true → wholeNo row [] [] ≡ 0
+whole-empty row = whole-pubkey row [] []
+
 -- ---- by the kind
 
 pub whole-kind : (k : Kind) (fs : List Bytes) → wholeNo (rowOf k) (getD fs 3 []) (getD fs 4 []) ≡ wholeAnswer k fs
@@ -42,3 +48,12 @@ pub whole-parts : (k : Kind) (s b : Bytes) (row : ℕ) → row ≡ rowOf k → b
 unfolding partOf
 whole-parts k s b row e eb =
     rw (e, eb, of-kind mark 0 k, ← getD-drop 1 (cut (mark k) (body s)) 3 [], ← getD-drop 1 (cut (mark k) (body s)) 4 []) (whole-kind k (fieldsIn k s))
+
+-- ---- Issuer and Signature of a body b, whose part 4 starts at i, as the code cuts them
+module _ (row : ℕ) (b : Bytes) (m i : ℕ) (em : m ≡ markOf row) (q : i ≡ partStart m b 4) where
+  pub whole-past : isPubkey row ≡ true → length b < i → 0 ≡ wholeNo row (partOf (markOf row) b 4) (partOf (markOf row) b 5)
+  whole-past e h = rw (← em, ← parts-past m b 4 i 0 q (omega arith), ← parts-past m b 4 i 1 q (omega arith)) (sym (whole-empty row e))
+
+  pub whole-last : i ≤ length b → (last x y : Bytes) → last ≡ drop i b → x ≡ partOf m last 0 → y ≡ partOf m last 1
+      → wholeNo row x y ≡ wholeNo row (partOf (markOf row) b 4) (partOf (markOf row) b 5)
+  whole-last h last x y el ex ey = rw (ex, ey, el, ← em, parts-from m b 4 i 0 q h, parts-from m b 4 i 1 q h)

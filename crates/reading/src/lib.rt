@@ -248,7 +248,8 @@ pub fn whole_no(row: usize, issuer: &[u8], signature: &[u8]) -> u8
     UNPAIRED
 }
 
-// Issuer and Signature are fields 4 and 5 of a public key. No other kind's fields are looked for.
+// Issuer and Signature are fields 4 and 5 of a public key, the last two: the body is walked over once to where they start.
+// No other kind's fields are looked for.
 fn body_no(row: usize, body: &[u8]) -> u8
     ensures { λ r. ⌜ r ≡ wholeNo row (partOf (markOf row) (now (body .entry)) 4) (partOf (markOf row) (now (body .entry)) 5) ⌝ }
 {
@@ -256,7 +257,12 @@ fn body_no(row: usize, body: &[u8]) -> u8
         return ACCEPTED;
     }
     let mark = table::mark_of(row);
-    whole_no(row, frame::part(mark, body, 4), frame::part(mark, body, 5))
+    let start = frame::part_start(mark, body, 4);
+    if body.len() < start {
+        return ACCEPTED;
+    }
+    let last = &body[start..];
+    whole_no(row, frame::part(mark, last, 0), frame::part(mark, last, 1))
 }
 
 // ---- the record calls

@@ -1,6 +1,6 @@
 -- A turn of each loop: what a test of lists says from place i on.
 -- Assumes nothing.
-use Prim.Native.Nat.{ℕ, suc, _+_, _-_, _*_, _≤_, _<_}
+use Prim.Native.Nat.{ℕ, suc, _+_, _-_, _*_, _≤_, _<_, compare·suc-suc}
 use mathlib.Core.Path.{_≡_, refl, sym, ap, _∙_}
 use mathlib.Core.Bool.{Bool, true, false, _&&_}
 use mathlib.Core.List.{[], _∷_}
@@ -9,6 +9,7 @@ use native.Mathlib.Numerals.{add-one}
 use lib.ListN.{length, take, drop, getD, drop-of-length-le, length-drop}
 use lib.Seq.{drop-cons, take-all}
 use lib.Dec.{eqb}
+use borrow.Author.Tests.{ne-eqb}
 use Rattle.text.specs.Text.{Bytes, every, same, fits, looks, number, numberFrom, part, year}
 
 -- the part from i to the end, as code takes it
@@ -17,15 +18,45 @@ rest-all s i = take-all (length s - i) (drop i s) (omega (arith, length-drop i s
 
 -- ---- every byte
 
-module _ (p : ℕ → Bool) (s : Bytes) (i : ℕ) where
-  pub every-stop : i < length s → p (getD s i 0) ≡ false → every p (drop i s) ≡ false
-  every-stop h e = rw (drop-cons s i 0 h, e)
+and-no : (a b : Bool) → b ≡ false → (a && b) ≡ false
+and-no true b e = e
+and-no false b e = refl
 
-  pub every-on : i < length s → p (getD s i 0) ≡ true → every p (drop (i + 1) s) ≡ every p (drop i s)
-  every-on h e = rw (drop-cons s i 0 h, e, add-one)
+and-yes : (a b : Bool) → b ≡ true → (a && b) ≡ a
+and-yes true b e = e
+and-yes false b e = refl
 
-  pub every-end : length s ≤ i → every p (drop i s) ≡ true
-  every-end h = rw (drop-of-length-le s h)
+-- n of the bytes before place i are good: where these are all of them, what is left decides
+pub record Counted (p : ℕ → Bool) (s : Bytes) (n i : ℕ) : Type 0 where
+  pub decides : (eqb n i && every p (drop i s)) ≡ every p s
+  pub few : n ≤ i
+  pub within : i ≤ length s
+
+pub counted-none : (p : ℕ → Bool) (s : Bytes) → Counted p s 0 0
+counted-none p s = record { decides = refl; few = omega arith; within = omega arith }
+
+module _ (p : ℕ → Bool) (s : Bytes) (n i : ℕ) (c : Counted p s n i) where
+  module _ (h : i < length s) where
+    pub counted-bad : p (getD s i 0) ≡ false → Counted p s n (i + 1)
+    counted-bad e =
+        record {
+          decides = rw (ne-eqb n (i + 1) (λ q. absurd (omega (arith, q, c .few)))) (sym (and-no (eqb n i) (every p (drop i s)) (rw (drop-cons s i 0 h, e))) ∙ c .decides);
+          few = omega (arith, c .few);
+          within = omega arith;
+        }
+
+    pub counted-good : p (getD s i 0) ≡ true → Counted p s (n + 1) (i + 1)
+    counted-good e =
+        record {
+          decides = rw (add-one n, add-one i, compare·suc-suc n i) (ap (λ (b : Bool). eqb n i && b) (rw (drop-cons s i 0 h, e)) ∙ c .decides);
+          few = omega (arith, c .few);
+          within = omega arith;
+        }
+
+  pub counted-all : length s ≤ i → eqb n (length s) ≡ every p s
+  counted-all h =
+      let q : i ≡ length s = omega (arith, c .within) in
+      rw (← q) (sym (and-yes (eqb n i) (every p (drop i s)) (rw (drop-of-length-le s h))) ∙ c .decides)
 
 -- ---- two lists, byte against byte: `same` and `looks` are such tests
 
@@ -42,10 +73,6 @@ same-pairwise = record { ends = refl; short = λ d t. refl; long = λ c s. refl;
 pub looks-pairwise : Pairwise fits looks
 unfolding looks
 looks-pairwise = record { ends = refl; short = λ d t. refl; long = λ c s. refl; both = λ c d s t. refl }
-
-and-no : (a b : Bool) → b ≡ false → (a && b) ≡ false
-and-no true b e = e
-and-no false b e = refl
 
 module _ (p : ℕ → ℕ → Bool) (f : Bytes → Bytes → Bool) (w : Pairwise p f) where
   pub apart : (a b : Bytes) → (length a ≡ length b → ⊥) → f a b ≡ false

@@ -79,16 +79,18 @@ fn does_belong(alphabet: Alphabet, c: u8) -> bool
     }
 }
 
-// Every character of s belongs to the alphabet.
+// Every character of s belongs to the alphabet. Those that do are counted, without an early end, so that LLVM takes many
+// characters at once.
 pub(crate) fn all_belong(alphabet: Alphabet, s: &[u8]) -> bool
     ensures { λ r. ⌜ r ≡ every (belongs alphabet) (now (s .entry)) ⌝ }
 {
-    let mut i = 0;
+    let mut n: usize = 0;
+    let mut i: usize = 0;
     while i < s.len() {
-        if !does_belong(alphabet, s[i]) {
-            return false;
+        if does_belong(alphabet, s[i]) {
+            n += 1;
         }
         i += 1;
     }
-    true
+    n == s.len()
 }

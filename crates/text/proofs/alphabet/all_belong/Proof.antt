@@ -1,24 +1,24 @@
--- `text::alphabet::all_belong` meets its contract. The loop's invariant: what is left decides.
+-- `text::alphabet::all_belong` meets its contract. The loop's invariant: n of the bytes passed belong, and what is left decides.
 -- Assumes nothing.
+use denote.Ref.{now}
 use Prim.Native.Nat.{_-_}
-use mathlib.Core.Path.{_≡_, refl, sym, _∙_}
-use borrow.Author.Tests.{not-true, not-false}
-use lib.ListN.{length, drop}
-use Rattle.text.specs.Text.{every}
+use mathlib.Core.Path.{sym, _∙_}
+use mathlib.Core.Logic.{⊎-elim}
+use lib.ListN.{length}
 use Rattle.text.specs.Steps.{belongs}
-use Rattle.text.proofs.Loops.{every-stop, every-on, every-end}
+use Rattle.text.proofs.Loops.{Counted, counted-none, counted-bad, counted-good, counted-all}
 use borrow.Author.Needs.{needs}
 use Rattle.text.proofs.alphabet.all_belong.Statement.{statement}
 use Rattle.text.proofs.alphabet.all_belong.Tie as tie
 
 abbrev Inv-loop : tie.InvT-loop
-Inv-loop alphabet s i₀ i = every (belongs alphabet) (drop i s) ≡ every (belongs alphabet) s
+Inv-loop alphabet s n₀ i₀ n i = Counted (belongs alphabet) s n i
 
 abbrev μ-loop : tie.MeasureT-loop
-μ-loop alphabet s i₀ i = length s - i
+μ-loop alphabet s n₀ i₀ n i = length s - i
 
 loop-holds : tie.Need-loop-holds Inv-loop μ-loop
-loop-holds c = refl
+loop-holds c = counted-none _ _
 
 shared-slice-read-does-belong : tie.Need-shared-slice-read-does-belong Inv-loop μ-loop
 shared-slice-read-does-belong c = search needs
@@ -26,8 +26,8 @@ shared-slice-read-does-belong c = search needs
 does-belong-requires : tie.Need-does-belong-requires Inv-loop μ-loop
 does-belong-requires c κs = search needs
 
-returns : tie.Need-returns Inv-loop μ-loop
-returns c = sym (every-stop (belongs (c .before .before .before .before .before .before .args .alphabet)) _ _ (c .before .before .before .loop-test .taken) (sym (c .before .does-belong .ensures) ∙ not-true _ (c .if1 .taken))) ∙ c .before .before .before .before .loop .inv
+add-n : tie.Need-add-n Inv-loop μ-loop
+add-n c = search needs
 
 add-i : tie.Need-add-i Inv-loop μ-loop
 add-i c = search needs
@@ -36,10 +36,14 @@ loop-less : tie.Need-loop-less Inv-loop μ-loop
 loop-less c = search needs
 
 loop-again : tie.Need-loop-again Inv-loop μ-loop
-loop-again c = every-on (belongs (c .before .before .before .before .before .before .args .alphabet)) _ _ (c .before .before .before .loop-test .taken) (sym (c .before .does-belong .ensures) ∙ not-false _ (c .if1 .left)) ∙ c .before .before .before .before .loop .inv
+loop-again c = let a = c .before .before .before .before .before .before .args in
+    let l = c .before .before .before .before .loop in
+    let in-s = c .before .before .before .loop-test .taken in
+    ⊎-elim (λ w. rw (w .1) (counted-good (belongs (a .alphabet)) (now (a .s)) (l .n) (l .i) (l .inv) in-s (sym (c .before .does-belong .ensures) ∙ w .0 .taken)))
+    (λ w. rw (w .1) (counted-bad (belongs (a .alphabet)) (now (a .s)) (l .n) (l .i) (l .inv) in-s (sym (c .before .does-belong .ensures) ∙ w .0 .left))) (c .if1 .came)
 
-returns-2 : tie.Need-returns-2 Inv-loop μ-loop
-returns-2 c = sym (every-end (belongs (c .before .before .before .args .alphabet)) _ _ (c .loop-test .left)) ∙ c .before .loop .inv
+returns : tie.Need-returns Inv-loop μ-loop
+returns c = counted-all (belongs (c .before .before .before .args .alphabet)) _ _ _ (c .before .loop .inv) (c .loop-test .left)
 
 pub all-belong-spec : {M : Type 1} → statement M
 all-belong-spec =
@@ -50,8 +54,8 @@ all-belong-spec =
     loop-holds
     shared-slice-read-does-belong
     does-belong-requires
-    returns
+    add-n
     add-i
     loop-less
     loop-again
-    returns-2)
+    returns)
