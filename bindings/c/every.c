@@ -139,22 +139,33 @@ static void longest_record(const uint8_t *identity, size_t len)
     EXPECT(field == 3 && made == 0);
 }
 
-/* The longest identity, and the longest record with it. */
-static void building(void)
+/* An identity whose Manufacturer and MID are as long as can be; its length. */
+static size_t longest_identity(const uint8_t *kind, size_t kind_len, uint8_t *out, size_t room)
 {
-    uint8_t parts[96], out[OBSCURLANE_LONGEST_IDENTITY + 8], field = UNTOUCHED;
+    uint8_t parts[96], field = UNTOUCHED;
     const size_t lens[] = {32, 32, 16, 16};
     size_t made = UNTOUCHED;
     memset(parts, 'A', sizeof parts);
     memcpy(parts + 64, "99991231T115959Z", 16);
+    EXPECT(obscurlane_build(kind, kind_len, parts, 96, lens, 4, out, room, &field, &made) == OBSCURLANE_ACCEPTED);
+    EXPECT(field == 0 && made <= OBSCURLANE_LONGEST_IDENTITY);
+    return made;
+}
+
+/* The longest identity, and the longest record with it. */
+static void building(void)
+{
+    uint8_t out[OBSCURLANE_LONGEST_IDENTITY + 8], field = UNTOUCHED;
+    const size_t lens[] = {0, 0, 0, 0};
+    size_t made = UNTOUCHED;
     memset(out, UNTOUCHED, sizeof out);
-    EXPECT(obscurlane_build(BYTES("SMMAN.2"), parts, 96, lens, 4, out, sizeof out, &field, &made) == OBSCURLANE_NO_KIND);
-    EXPECT(obscurlane_build(BYTES("SMMAN.1"), parts, 95, lens, 4, out, sizeof out, &field, &made) ==
+    EXPECT(obscurlane_build(BYTES("SMMAN.2"), BYTES(""), lens, 4, out, sizeof out, &field, &made) ==
+           OBSCURLANE_NO_KIND);
+    EXPECT(obscurlane_build(BYTES("SMMAN.1"), BYTES("A"), lens, 4, out, sizeof out, &field, &made) ==
            OBSCURLANE_WRONG_COUNT);
     EXPECT(field == 0 && made == 0 && untouched(out, 0, sizeof out));
-    EXPECT(obscurlane_build(BYTES("SMMAN.1"), parts, 96, lens, 4, out, sizeof out, &field, &made) ==
-           OBSCURLANE_ACCEPTED);
-    EXPECT(field == 0 && made == OBSCURLANE_LONGEST_IDENTITY && untouched(out, made, sizeof out));
+    made = longest_identity(BYTES("SMMAN.1"), out, sizeof out);
+    EXPECT(made == OBSCURLANE_LONGEST_IDENTITY && untouched(out, made, sizeof out));
     longest_record(out, made);
 }
 
@@ -174,19 +185,6 @@ static void text_of(text_call *call, size_t expected, const char *label)
     EXPECT(start == 2 && item == strlen(label) && memcmp(out + start, label, item) == 0);
     EXPECT(obscurlane_text_item(out, len - 1, 1, &start, &item) == OBSCURLANE_NO_ITEM);
     EXPECT(start == 0 && item == 0);
-}
-
-/* An identity whose Manufacturer and MID are as long as can be; its length. */
-static size_t longest_identity(const uint8_t *kind, size_t kind_len, uint8_t *out, size_t room)
-{
-    uint8_t parts[96], field = UNTOUCHED;
-    const size_t lens[] = {32, 32, 16, 16};
-    size_t made = UNTOUCHED;
-    memset(parts, 'A', sizeof parts);
-    memcpy(parts + 64, "99991231T115959Z", 16);
-    EXPECT(obscurlane_build(kind, kind_len, parts, 96, lens, 4, out, room, &field, &made) == OBSCURLANE_ACCEPTED);
-    EXPECT(field == 0 && made <= OBSCURLANE_LONGEST_IDENTITY);
-    return made;
 }
 
 /* The request whose texts are the longest. */
@@ -223,22 +221,19 @@ static void texts(void)
     EXPECT(len == OBSCURLANE_LONGEST_CENTRE_TEXT);
 }
 
-/* The scope paper's example: an empty line, a line of another kind, and three bytes without line feed. */
 static void files(void)
 {
-    static const size_t starts[] = {0, 1, 13}, sizes[] = {0, 11, 3}, nexts[] = {1, 13, 16};
-    static const uint8_t numbers[] = {OBSCURLANE_NO_KIND, OBSCURLANE_NO_KIND, OBSCURLANE_UNFINISHED};
     uint8_t no, field;
     size_t place = 0, kind, start, len, next, lines, accepted;
     for (size_t i = 0; i < 3; i++) {
-        EXPECT(obscurlane_line_at(BYTES("\nPK.ECDH.2|x\nabc"), place, &no, &field, &kind, &start, &len, &next));
-        EXPECT(no == numbers[i] && field == 0 && kind == OBSCURLANE_KIND_NONE);
-        EXPECT(start == starts[i] && len == sizes[i] && next == nexts[i]);
+        EXPECT(obscurlane_line_at(BYTES(THREE_LINES), place, &no, &field, &kind, &start, &len, &next));
+        EXPECT(no == three_numbers[i] && field == 0 && kind == OBSCURLANE_KIND_NONE);
+        EXPECT(start == three_starts[i] && len == three_sizes[i] && next == three_nexts[i]);
         place = next;
     }
-    EXPECT(!obscurlane_line_at(BYTES("\nPK.ECDH.2|x\nabc"), 99, &no, &field, &kind, &start, &len, &next));
+    EXPECT(!obscurlane_line_at(BYTES(THREE_LINES), 99, &no, &field, &kind, &start, &len, &next));
     EXPECT(no == 0 && field == 0 && kind == OBSCURLANE_KIND_NONE && start == 99 && len == 0 && next == 99);
-    obscurlane_count(BYTES("\nPK.ECDH.2|x\nabc"), &lines, &accepted);
+    obscurlane_count(BYTES(THREE_LINES), &lines, &accepted);
     EXPECT(lines == 3 && accepted == 0);
     obscurlane_count(BYTES(WORKED_REQUEST "\n" WORKED_RESPONSE "\n"), &lines, &accepted);
     EXPECT(lines == 2 && accepted == 2);

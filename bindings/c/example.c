@@ -100,7 +100,7 @@ static void build_again(struct bytes request)
     uint8_t no = obscurlane_build(kind.at, kind.len, fields, total, lens, 7, out, sizeof out, &field, &len);
     expect(no == OBSCURLANE_ACCEPTED, "the request is built");
     expect(len == request.len && memcmp(out, request.at, len) == 0, "the bytes are the request's");
-    printf("built again from its fields: the same %zu bytes\n", len);
+    printf("built again from its fields, the same %zu bytes:\n  %.*s\n", len, (int)len, (const char *)out);
 
     no = obscurlane_build(kind.at, kind.len, fields, total, lens, 7, out, len - 1, &field, &len);
     expect(no == OBSCURLANE_NO_ROOM && len == 0, "one byte less is no room");

@@ -12,9 +12,6 @@
 #include <string.h>
 #include <unistd.h>
 
-/* The scope paper's example: an empty line, a line of another kind, and three bytes without line feed. */
-#define THREE_LINES "\nPK.ECDH.2|x\nabc"
-
 static void check_states(void)
 {
     uint16_t state = obscurlane_crc_begin();
@@ -210,15 +207,13 @@ static void pieces(void)
 
 static void reader(void)
 {
-    static const size_t starts[] = {0, 1, 13}, sizes[] = {0, 11, 3}, nexts[] = {1, 13, 16};
-    static const uint8_t numbers[] = {OBSCURLANE_NO_KIND, OBSCURLANE_NO_KIND, OBSCURLANE_UNFINISHED};
     uint8_t no, field;
     size_t kind, start, len, place = obscurlane_reader_new(BYTES(THREE_LINES));
     EXPECT(place == 0 && obscurlane_reader_new(BYTES("")) == 0);
     for (size_t i = 0; i < 3; i++) {
         EXPECT(obscurlane_reader_step(BYTES(THREE_LINES), &place, &no, &field, &kind, &start, &len));
-        EXPECT(no == numbers[i] && field == 0 && kind == OBSCURLANE_KIND_NONE);
-        EXPECT(start == starts[i] && len == sizes[i] && place == nexts[i]);
+        EXPECT(no == three_numbers[i] && field == 0 && kind == OBSCURLANE_KIND_NONE);
+        EXPECT(start == three_starts[i] && len == three_sizes[i] && place == three_nexts[i]);
     }
     EXPECT(!obscurlane_reader_step(BYTES(THREE_LINES), &place, &no, &field, &kind, &start, &len));
     EXPECT(no == 0 && field == 0 && kind == OBSCURLANE_KIND_NONE && start == 16 && len == 0 && place == 16);

@@ -1,7 +1,8 @@
 //! Links the archive that `rt staticlib exports` proves and writes.
 
 use std::path::{Path, PathBuf};
-use std::{env, process};
+use std::time::SystemTime;
+use std::{env, fs, process};
 
 fn main() {
     println!("cargo:rerun-if-env-changed=OBSCURLANE_LIB");
@@ -22,14 +23,48 @@ fn main() {
             archive.display()
         ));
     }
+    if named.is_none() {
+        warn_if_older(&archive);
+    }
     println!("cargo:rustc-link-search=native={}", folder.display());
     println!("cargo:rustc-link-lib=static=exports");
 }
 
+fn in_root(path: &str) -> PathBuf {
+    let here = env::var_os("CARGO_MANIFEST_DIR").expect("cargo names the crate's folder");
+    Path::new(&here).join("../..").join(path)
+}
+
 /// `target/staticlib` of the repository.
 fn usual_folder() -> PathBuf {
-    let here = env::var_os("CARGO_MANIFEST_DIR").expect("cargo names the crate's folder");
-    Path::new(&here).join("../../target/staticlib")
+    in_root("target/staticlib")
+}
+
+/// An old archive links as well as a new one, and answers what the sources no longer say.
+fn warn_if_older(archive: &Path) {
+    let crates = in_root("crates");
+    println!("cargo:rerun-if-changed={}", crates.display());
+    if has_newer(&crates, changed(archive)) {
+        println!("cargo:warning=libexports.a is older than crates/: run `rt staticlib exports` in the repository's root");
+    }
+}
+
+/// Whether a file below the folder was changed after this time.
+fn has_newer(folder: &Path, time: SystemTime) -> bool {
+    let entries = fs::read_dir(folder).into_iter().flatten().flatten();
+    entries.map(|entry| entry.path()).any(|path| {
+        if path.is_dir() {
+            has_newer(&path, time)
+        } else {
+            changed(&path) > time
+        }
+    })
+}
+
+/// When a file was last changed.
+fn changed(file: &Path) -> SystemTime {
+    let time = fs::metadata(file).and_then(|about| about.modified());
+    time.unwrap_or(SystemTime::UNIX_EPOCH)
 }
 
 fn fail(why: &str) -> ! {

@@ -60,7 +60,7 @@ fn write(plan: &[Case]) -> Written {
     }
     answers.extend_from_slice(counts.as_bytes());
 
-    assert!((3000..=7500).contains(&plan.len()), "{} cases", plan.len());
+    assert!((3000..=10_000).contains(&plan.len()), "{} cases", plan.len());
     assert!(cases.len() <= LONGEST_CASE_FILE, "a case file of {} bytes", cases.len());
     Written { cases, answers, counts }
 }

@@ -152,7 +152,8 @@ pub fn count(file: &[u8]) -> Totals {
 }
 
 /// Prints the list of a file: what [`line_text`](crate::line_text) writes of each line, and [`end_text`](crate::end_text) at
-/// the end; or `too big` alone for a file of more than [`LONGEST_LISTED`] bytes. Gives back how many lines it printed.
+/// the end; or `too big` alone for a file of more than [`LONGEST_LISTED`] bytes. Gives back how many lines the list has.
+/// A write that fails is not reported.
 ///
 /// The library writes to standard output itself, past [`std::io::Stdout`]: what was printed before is flushed first by the
 /// caller.
@@ -168,12 +169,28 @@ pub fn print_list(file: &[u8]) -> usize {
 /// Of two public keys the one whose Subject has the later GNT, the first when equal.
 ///
 /// ```
-/// assert_eq!(obscurlane::newer(b"", b"").unwrap_err().reason.number(), 2);
+/// use obscurlane::{build, newer, LONGEST_IDENTITY, LONGEST_RECORD};
+///
+/// // a key of the centre whose Subject has this GNT
+/// fn key<'o>(gnt: &str, out: &'o mut [u8; LONGEST_RECORD]) -> &'o [u8] {
+///     let mut subject = [0; LONGEST_IDENTITY];
+///     let fields = format!("STSTEST1{gnt}4712CFF444570C8A");
+///     let subject = build(b"KMCID.1", fields.as_bytes(), &[3, 5, 16, 16], &mut subject).unwrap();
+///     let fields = [subject, b"04", &[b'A'; 192], b"20310110T120000Z"].concat();
+///     build(b"PK.ECDH.1", &fields, &[subject.len(), 194, 16, 0, 0], out).unwrap()
+/// }
+///
+/// let mut outs = [[0; LONGEST_RECORD]; 2];
+/// let [first, second] = &mut outs;
+/// let (old, new) = (key("20180110T120000Z", first), key("20190110T120000Z", second));
+/// assert_eq!(newer(old, new), Ok(new));
+/// assert_eq!(newer(old, b"").unwrap_err().reason.number(), 2);
 /// ```
 ///
 /// # Errors
 ///
-/// The first record's refusal, then the second's (reason 2 for a record that is no public key), then reason 13.
+/// The first record's refusal, then the second's (reason 2 for a record that is no public key), then reason 13. The refusal
+/// does not say which of the two it is about.
 #[inline]
 pub fn newer<'a>(first: &'a [u8], second: &'a [u8]) -> Result<&'a [u8], Refusal> {
     let choice = sys::newer(first, second);

@@ -97,7 +97,7 @@ impl fmt::Display for Reason {
 /// let refusal = read_record(b"PK.ECDH.1|x").unwrap_err();
 /// assert_eq!(refusal.reason, Reason::NoCheck);
 /// assert_eq!(refusal.reason.number(), 3);
-/// assert_eq!(refusal.to_string(), "no check at the end");
+/// assert_eq!(refusal.to_string(), "3: no check at the end");
 /// ```
 #[derive(Clone, Copy, Debug, PartialEq, Eq, Hash)]
 pub struct Refusal {
@@ -121,9 +121,10 @@ impl Refusal {
 
 impl fmt::Display for Refusal {
     fn fmt(&self, f: &mut fmt::Formatter<'_>) -> fmt::Result {
+        write!(f, "{}: {}", self.reason.number(), self.reason)?;
         match self.field {
-            Some(field) => write!(f, "{} (field {field})", self.reason),
-            None => write!(f, "{}", self.reason),
+            Some(field) => write!(f, " (field {field})"),
+            None => Ok(()),
         }
     }
 }

@@ -9,7 +9,8 @@ use compare::random::{self, Random};
 use compare::refusal::Refusal as Expected;
 use compare::{agreement, file, record, text};
 use held::{
-    expected, expected_at, expected_line, line_numbers, numbers, place, rounds, Numbers, Seen,
+    expect_share, expected, expected_at, expected_line, line_numbers, numbers, place, rounds,
+    same_result, Numbers, Seen,
 };
 use obscurlane::{Kind, Refusal};
 
@@ -53,7 +54,7 @@ fn text_types() {
         }
         assert_eq!(obscurlane::crc_of(&bytes), compare::crc::crc16(&bytes), "{bytes:?}");
     }
-    assert!(accepted > rounds() / 4, "only {accepted} were accepted");
+    expect_share(25..=200, accepted, "were of a type, each counted for every type that it is of");
 }
 
 #[test]
@@ -93,6 +94,7 @@ fn fields() {
 }
 
 /// What a build may be handed.
+#[derive(Debug)]
 struct Order {
     kind: Vec<u8>,
     bytes: Vec<u8>,
@@ -133,19 +135,14 @@ impl Order {
 
     /// Builds with so much room on both sides, and compares the answers and every byte of the outputs.
     fn build(&self, room: usize) -> Result<usize, Numbers> {
-        let lent: Vec<u8> = (0..room).map(|index| index as u8 ^ 0xA5).collect();
-        let (mut ours, mut theirs) = (lent.clone(), lent.clone());
-        let lens: Vec<u64> = self.lens.iter().map(|&len| len as u64).collect();
-        let answer = numbers(
-            obscurlane::build(&self.kind, &self.bytes, &self.lens, &mut ours).map(<[u8]>::len),
-        );
-        let wanted = expected(compare::build::build(&self.kind, &self.bytes, &lens, &mut theirs));
-        assert_eq!(answer, wanted, "{:?} {:?} {:?}", self.kind, self.bytes, self.lens);
-        assert_eq!(ours, theirs);
-        if answer.is_err() {
-            assert_eq!(ours, lent, "a refused build leaves the output");
-        }
-        answer
+        let Order { kind, bytes, lens } = self;
+        let wide: Vec<u64> = lens.iter().map(|&len| len as u64).collect();
+        same_result(
+            room,
+            |out| obscurlane::build(kind, bytes, lens, out).map(<[u8]>::len),
+            |out| compare::build::build(kind, bytes, &wide, out),
+            self,
+        )
     }
 }
 
@@ -191,15 +188,8 @@ const TEXTS: [(Ours, Theirs, usize); 3] = [
 
 /// Makes a text with so much room on both sides, and compares the answers and every byte of the outputs.
 fn same_text(ours: Ours, theirs: Theirs, request: &[u8], room: usize) -> Result<usize, Numbers> {
-    let lent: Vec<u8> = (0..room).map(|index| index as u8 ^ 0xA5).collect();
-    let (mut out, mut wanted) = (lent.clone(), lent.clone());
-    let answer = numbers(ours(request, &mut out).map(<[u8]>::len));
-    assert_eq!(answer, expected(theirs(request, &mut wanted)), "{request:?}");
-    assert_eq!(out, wanted, "{request:?}");
-    if answer.is_err() {
-        assert_eq!(out, lent, "a refused text leaves the output");
-    }
-    answer
+    let ours = |out: &mut [u8]| ours(request, out).map(<[u8]>::len);
+    same_result(room, ours, |out| theirs(request, out), &request)
 }
 
 #[test]
@@ -325,12 +315,12 @@ fn the_list() {
         let mut number = || random.number() as usize >> random.below(64);
         let (a, b, c) = (number(), number(), number());
         let no = random.byte();
-        let wanted = format!("{a} {b} {c} {no}\n");
+        let wanted = file::line_text(a as u64, b as u64, c as u64, no);
         let mut out = [0; obscurlane::LONGEST_LINE_TEXT];
         assert_eq!(obscurlane::line_text(a, b, c, no, &mut out), Ok(wanted.as_bytes()));
         let short = &mut out[..wanted.len() - 1];
         assert_eq!(numbers(obscurlane::line_text(a, b, c, no, short)), Err((10, 0)));
-        let wanted = format!("end {a} {b}\n");
+        let wanted = file::end_text(a as u64, b as u64);
         assert_eq!(obscurlane::end_text(a, b, &mut out), Ok(wanted.as_bytes()));
         let short = &mut out[..wanted.len() - 1];
         assert_eq!(numbers(obscurlane::end_text(a, b, short)), Err((10, 0)));

@@ -1,7 +1,8 @@
 //! The declarations of the C interface, in the header and in `sys`, are those that the signatures in `crates/exports` ask for.
 
 use obscurlane::table::FieldType;
-use std::collections::BTreeSet;
+use obscurlane::Reason;
+use std::collections::{BTreeMap, BTreeSet};
 use std::fs;
 use std::path::{Path, PathBuf};
 
@@ -157,6 +158,25 @@ fn header_declarations() -> Vec<String> {
     statements.filter(|line| line.contains("obscurlane_")).map(str::to_owned).collect()
 }
 
+/// The header's numbers by their names, without `OBSCURLANE_`.
+fn header_numbers() -> BTreeMap<String, usize> {
+    let header = flat(&without_comments(&read("bindings/c/obscurlane.h")));
+    let entries = header.split(['{', '}', ',']).filter_map(|entry| entry.trim().split_once(" = "));
+    let numbers = entries.map(|(name, number)| {
+        let name = name.strip_prefix("OBSCURLANE_").expect("a name of the interface");
+        (name.to_owned(), number.parse().expect("a number"))
+    });
+    numbers.collect()
+}
+
+/// Those whose names begin so, without that beginning.
+fn header_numbers_of(group: &str) -> BTreeMap<String, usize> {
+    let numbers = header_numbers().into_iter();
+    numbers
+        .filter_map(|(name, number)| Some((name.strip_prefix(group)?.to_owned(), number)))
+        .collect()
+}
+
 /// The declarations in `sys`, each with its file.
 fn sys_declarations() -> Vec<(String, String)> {
     let mut declarations = Vec::new();
@@ -212,12 +232,12 @@ fn every_function_has_its_line_in_the_page() {
 #[test]
 fn rows_are_the_tables() {
     let table = flat(&read("crates/table/src/lib.rt"));
-    let header = flat(&read("bindings/c/obscurlane.h"));
-    for (row, name) in
-        ["SMMAN", "SMID", "KMCID", "ECDSA", "ECDH", "REQ", "RESP", "NONE"].iter().enumerate()
-    {
+    let header = header_numbers_of("KIND_");
+    let names = ["SMMAN", "SMID", "KMCID", "ECDSA", "ECDH", "REQ", "RESP", "NONE"];
+    assert_eq!(header.len(), names.len());
+    for (row, name) in names.into_iter().enumerate() {
         assert!(table.contains(&format!("pub const {name}: usize = {row};")), "{name}");
-        assert!(header.contains(&format!("OBSCURLANE_KIND_{name} = {row}")), "{name}");
+        assert_eq!(header[name], row, "{name}");
     }
 }
 
@@ -233,15 +253,16 @@ fn in_rust(name: &str) -> String {
 #[test]
 fn codes_are_the_tables() {
     let table = flat(&read("crates/table/src/lib.rt"));
-    let header = flat(&read("bindings/c/obscurlane.h"));
+    let header = header_numbers_of("TYPE_");
     let constants = table.split("pub const ").skip(1);
     let codes: Vec<(&str, &str)> =
         constants.filter_map(|rest| rest.split(';').next()?.split_once(": u8 = ")).collect();
     assert_eq!(codes.len(), FieldType::ALL.len());
-    assert_eq!(header.matches("OBSCURLANE_TYPE_").count(), FieldType::ALL.len() + 1);
+    assert_eq!(header.len(), FieldType::ALL.len());
     for (name, code) in codes {
-        assert!(header.contains(&format!("OBSCURLANE_TYPE_{name} = {code}")), "{name}");
-        let field_type = FieldType::from_code(code.parse().expect("a number"));
+        let code: u8 = code.parse().expect("a number");
+        assert_eq!(header[name], usize::from(code), "{name}");
+        let field_type = FieldType::from_code(code);
         assert_eq!(format!("{:?}", field_type.expect("a type")), in_rust(name));
     }
 }
@@ -251,8 +272,24 @@ fn the_longest_list_is_the_printers() {
     let longest = obscurlane::LONGEST_LISTED;
     let printing = flat(&read("crates/printing/src/lib.rt"));
     assert!(printing.contains(&format!("pub const MOST: usize = {longest};")));
-    let header = flat(&read("bindings/c/obscurlane.h"));
-    assert!(header.contains(&format!("OBSCURLANE_LONGEST_LISTED = {longest}")));
+}
+
+/// What each is the length of is tried in `longest.rs`.
+#[test]
+fn lengths_are_the_headers() {
+    let lengths = [
+        ("READ", obscurlane::LONGEST_READ),
+        ("RECORD", obscurlane::LONGEST_RECORD),
+        ("IDENTITY", obscurlane::LONGEST_IDENTITY),
+        ("SHARED_INFO", obscurlane::LONGEST_SHARED_INFO),
+        ("MODULE_TEXT", obscurlane::LONGEST_MODULE_TEXT),
+        ("CENTRE_TEXT", obscurlane::LONGEST_CENTRE_TEXT),
+        ("LINE_TEXT", obscurlane::LONGEST_LINE_TEXT),
+        ("END_TEXT", obscurlane::LONGEST_END_TEXT),
+        ("LISTED", obscurlane::LONGEST_LISTED),
+    ];
+    let lengths = lengths.map(|(name, length)| (name.to_owned(), length));
+    assert_eq!(header_numbers_of("LONGEST_"), BTreeMap::from(lengths));
 }
 
 #[test]
@@ -260,7 +297,7 @@ fn numbers_are_the_crates() {
     let crates = ["reading", "frame", "building", "files", "items", "newer"];
     let source: String =
         crates.map(|name| flat(&read(&format!("crates/{name}/src/lib.rt")))).concat();
-    let header = flat(&read("bindings/c/obscurlane.h"));
+    let header = header_numbers();
     let names = [
         "ACCEPTED",
         "TOO_LONG",
@@ -277,8 +314,10 @@ fn numbers_are_the_crates() {
         "NO_ITEM",
         "NOT_ALIKE",
     ];
-    for (number, name) in names.iter().enumerate() {
+    for (number, name) in (0..).zip(names) {
         assert!(source.contains(&format!("const {name}: u8 = {number};")), "{name}");
-        assert!(header.contains(&format!("OBSCURLANE_{name} = {number}")), "{name}");
+        assert_eq!(header[name], usize::from(number), "{name}");
+        let reason = Reason::from_number(number).map(|reason| format!("{reason:?}"));
+        assert_eq!(reason.unwrap_or("Accepted".to_owned()), in_rust(name));
     }
 }

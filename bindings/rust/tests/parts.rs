@@ -9,7 +9,7 @@ use compare::random::{self, Random};
 use compare::{build, crc, file, frame, text};
 use held::{
     expect_share, expected, expected_at, expected_line, expected_mark, line_numbers, numbers,
-    place, rounds, Seen,
+    place, rounds, same_output, Seen,
 };
 use obscurlane::{Crc, Reader, Reason};
 use std::num::NonZeroU8;
@@ -150,19 +150,6 @@ fn body_and_check() {
     seen.expect([0, 3, 4], 100);
 }
 
-/// Both sides write into an output of this room; the places after it, which are the same, and every byte of the outputs.
-fn same_put(
-    room: usize,
-    ours: impl Fn(&mut [u8]) -> usize,
-    theirs: impl Fn(&mut [u8]) -> u64,
-) -> bool {
-    let lent: Vec<u8> = (0..room).map(|index| index as u8 ^ 0xA5).collect();
-    let (mut out, mut wanted) = (lent.clone(), lent.clone());
-    assert_eq!(ours(&mut out) as u64, theirs(&mut wanted));
-    assert_eq!(out, wanted);
-    out != lent
-}
-
 #[test]
 fn pieces() {
     let mut random = Random::with_seed(37);
@@ -172,19 +159,21 @@ fn pieces() {
         let (at, piece) = (any_place(&mut random, room), random.bytes(length));
         let byte = random.byte();
         let puts = [
-            same_put(
+            same_output(
                 room,
-                |out| obscurlane::put(out, at, &piece),
+                |out| obscurlane::put(out, at, &piece) as u64,
                 |out| build::put_at(out, at as u64, &piece),
+                &(at, &piece),
             ),
-            same_put(
+            same_output(
                 room,
-                |out| obscurlane::put_byte(out, at, byte),
+                |out| obscurlane::put_byte(out, at, byte) as u64,
                 |out| build::put_at(out, at as u64, &[byte]),
+                &(at, byte),
             ),
         ];
-        for (times, put) in written.iter_mut().zip(puts) {
-            *times += usize::from(put);
+        for (times, (_, is_written)) in written.iter_mut().zip(puts) {
+            *times += usize::from(is_written);
         }
     }
     for times in written {

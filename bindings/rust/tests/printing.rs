@@ -8,7 +8,7 @@ mod sample;
 
 use compare::file::{count, list, LONGEST_LISTED};
 use compare::random::{self, Random};
-use held::rounds;
+use held::{expect_share_of, rounds};
 use std::env;
 use std::process::{Command, Stdio};
 
@@ -47,7 +47,7 @@ fn compare_all() {
         .iter()
         .map(|file| count(file))
         .fold((0, 0), |sum, totals| (sum.0 + totals.0, sum.1 + totals.1));
-    assert!(accepted > lines / 10 && accepted < lines / 2, "{accepted} of {lines} were accepted");
+    expect_share_of(lines, 10..=50, accepted, "lines were accepted");
     println!("{} lists of {lines} lines, {accepted} accepted: printed as expected", files.len());
 }
 

@@ -57,7 +57,7 @@ fn every_row_has_a_kind() {
 fn a_refusal_names_its_field() {
     let mut out = [0; 64];
     let refusal = obscurlane::build(b"SMID.1", b"-A", &[1, 1, 0, 0], &mut out).unwrap_err();
-    assert_eq!(refusal.to_string(), "a field is not of its text type (field 1)");
+    assert_eq!(refusal.to_string(), "6: a field is not of its text type (field 1)");
     let error: Box<dyn std::error::Error> = refusal.into();
     assert!(error.downcast_ref::<obscurlane::Refusal>().is_some());
 }

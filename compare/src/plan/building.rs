@@ -183,33 +183,8 @@ fn wrong_lengths(plan: &mut Plan) {
         let fields = sample::short_fields(&mut plan.random, kind, Signed::No);
         let bytes = fields.concat();
         let right: Vec<u64> = fields.iter().map(|field| field.len() as u64).collect();
-        let last = right.len() - 1;
-
-        let mut lists = vec![Vec::new(), vec![bytes.len() as u64], vec![0; right.len()]];
-        for change in [|length: &mut u64| *length += 1, |length: &mut u64| *length -= 1] {
-            for index in [0, 1, 2] {
-                let mut list = right.clone();
-                change(&mut list[index]);
-                lists.push(list);
-            }
-        }
-        // The sum is right and the places are wrong.
-        let mut moved = right.clone();
-        moved[0] -= 1;
-        moved[1] += 1;
-        lists.push(moved);
-        lists.push(right.iter().rev().copied().collect());
-        // One too few and one too many, the sum still right.
-        let mut fewer = right.clone();
-        fewer[last - 1] += fewer[last];
-        fewer.pop();
-        lists.push(fewer);
-        lists.push([&right[..], &[0]].concat());
-        lists.push([&[0], &right[..]].concat());
-        // The same with the sum wrong too.
-        lists.push(right[..last].to_vec());
-        lists.push([&right[..], &right[..]].concat());
-        for list in lists {
+        let plain = [Vec::new(), vec![bytes.len() as u64], vec![0; right.len()]];
+        for list in plain.into_iter().chain(changed_lengths(&right)).chain(other_numbers(&right)) {
             plan.build_of(AMPLE, kind.name(), bytes.clone(), &list);
         }
         let mut shorter = bytes.clone();
@@ -219,6 +194,38 @@ fn wrong_lengths(plan: &mut Plan) {
         plan.build_of(AMPLE, kind.name(), Vec::new(), &right);
         plan.build_of(AMPLE, kind.name(), Vec::new(), &[]);
     }
+}
+
+/// As many lengths as are right: the sum is wrong by one, or it is right and the places are wrong.
+fn changed_lengths(right: &[u64]) -> Vec<Vec<u64>> {
+    let mut lists = Vec::new();
+    for change in [|length: &mut u64| *length += 1, |length: &mut u64| *length -= 1] {
+        for index in [0, 1, 2] {
+            let mut list = right.to_vec();
+            change(&mut list[index]);
+            lists.push(list);
+        }
+    }
+    let mut moved = right.to_vec();
+    moved[0] -= 1;
+    moved[1] += 1;
+    lists.push(moved);
+    lists.push(right.iter().rev().copied().collect());
+    lists
+}
+
+/// Too few lengths and too many: the sum is still right in the first three lists, and wrong in the others.
+fn other_numbers(right: &[u64]) -> [Vec<u64>; 5] {
+    let last = right.len() - 1;
+    let mut fewer = right[..last].to_vec();
+    fewer[last - 1] += right[last];
+    [
+        fewer,
+        [right, &[0]].concat(),
+        [&[0], right].concat(),
+        right[..last].to_vec(),
+        [right, right].concat(),
+    ]
 }
 
 /// Lengths whose sum is right only after it has wrapped round.

@@ -73,9 +73,13 @@ pub fn by_rows(plan: &mut Plan) {
         let fields = sample::short_fields(&mut plan.random, kind, Signed::No);
         let record = sample::of_kind(kind, &fields);
         let (row, count) = (kind as u64, fields.len() as u64);
-        for (from, to, wanted) in
-            [(3, 7, 1), (row, row + 1, count), (row, u64::MAX, count + 1), (row + 1, 7, 1), (0, row, 2)]
-        {
+        for (from, to, wanted) in [
+            (3, 7, 1),
+            (row, row + 1, count),
+            (row, u64::MAX, count + 1),
+            (row + 1, 7, 1),
+            (0, row, 2),
+        ] {
             plan.with(Op::PlaceOf, from, record.clone(), &[to, wanted]);
         }
         let damaged = sample::faulty(&mut plan.random, kind, &[Fault::Check]);

@@ -18,6 +18,7 @@ pub fn add(plan: &mut Plan) {
     damaged(plan);
     damaged_inside(plan);
     wrong_types(plan);
+    records_inside(plan);
     half_signed(plan);
     field_counts(plan);
     marks(plan);
@@ -118,6 +119,14 @@ fn longest(plan: &mut Plan) {
 }
 
 fn shortest(plan: &mut Plan) {
+    few_bytes(plan);
+    for kind in Kind::ALL {
+        names_and_marks(plan, kind);
+    }
+}
+
+/// Up to 12 bytes, and names that are no kind's.
+fn few_bytes(plan: &mut Plan) {
     for length in 0..=12 {
         let bytes = plan.random.bytes(length);
         plan.read_both(bytes);
@@ -134,28 +143,28 @@ fn shortest(plan: &mut Plan) {
             plan.call(op, sample::sealed([name, mark].concat().as_bytes()));
         }
     }
-    for kind in Kind::ALL {
-        let name = kind.name();
-        let (own, other) = match kind.mark() {
-            b':' => (":", "|"),
-            _ => ("|", ":"),
-        };
-        for end in ["", own, other] {
-            plan.read_both([name, end].concat());
-        }
-        for end in ["x", "0", "AB", "ABC", "ABCD", "0000", "abcd", "ABCDE"] {
-            plan.call(reader(kind), [name, own, end].concat());
-        }
-        plan.call(reader(kind), [name, other, "x"].concat());
-        for marks in [own, other, &own.repeat(2), &[own, other].concat(), &[other, own].concat()] {
-            plan.call(reader(kind), sample::sealed([name, marks].concat().as_bytes()));
-        }
-        for name in
-            [&name[1..], &name[..name.len() - 1], &name.to_lowercase(), &[" ", name].concat()]
-        {
-            let fields = sample::fields(&mut plan.random, kind, Signed::No);
-            plan.call(reader(kind), sample::join(name.as_bytes(), kind.mark(), &fields));
-        }
+}
+
+/// A kind's name with its own mark and the other one, with nothing or little after it, and names that are nearly its own.
+fn names_and_marks(plan: &mut Plan, kind: Kind) {
+    let name = kind.name();
+    let (own, other) = match kind.mark() {
+        b':' => (":", "|"),
+        _ => ("|", ":"),
+    };
+    for end in ["", own, other] {
+        plan.read_both([name, end].concat());
+    }
+    for end in ["x", "0", "AB", "ABC", "ABCD", "0000", "abcd", "ABCDE"] {
+        plan.call(reader(kind), [name, own, end].concat());
+    }
+    plan.call(reader(kind), [name, other, "x"].concat());
+    for marks in [own, other, &own.repeat(2), &[own, other].concat(), &[other, own].concat()] {
+        plan.call(reader(kind), sample::sealed([name, marks].concat().as_bytes()));
+    }
+    for name in [&name[1..], &name[..name.len() - 1], &name.to_lowercase(), &[" ", name].concat()] {
+        let fields = sample::fields(&mut plan.random, kind, Signed::No);
+        plan.call(reader(kind), sample::join(name.as_bytes(), kind.mark(), &fields));
     }
 }
 
@@ -225,7 +234,10 @@ fn wrong_types(plan: &mut Plan) {
         let empty = vec![Vec::new(); kind.fields().len()];
         plan.call(reader(kind), sample::of_kind(kind, &empty));
     }
-    // A whole record is no identity.
+}
+
+/// A whole record is no identity, with its own marks or an identity's.
+fn records_inside(plan: &mut Plan) {
     for (kind, inner) in [(Kind::PkEcdh, Kind::VkloadResp), (Kind::VkloadResp, Kind::PkEcdh)] {
         let mut fields = sample::fields(&mut plan.random, kind, Signed::No);
         fields[0] = sample::record(&mut plan.random, inner);
@@ -302,55 +314,71 @@ fn marks(plan: &mut Plan) {
     }
 }
 
-/// Checks that a plausible error would take for right.
+/// Checks that are not the record's.
 fn checks(plan: &mut Plan) {
     for kind in Kind::ALL {
-        let record = loop {
-            let fields = sample::short_fields(&mut plan.random, kind, Signed::No);
-            let record = sample::of_kind(kind, &fields);
-            if record[record.len() - 4..].iter().any(u8::is_ascii_uppercase) {
-                break record;
-            }
-        };
+        let record = with_a_letter_in_its_check(plan, kind);
         let (body, check) = record.split_at(record.len() - 4);
-        let sum = crc16(body);
-        let fields_only: Vec<u8> =
-            body[kind.name().len()..].iter().copied().filter(|&byte| byte != kind.mark()).collect();
-        let without_marks: Vec<u8> =
-            body.iter().copied().filter(|&byte| byte != kind.mark()).collect();
-        for sum in [
-            sum.swap_bytes(),
-            sum.reverse_bits(),
-            sum ^ 0xFFFF,
-            crc16(&fields_only),
-            crc16(&without_marks),
-            crc16(&body[kind.name().len()..]),
-            crc16(&body[kind.name().len() + 1..]),
-            crc16(&body[..body.len() - 1]),
-            crc16(&record),
-            0,
-        ] {
+        for sum in mistaken_sums(kind, &record) {
             plan.call(reader(kind), [body, check_text(sum).as_bytes()].concat());
         }
-        let mut changed = Vec::new();
-        for index in 0..4 {
-            let mut wrong = check.to_vec();
-            wrong[index] = plan.random.one_of(b"gG:|@/` \n\0\x80");
-            changed.push(wrong);
-        }
-        changed.push(check.to_ascii_lowercase());
-        changed.push(check.iter().rev().copied().collect());
-        changed.push(check[1..].to_vec());
-        changed.push(Vec::new());
-        changed.push([check, check].concat());
-        changed.push([b"0", check].concat());
-        for end in ["\n", "\r", "\0", "0", "|"] {
-            changed.push([check, end.as_bytes()].concat());
-        }
-        for check in changed {
+        for check in changed_checks(plan, check) {
             plan.call(reader(kind), [body, &check].concat());
         }
     }
+}
+
+/// A record whose check is another one in lower case.
+fn with_a_letter_in_its_check(plan: &mut Plan, kind: Kind) -> Vec<u8> {
+    loop {
+        let fields = sample::short_fields(&mut plan.random, kind, Signed::No);
+        let record = sample::of_kind(kind, &fields);
+        if record[record.len() - 4..].iter().any(u8::is_ascii_uppercase) {
+            return record;
+        }
+    }
+}
+
+/// Sums that a plausible error would take for the record's.
+fn mistaken_sums(kind: Kind, record: &[u8]) -> [u16; 10] {
+    let body = &record[..record.len() - 4];
+    let sum = crc16(body);
+    let name = kind.name().len();
+    let without_marks = |bytes: &[u8]| -> Vec<u8> {
+        bytes.iter().copied().filter(|&byte| byte != kind.mark()).collect()
+    };
+    [
+        sum.swap_bytes(),
+        sum.reverse_bits(),
+        sum ^ 0xFFFF,
+        crc16(&without_marks(&body[name..])),
+        crc16(&without_marks(body)),
+        crc16(&body[name..]),
+        crc16(&body[name + 1..]),
+        crc16(&body[..body.len() - 1]),
+        crc16(record),
+        0,
+    ]
+}
+
+/// The check with a wrong character, in lower case, backwards, too short, and too long.
+fn changed_checks(plan: &mut Plan, check: &[u8]) -> Vec<Vec<u8>> {
+    let mut changed = Vec::new();
+    for index in 0..4 {
+        let mut wrong = check.to_vec();
+        wrong[index] = plan.random.one_of(b"gG:|@/` \n\0\x80");
+        changed.push(wrong);
+    }
+    changed.push(check.to_ascii_lowercase());
+    changed.push(check.iter().rev().copied().collect());
+    changed.push(check[1..].to_vec());
+    changed.push(Vec::new());
+    changed.push([check, check].concat());
+    changed.push([b"0", check].concat());
+    for end in ["\n", "\r", "\0", "0", "|"] {
+        changed.push([check, end.as_bytes()].concat());
+    }
+    changed
 }
 
 /// Bytes of 128 and up, line feeds, NULs and the like in every field, under a right check.

@@ -5,21 +5,28 @@
 use compare::file::{self, Step};
 use compare::refusal::Refusal as Expected;
 use obscurlane::{Kind, Line, Refusal};
+use std::fmt::Debug;
 use std::num::NonZeroU8;
 use std::ops::RangeInclusive;
 
 const USUAL: usize = 3000;
 
-/// How many inputs each call is given: `OBSCURLANE_ROUNDS`, and 3,000 where it is not set.
+/// How many inputs each call is given, one at least: `OBSCURLANE_ROUNDS`, and 3,000 where it is not set.
 pub fn rounds() -> usize {
     let named = std::env::var("OBSCURLANE_ROUNDS").ok();
-    named.map_or(USUAL, |rounds| rounds.parse().expect("OBSCURLANE_ROUNDS is a number"))
+    let rounds = named.map(|rounds| rounds.parse().expect("OBSCURLANE_ROUNDS is a number"));
+    rounds.unwrap_or(USUAL).max(1)
 }
 
 /// That so many of the rounds lie within a share, in percent; fewer rounds than the usual need not.
 pub fn expect_share(percent: RangeInclusive<usize>, times: usize, what: &str) {
-    let share = 100 * times / rounds();
-    assert!(rounds() < USUAL || percent.contains(&share), "{share} % {what}");
+    expect_share_of(rounds(), percent, times, what);
+}
+
+/// The same of a number that is not the rounds', but grows with it.
+pub fn expect_share_of(all: usize, percent: RangeInclusive<usize>, times: usize, what: &str) {
+    let is_within = || percent.contains(&(100 * times / all));
+    assert!(rounds() < USUAL || is_within(), "{times} of {all} {what}");
 }
 
 /// A refusal's number, and the number of the field that it is about, 0 where it is about none.
@@ -33,6 +40,36 @@ pub fn numbers<T>(answer: Result<T, Refusal>) -> Result<T, Numbers> {
 /// The answer of `compare/`.
 pub fn expected<T>(answer: Result<T, Expected>) -> Result<T, Numbers> {
     answer.map_err(|refusal| (refusal.number(), refusal.field()))
+}
+
+/// Lends both sides an output of this room: they give the same answer, and leave the same bytes. Gives back the answer, and
+/// whether anything was written.
+pub fn same_output<T: PartialEq + Debug>(
+    room: usize,
+    ours: impl FnOnce(&mut [u8]) -> T,
+    theirs: impl FnOnce(&mut [u8]) -> T,
+    input: &impl Debug,
+) -> (T, bool) {
+    let lent: Vec<u8> = (0..room).map(|index| index as u8 ^ 0xA5).collect();
+    let (mut out, mut wanted) = (lent.clone(), lent.clone());
+    let answer = ours(&mut out);
+    assert_eq!(answer, theirs(&mut wanted), "{input:?}");
+    assert_eq!(out, wanted, "{input:?}");
+    (answer, out != lent)
+}
+
+/// The same for calls that may refuse: a refused one leaves its output.
+pub fn same_result(
+    room: usize,
+    ours: impl FnOnce(&mut [u8]) -> Result<usize, Refusal>,
+    theirs: impl FnOnce(&mut [u8]) -> Result<usize, Expected>,
+    input: &impl Debug,
+) -> Result<usize, Numbers> {
+    let (ours, theirs) =
+        (|out: &mut [u8]| numbers(ours(out)), |out: &mut [u8]| expected(theirs(out)));
+    let (answer, is_written) = same_output(room, ours, theirs, input);
+    assert!(answer.is_ok() || !is_written, "refused, and its output is written: {input:?}");
+    answer
 }
 
 /// The same part of the same bytes, not only equal ones.
