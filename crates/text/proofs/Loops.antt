@@ -1,6 +1,6 @@
 -- A turn of each loop: what a test of lists says from place i on.
 -- Assumes nothing.
-use Prim.Native.Nat.{ℕ, suc, _+_, _-_, _*_, _≤_, _<_, compare·suc-suc}
+use Prim.Native.Nat.{ℕ, suc, _+_, _-_, _*_, _≤_, _<_}
 use mathlib.Core.Path.{_≡_, refl, sym, ap, _∙_}
 use mathlib.Core.Bool.{Bool, true, false, _&&_}
 use mathlib.Core.List.{[], _∷_}
@@ -9,7 +9,6 @@ use native.Mathlib.Numerals.{add-one}
 use lib.ListN.{length, take, drop, getD, drop-of-length-le, length-drop}
 use lib.Seq.{drop-cons, take-all}
 use lib.Dec.{eqb}
-use borrow.Author.Tests.{ne-eqb}
 use Rattle.text.specs.Text.{Bytes, every, same, fits, looks, number, numberFrom, part, year}
 
 -- the part from i to the end, as code takes it
@@ -26,37 +25,17 @@ and-yes : (a b : Bool) → b ≡ true → (a && b) ≡ a
 and-yes true b e = e
 and-yes false b e = refl
 
--- n of the bytes before place i are good: where these are all of them, what is left decides
-pub record Counted (p : ℕ → Bool) (s : Bytes) (n i : ℕ) : Type 0 where
-  pub decides : (eqb n i && every p (drop i s)) ≡ every p s
-  pub few : n ≤ i
-  pub within : i ≤ length s
+and-and : (a b c : Bool) → ((a && b) && c) ≡ (a && (b && c))
+and-and true b c = refl
+and-and false b c = refl
 
-pub counted-none : (p : ℕ → Bool) (s : Bytes) → Counted p s 0 0
-counted-none p s = record { decides = refl; few = omega arith; within = omega arith }
+-- `all` says what holds of the bytes before place i, and what is left decides
+module _ (p : ℕ → Bool) (s : Bytes) (i : ℕ) (all : Bool) (so : (all && every p (drop i s)) ≡ every p s) where
+  pub every-on : i < length s → ((all && p (getD s i 0)) && every p (drop (i + 1) s)) ≡ every p s
+  every-on h = and-and all (p (getD s i 0)) (every p (drop (i + 1) s)) ∙ ap (λ (b : Bool). all && b) (rw (drop-cons s i 0 h, add-one)) ∙ so
 
-module _ (p : ℕ → Bool) (s : Bytes) (n i : ℕ) (c : Counted p s n i) where
-  module _ (h : i < length s) where
-    pub counted-bad : p (getD s i 0) ≡ false → Counted p s n (i + 1)
-    counted-bad e =
-        record {
-          decides = rw (ne-eqb n (i + 1) (λ q. absurd (omega (arith, q, c .few)))) (sym (and-no (eqb n i) (every p (drop i s)) (rw (drop-cons s i 0 h, e))) ∙ c .decides);
-          few = omega (arith, c .few);
-          within = omega arith;
-        }
-
-    pub counted-good : p (getD s i 0) ≡ true → Counted p s (n + 1) (i + 1)
-    counted-good e =
-        record {
-          decides = rw (add-one n, add-one i, compare·suc-suc n i) (ap (λ (b : Bool). eqb n i && b) (rw (drop-cons s i 0 h, e)) ∙ c .decides);
-          few = omega (arith, c .few);
-          within = omega arith;
-        }
-
-  pub counted-all : length s ≤ i → eqb n (length s) ≡ every p s
-  counted-all h =
-      let q : i ≡ length s = omega (arith, c .within) in
-      rw (← q) (sym (and-yes (eqb n i) (every p (drop i s)) (rw (drop-of-length-le s h))) ∙ c .decides)
+  pub every-end : length s ≤ i → all ≡ every p s
+  every-end h = sym (and-yes all (every p (drop i s)) (rw (drop-of-length-le s h))) ∙ so
 
 -- ---- two lists, byte against byte: `same` and `looks` are such tests
 

@@ -79,18 +79,15 @@ fn does_belong(alphabet: Alphabet, c: u8) -> bool
     }
 }
 
-// Every character of s belongs to the alphabet. Those that do are counted, without an early end, so that LLVM takes many
-// characters at once.
+// Every character of s belongs to the alphabet. The loop has no early end, so that LLVM takes many characters at once.
 pub(crate) fn all_belong(alphabet: Alphabet, s: &[u8]) -> bool
     ensures { λ r. ⌜ r ≡ every (belongs alphabet) (now (s .entry)) ⌝ }
 {
-    let mut n: usize = 0;
+    let mut all = true;
     let mut i: usize = 0;
     while i < s.len() {
-        if does_belong(alphabet, s[i]) {
-            n += 1;
-        }
+        all = all & does_belong(alphabet, s[i]);
         i += 1;
     }
-    n == s.len()
+    all
 }
