@@ -2,7 +2,7 @@
 -- Assumes nothing.
 use Prim.Native.Nat.{ℕ, _≤_}
 use mathlib.Core.Path.{_≡_, refl, ap, sym, _∙_}
-use mathlib.Core.Option.{some}
+use mathlib.Core.Option.{some, Option·none-ne-some, Option·some-injective}
 use mathlib.Core.List.{List, [], _∷_}
 use native.Mathlib.Omega.{arith}
 use lib.ListN.{length}
@@ -14,13 +14,10 @@ use Rattle.format.proofs.Table.{every-kind}
 use Rattle.table.specs.Table.{named}
 
 pub named-some : (ks : List Kind) (t : Bytes) (k : Kind) → named ks t ≡ some k → t ≡ name k
-named-some [] t k e = absurd (let z : _≡_ {A = ℕ} 0 1 = cc in omega arith)
+named-some [] t k e = absurd (Option·none-ne-some k e)
 named-some (j ∷ ks) t k e =
     by-test (same t (name j))
-    (λ h.
-    let e₁ : some j ≡ some k = sym (cond-yes (same t (name j)) (some j) (named ks t) h) ∙ e in
-    let e₂ : j ≡ k = cc in
-    same→eq t (name j) h ∙ ap name e₂)
+    (λ h. same→eq t (name j) h ∙ ap name (Option·some-injective j k (sym (cond-yes (same t (name j)) (some j) (named ks t) h) ∙ e)))
     (λ h. named-some ks t k (sym (cond-no (same t (name j)) (some j) (named ks t) h) ∙ e))
 
 pub named-known : (k : Kind) → named allKinds (name k) ≡ some k

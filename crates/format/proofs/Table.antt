@@ -4,7 +4,7 @@ use Prim.Native.Nat.{ℕ, zero, suc, _+_, _≤_}
 use Prim.Native.Char.{code}
 use mathlib.Core.Path.{_≡_, refl, sym, ap, _∙_, subst}
 use mathlib.Core.Logic.{⊎-elim}
-use mathlib.Core.Option.{Option, some}
+use mathlib.Core.Option.{Option, some, Option·none-ne-some, Option·some-injective}
 use mathlib.Core.Bool.{Bool, not, cond, _&&_}
 use mathlib.Core.List.{List, [], _∷_, map}
 use native.Mathlib.Omega.{arith}
@@ -59,12 +59,11 @@ all-among P (j ∷ ks) h k t =
 -- ---- the kind of a name and a mark
 
 pub kindIn-some : (ks : List Kind) (t : Bytes) (m : ℕ) (k : Kind) → kindIn ks t m ≡ some k → T (among k ks) × (t ≡ name k) × (m ≡ mark k)
-kindIn-some [] t m k e = absurd (let z : _≡_ {A = ℕ} 0 1 = cc in omega arith)
+kindIn-some [] t m k e = absurd (Option·none-ne-some k e)
 kindIn-some (j ∷ ks) t m k e =
     by-test (same t (name j) && eqb m (mark j))
     (λ h.
-    let e₁ : some j ≡ some k = rw (T-true (same t (name j) && eqb m (mark j)) h) at e in
-    let e₂ : j ≡ k = cc in
+    let e₂ : j ≡ k = Option·some-injective j k (rw (T-true (same t (name j) && eqb m (mark j)) h) at e) in
     let h′ = and-yes (same t (name j)) (eqb m (mark j)) h in
     rw (← e₂) (or-left (same (name j) (name j)) (among j ks) (same-refl (name j)), same→eq t (name j) (h′ .0), eqb→eq m (mark j) (h′ .1)))
     (λ h.

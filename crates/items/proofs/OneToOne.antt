@@ -3,7 +3,7 @@
 use Prim.Native.Nat.{ℕ, zero, suc, _+_, _≤_, _<_}
 use mathlib.Core.Path.{_≡_, refl, sym, ap, ap₂, _∙_, subst}
 use mathlib.Core.Logic.{_↔_}
-use mathlib.Core.Option.{Option, none, some}
+use mathlib.Core.Option.{Option, none, some, Option·none-ne-some}
 use mathlib.Core.List.{List, [], _∷_, _++_}
 use native.Mathlib.Omega.{arith}
 use lib.Dec.{T, leb, leb→le, le→leb}
@@ -32,11 +32,8 @@ concat-inj is js e =
 
 -- ---- what is read was built
 
-none-some : {X : Type 0} {x : X} → none ≡ some x → ⊥
-none-some e = let z : _≡_ {A = ℕ} 0 1 = cc in omega arith
-
 after-some : (t : Bytes) (o : Option (List Bytes)) (is : List Bytes) → after t o ≡ some is → (js : List Bytes) × (o ≡ some js) × (is ≡ t ∷ js)
-after-some t none is e = absurd (none-some e)
+after-some t none is e = absurd (Option·none-ne-some is e)
 after-some t (some js) is e = (js, refl, cc)
 
 record Read (n : ℕ) (s : Bytes) (is : List Bytes) : Type 0 where
@@ -46,8 +43,8 @@ record Read (n : ℕ) (s : Bytes) (is : List Bytes) : Type 0 where
 
 items-sound : (n : ℕ) (s : Bytes) (is : List Bytes) → AreBytes s → itemsIn n s ≡ some is → Read n s is
 items-sound zero [] is b e = let e′ : [] ≡ is = cc in subst (Read 0 []) e′ (record { count = refl; bytes = refl; short = tt })
-items-sound zero (c ∷ s) is b e = absurd (none-some e)
-items-sound (suc n) [] is b e = absurd (none-some e)
+items-sound zero (c ∷ s) is b e = absurd (Option·none-ne-some is e)
+items-sound (suc n) [] is b e = absurd (Option·none-ne-some is e)
 items-sound (suc n) (l ∷ s) is b e =
     by-test (leb l (length s))
     (λ t.
@@ -60,10 +57,10 @@ items-sound (suc n) (l ∷ s) is b e =
       bytes = ap₂ {C = Bytes} (λ (m : ℕ) (x : Bytes). m ∷ x) (sym u) (sym (take-append-drop l s) ∙ ap (λ (x : Bytes). take l s ++ x) (r .bytes));
       short = yes-and (leb (length (take l s)) 255) (shortItems js) (le→leb (length (take l s)) 255 (omega (arith, b 0))) (r .short);
     }))
-    (λ t. absurd (none-some (sym (cond-no (leb l (length s)) _ none t) ∙ e)))
+    (λ t. absurd (Option·none-ne-some is (sym (cond-no (leb l (length s)) _ none t) ∙ e)))
 
 pub items-exact : (s : Bytes) (is : List Bytes) → AreBytes s → (itemsOf s ≡ some is) ↔ (T (concats is) × (s ≡ lvConcat is))
-items-exact [] is b = (λ e. absurd (none-some e), λ h. ap itemsOf (h .1) ∙ items-back is)
+items-exact [] is b = (λ e. absurd (Option·none-ne-some is e), λ h. ap itemsOf (h .1) ∙ items-back is)
 items-exact (n ∷ s) is b = (
   λ e.
       let r = items-sound n s is (λ k. b (suc k)) e in (
@@ -74,7 +71,7 @@ items-exact (n ∷ s) is b = (
 )
 
 nth-among : (n : ℕ) (o : Option (List Bytes)) (x : Bytes) → nthOf n o ≡ some x → (is : List Bytes) × (o ≡ some is) × (nth n is ≡ some x)
-nth-among n none x e = absurd (none-some e)
+nth-among n none x e = absurd (Option·none-ne-some x e)
 nth-among n (some is) x e = (is, refl, e)
 
 -- an item is handed back exactly of a text that LVCONCAT writes, and it is that list's item n

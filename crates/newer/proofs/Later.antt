@@ -11,7 +11,7 @@ use lib.Seq.{drop-drop}
 use lib.Dec.{T, eqb, eqb→eq}
 use mir.Facts.{and-yes, yes-and}
 use Rattle.text.specs.Text.{Bytes, ascii, oneOf, every, part, decimal, fits, looks, numberFrom, number, isTimestamp}
-use Rattle.text.proofs.Tests.{T-true, cond-yes, cond-no, between-low, between-high}
+use Rattle.text.proofs.Tests.{cond-yes, cond-no, between-low, between-high}
 use Rattle.text.proofs.Loops.{looks-pairwise, pairwise-length}
 use Rattle.newer.specs.Newer.{instant, after, later}
 use Rattle.newer.proofs.Order.{by-order, after-less, after-equal, after-more}
@@ -112,7 +112,7 @@ module _ (p s t : Bytes) (hs : T (looks p s)) (ht : T (looks p t)) where
   looks-part i n r h = looks-take n (drop i p) (drop i r) (looks-drop i p r h)
 
   as-long : (i n : ℕ) (r : Bytes) → T (looks p r) → length (part i n p) ≡ length (part i n r)
-  as-long i n r h = pairwise-length fits looks looks-pairwise (part i n p) (part i n r) (T-true _ (looks-part i n r h))
+  as-long i n r h = pairwise-length fits looks looks-pairwise (part i n p) (part i n r) (looks-part i n r h)
 
   number-at : (i n : ℕ) → T (every (λ q. not (literal q)) (part i n p)) → (xs ys : List ℕ)
       → after (drop (i + n) s) (drop (i + n) t) ≡ after xs ys

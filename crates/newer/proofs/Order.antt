@@ -3,7 +3,7 @@
 -- Assumes nothing.
 use Prim.Native.Nat.{ℕ, suc, _+_, _≤_, _<_}
 use mathlib.Core.Path.{_≡_, refl, sym, ap₂, _∙_}
-use mathlib.Core.Bool.{true, false, true≢false, false≢true}
+use mathlib.Core.Bool.{true, false, true≢false, false≢true, or-false}
 use mathlib.Core.List.{List, [], _∷_}
 use native.Mathlib.Omega.{arith}
 use native.Mathlib.Numerals.{add-one}
@@ -12,7 +12,7 @@ use lib.Seq.{drop-cons}
 use lib.Dec.{ltb, ltb→lt, nltb→le}
 use borrow.Author.Tests.{lt-ltb, le-ltb, eq-eqb, ne-eqb}
 use Rattle.text.specs.Text.{Bytes}
-use Rattle.text.proofs.Tests.{by-test, or-last}
+use Rattle.text.proofs.Tests.{by-test}
 use Rattle.newer.specs.Newer.{after}
 
 pub by-order {ℓ} : {X : Type ℓ} (x y : ℕ) → (x < y → X) → (x ≡ y → X) → (y < x → X) → X
@@ -66,7 +66,7 @@ module _ (s t : Bytes) (i : ℕ) where
   turn-longer h k = rw (drop-cons s i 0 h, drop-of-length-le t k)
 
   pub turn-apart : i < length s → i < length t → (getD s i 0 ≡ getD t i 0 → ⊥) → after (drop i s) (drop i t) ≡ ltb (getD t i 0) (getD s i 0)
-  turn-apart h k n = rw (drop-cons s i 0 h, drop-cons t i 0 k, ne-eqb (getD s i 0) (getD t i 0) n) (or-last (ltb (getD t i 0) (getD s i 0)))
+  turn-apart h k n = rw (drop-cons s i 0 h, drop-cons t i 0 k, ne-eqb (getD s i 0) (getD t i 0) n) (or-false (ltb (getD t i 0) (getD s i 0)))
 
   pub turn-on : i < length s → i < length t → getD s i 0 ≡ getD t i 0 → after (drop (i + 1) s) (drop (i + 1) t) ≡ after (drop i s) (drop i t)
   turn-on h k e = rw (drop-cons s i 0 h, drop-cons t i 0 k, add-one) (sym (after-equal (getD s i 0) (getD t i 0) (drop (suc i) s) (drop (suc i) t) e))

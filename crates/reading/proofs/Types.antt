@@ -2,14 +2,14 @@
 -- Assumes nothing.
 use Prim.Native.Nat.{ℕ, zero, suc, _≤_, _<_}
 use mathlib.Core.Path.{_≡_, refl, ap, sym, _∙_}
-use mathlib.Core.Bool.{Bool, true, false, cond, _&&_}
+use mathlib.Core.Bool.{Bool, true, false, true≢false, false≢true, cond, _&&_, and-true, and-false}
 use mathlib.Core.List.{List, [], _∷_}
 use native.Mathlib.Omega.{arith}
 use lib.ListN.{length, getD}
 use lib.Dec.{T}
 use borrow.Author.Tests.{le-leb}
 use Rattle.text.specs.Text.{Bytes, Ident, isOf}
-use Rattle.text.proofs.Tests.{and-stop, and-last, cond-yes}
+use Rattle.text.proofs.Tests.{and-stop, cond-yes}
 use Rattle.format.specs.Kinds.{Kind, Field, Text, Identity, OrEmpty, identityFields}
 use Rattle.format.specs.Build.{empty}
 use Rattle.format.specs.Read.{Outcome, fieldAnswer, identityAnswer}
@@ -33,9 +33,6 @@ empty-no (c ∷ f) h = refl
 
 -- ---- what a field type answers
 
-true-false : true ≡ false → ⊥
-true-false e = let z : _≡_ {A = ℕ} 0 1 = cc in omega arith
-
 module _ (ask : Bytes → Outcome) (f : Bytes) where
   pub answer-empty : (t : Field) → T (empty f) → T (mayBeEmpty t) → fieldAnswer ask t f ≡ 0
   unfolding fieldAnswer
@@ -45,15 +42,15 @@ module _ (ask : Bytes → Outcome) (f : Bytes) where
 
   pub answer-identity : (t : Field) → (empty f && mayBeEmpty t) ≡ false → isIdentity t ≡ true → fieldAnswer ask t f ≡ identityAnswer (permitted t) (ask f)
   unfolding fieldAnswer
-  answer-identity (Text t) h e = absurd (true-false (sym e))
+  answer-identity (Text t) h e = absurd (false≢true e)
   answer-identity (Identity ks) h e = refl
-  answer-identity (OrEmpty t) h e = let n = sym (and-last (empty f)) ∙ h in rw n (answer-identity t (and-stop (empty f) (mayBeEmpty t) n) e)
+  answer-identity (OrEmpty t) h e = let n = sym (and-true (empty f)) ∙ h in rw n (answer-identity t (and-stop (empty f) (mayBeEmpty t) n) e)
 
   pub answer-text : (t : Field) → (empty f && mayBeEmpty t) ≡ false → isIdentity t ≡ false → fieldAnswer ask t f ≡ cond (isOf (textIn t) f) 0 6
   unfolding fieldAnswer
   answer-text (Text t) h e = refl
-  answer-text (Identity ks) h e = absurd (true-false e)
-  answer-text (OrEmpty t) h e = let n = sym (and-last (empty f)) ∙ h in rw n (answer-text t (and-stop (empty f) (mayBeEmpty t) n) e)
+  answer-text (Identity ks) h e = absurd (true≢false e)
+  answer-text (OrEmpty t) h e = let n = sym (and-true (empty f)) ∙ h in rw n (answer-text t (and-stop (empty f) (mayBeEmpty t) n) e)
 
 -- ---- the fields of an identity are texts
 
@@ -75,17 +72,13 @@ pub plain-answer : (ask : Bytes → Outcome) (row j code : ℕ) (f : Bytes) → 
 plain-answer ask row j code f h t =
     let e : fieldType code ≡ getD identityFields j (Text Ident) = t .means ∙ ap (λ (l : List Field). getD l j (Text Ident)) (identity-row row h) in
     answer-text ask f (fieldType code)
-    (and-none (empty f) (mayBeEmpty (fieldType code)) (ap mayBeEmpty e ∙ plain-field j .1))
+    (rw (ap mayBeEmpty e ∙ plain-field j .1) (and-false (empty f)))
     (ap isIdentity e ∙ plain-field j .0)
-  where
-    and-none : (a b : Bool) → b ≡ false → (a && b) ≡ false
-    and-none true b z = z
-    and-none false b z = refl
 
 -- ---- a code that is none of TIMESTAMP to SIG_OR_EMPTY is as IDENT where a text is asked for
 
 identity-text : (t : Field) → isIdentity t ≡ true → textIn t ≡ Ident
-identity-text (Text t) e = absurd (true-false (sym e))
+identity-text (Text t) e = absurd (false≢true e)
 identity-text (Identity ks) e = refl
 identity-text (OrEmpty t) e = identity-text t e
 

@@ -2,7 +2,7 @@
 -- Assumes nothing.
 use Prim.Native.Nat.{ℕ, _+_, _≤_, _<_}
 use mathlib.Core.Path.{_≡_, refl, sym, ap, _∙_}
-use mathlib.Core.Bool.{Bool, true, false, cond, _&&_, _||_, Bool·beq}
+use mathlib.Core.Bool.{Bool, true, false, cond, _||_, Bool·beq, and-false}
 use mathlib.Core.List.{List, [], _∷_}
 use native.Mathlib.Omega.{arith}
 use lib.ListN.{length, List·getD-eq-default}
@@ -30,10 +30,6 @@ by-code p q t r c =
     less-or c noCode
     (λ h. same-bools (q c) (p (fieldType c)) (below noCode (λ n. Bool·beq (q n) (p (fieldType n))) t c h))
     (λ h. r c h ∙ ap p (sym (past-codes c h)))
-
-and-false : (b : Bool) → (b && false) ≡ false
-and-false true = refl
-and-false false = refl
 
 pub identity-codes : (code : ℕ) → between 6 10 code ≡ isIdentity (fieldType code)
 unfolding allBelow fieldType

@@ -2,7 +2,7 @@
 -- Assumes nothing.
 use Prim.Native.Nat.{ℕ, _≤_, _<_}
 use mathlib.Core.Path.{_≡_, refl, sym, ap, ap₂, _∙_}
-use mathlib.Core.Bool.{Bool, true, false, _||_, Bool·beq}
+use mathlib.Core.Bool.{Bool, true, false, _||_, Bool·beq, or-false}
 use mathlib.Core.Option.{Option, none, some}
 use mathlib.Core.List.{List, [], _∷_, map}
 use native.Mathlib.Omega.{arith}
@@ -10,7 +10,7 @@ use lib.ListN.{getD, List·getD-eq-default}
 use lib.Dec.{T, eqb, ltb, eqb→eq, ltb→lt, nltb→le, lit<}
 use borrow.Author.Tests.{ne-eqb}
 use Rattle.text.specs.Text.{same}
-use Rattle.text.proofs.Tests.{allBelow, below, by-test, or-last}
+use Rattle.text.proofs.Tests.{allBelow, below, by-test}
 use Rattle.format.specs.Kinds.{Kind, SMMAN, SMID, KMCID, ECDSA, ECDH, REQ, RESP, name, allKinds, pubkeyKinds, among}
 use Rattle.table.specs.Table.{rowOf, noRow, rowFor, ofRow, isPubkey, rowAmong}
 
@@ -111,7 +111,7 @@ same-names k j =
     alike a b = Bool·beq (same (name (kindAt a)) (name (kindAt b))) (eqb a b)
 
 pub among-one : (k j : Kind) → T (among k (j ∷ [])) → k ≡ j
-among-one k j t = row-inj k j (eqb→eq (rowOf k) (rowOf j) (rw (or-last, same-names k j) at t))
+among-one k j t = row-inj k j (eqb→eq (rowOf k) (rowOf j) (rw (or-false, same-names k j) at t))
 
 pub among-row : (k : Kind) (ks : List Kind) → rowAmong (rowOf k) ks ≡ among k ks
 among-row k [] = refl

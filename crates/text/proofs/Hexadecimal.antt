@@ -3,7 +3,7 @@
 use Prim.Native.Nat.{ℕ, zero, suc, _+_, _-_, _*_, _/_, _%_, _≤_, _<_}
 use mathlib.Core.Path.{_≡_, refl, sym, ap, ap₂, _∙_}
 use mathlib.Core.Logic.{_⊎_, inl, inr}
-use mathlib.Core.Bool.{Bool, true, false, _&&_}
+use mathlib.Core.Bool.{true, false, _&&_, and-false}
 use mathlib.Core.List.{[], _∷_}
 use native.Mathlib.Omega.{arith}
 use lib.Dec.{T, leb, eqb, eqb→eq}
@@ -64,13 +64,9 @@ valued c t = go (or-yes (decimal c) (between 65 70 c) t)
     go (inr d) =
         let l = between-low 65 70 c d in
         let h = between-high 65 70 c d in
-        let n : decimal c ≡ false = and-no (leb 48 c) (leb c 57) (lt-leb c 57 (omega arith)) in
+        let n : decimal c ≡ false = rw (lt-leb c 57 (omega arith)) (and-false (leb 48 c)) in
         let e : hexValue c ≡ 10 + (c - 65) = value-letter c n (T-true (between 65 70 c) d) in
         record { small = omega arith; back = digit-high (hexValue c) (omega arith) (omega arith) ∙ omega arith }
-      where
-        and-no : (a b : Bool) → b ≡ false → (a && b) ≡ false
-        and-no true b q = q
-        and-no false b q = refl
 
 -- ---- texts
 

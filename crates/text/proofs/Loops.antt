@@ -2,13 +2,14 @@
 -- Assumes nothing.
 use Prim.Native.Nat.{ℕ, suc, _+_, _-_, _*_, _≤_, _<_}
 use mathlib.Core.Path.{_≡_, refl, sym, ap, _∙_}
-use mathlib.Core.Bool.{Bool, true, false, _&&_}
+use mathlib.Core.Bool.{Bool, true, false, _&&_, and-true, and-false, and-assoc}
 use mathlib.Core.List.{[], _∷_}
 use native.Mathlib.Omega.{arith}
 use native.Mathlib.Numerals.{add-one}
 use lib.ListN.{length, take, drop, getD, drop-of-length-le, length-drop}
 use lib.Seq.{drop-cons, take-all}
-use lib.Dec.{eqb}
+use lib.Dec.{T, eqb}
+use mir.Facts.{and-yes}
 use Rattle.text.specs.Text.{Bytes, every, same, fits, looks, number, numberFrom, part, year}
 
 -- the part from i to the end, as code takes it
@@ -17,25 +18,13 @@ rest-all s i = take-all (length s - i) (drop i s) (omega (arith, length-drop i s
 
 -- ---- every byte
 
-and-no : (a b : Bool) → b ≡ false → (a && b) ≡ false
-and-no true b e = e
-and-no false b e = refl
-
-and-yes : (a b : Bool) → b ≡ true → (a && b) ≡ a
-and-yes true b e = e
-and-yes false b e = refl
-
-and-and : (a b c : Bool) → ((a && b) && c) ≡ (a && (b && c))
-and-and true b c = refl
-and-and false b c = refl
-
 -- `all` says what holds of the bytes before place i, and what is left decides
 module _ (p : ℕ → Bool) (s : Bytes) (i : ℕ) (all : Bool) (so : (all && every p (drop i s)) ≡ every p s) where
   pub every-on : i < length s → ((all && p (getD s i 0)) && every p (drop (i + 1) s)) ≡ every p s
-  every-on h = and-and all (p (getD s i 0)) (every p (drop (i + 1) s)) ∙ ap (λ (b : Bool). all && b) (rw (drop-cons s i 0 h, add-one)) ∙ so
+  every-on h = and-assoc all (p (getD s i 0)) (every p (drop (i + 1) s)) ∙ ap (λ (b : Bool). all && b) (rw (drop-cons s i 0 h, add-one)) ∙ so
 
   pub every-end : length s ≤ i → all ≡ every p s
-  every-end h = sym (and-yes all (every p (drop i s)) (rw (drop-of-length-le s h))) ∙ so
+  every-end h = sym (and-true all) ∙ (rw (drop-of-length-le s h) at so)
 
 -- ---- two lists, byte against byte: `same` and `looks` are such tests
 
@@ -58,17 +47,13 @@ module _ (p : ℕ → ℕ → Bool) (f : Bytes → Bytes → Bool) (w : Pairwise
   apart [] [] h = absurd (h refl)
   apart [] (y ∷ b) h = w .short y b
   apart (x ∷ a) [] h = w .long x a
-  apart (x ∷ a) (y ∷ b) h = w .both x y a b ∙ and-no (p x y) (f a b) (apart a b (λ (e : length a ≡ length b). h (rw e)))
+  apart (x ∷ a) (y ∷ b) h = w .both x y a b ∙ rw (apart a b (λ (e : length a ≡ length b). h (rw e))) (and-false (p x y))
 
-  pub pairwise-length : (a b : Bytes) → f a b ≡ true → length a ≡ length b
-  pairwise-length [] [] e = refl
-  pairwise-length [] (y ∷ b) e = absurd (let z : true ≡ false = sym e ∙ w .short y b in let o : _≡_ {A = ℕ} 0 1 = cc in omega arith)
-  pairwise-length (x ∷ a) [] e = absurd (let z : true ≡ false = sym e ∙ w .long x a in let o : _≡_ {A = ℕ} 0 1 = cc in omega arith)
-  pairwise-length (x ∷ a) (y ∷ b) e = ap suc (pairwise-length a b (go (p x y) (f a b) (sym (w .both x y a b) ∙ e)))
-    where
-      go : (q r : Bool) → (q && r) ≡ true → r ≡ true
-      go true r h = h
-      go false r h = absurd (let o : _≡_ {A = ℕ} 0 1 = cc in omega arith)
+  pub pairwise-length : (a b : Bytes) → T (f a b) → length a ≡ length b
+  pairwise-length [] [] t = refl
+  pairwise-length [] (y ∷ b) t = absurd (rw (w .short y b) at t)
+  pairwise-length (x ∷ a) [] t = absurd (rw (w .long x a) at t)
+  pairwise-length (x ∷ a) (y ∷ b) t = ap suc (pairwise-length a b (and-yes (p x y) (f a b) (rw (w .both x y a b) at t) .1))
 
   module _ (a b : Bytes) (i : ℕ) where
     step : i < length a → i < length b → f (drop i a) (drop i b) ≡ (p (getD a i 0) (getD b i 0) && f (drop (suc i) a) (drop (suc i) b))

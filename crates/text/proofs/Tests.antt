@@ -16,19 +16,11 @@ or-stop a b e = rw e
 pub or-on : (a b : Bool) → a ≡ false → (a || b) ≡ b
 or-on a b e = rw e
 
-pub or-last : (a : Bool) → (a || false) ≡ a
-or-last true = refl
-or-last false = refl
-
 pub and-stop : (a b : Bool) → a ≡ false → (a && b) ≡ false
 and-stop a b e = rw e
 
 pub and-on : (a b : Bool) → a ≡ true → (a && b) ≡ b
 and-on a b e = rw e
-
-pub and-last : (a : Bool) → (a && true) ≡ a
-and-last true = refl
-and-last false = refl
 
 pub T-true : (b : Bool) → T b → b ≡ true
 T-true true t = refl

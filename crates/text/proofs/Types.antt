@@ -11,7 +11,7 @@ use lib.Dec.{T, T-not, leb, eqb, eqb→eq, le→leb}
 use lib.ListN.{length, take, drop, getD}
 use mir.Facts.{and-yes, yes-and, or-yes}
 use Rattle.text.specs.Text.{Bytes, ascii, between, oneOf, every, without, same, decimal, hexadecimal, alphanumeric, identCharacter, isIdent, fits, looks, isTimestamp, isHex, isPoint, TextType, Ident, Timestamp, Point, Sig, Mac, Print, Hex, isOf, shortest, longest}
-use Rattle.text.proofs.Tests.{T-true, one-of, or-left, or-right, by-test, cond-yes, cond-no, between-low, between-high, every-mono}
+use Rattle.text.proofs.Tests.{one-of, or-left, or-right, by-test, cond-yes, cond-no, between-low, between-high, every-mono}
 use Rattle.text.proofs.Loops.{looks-pairwise, pairwise-length}
 
 -- ---- each alphabet is a part of the ident characters
@@ -83,7 +83,7 @@ unfolding isTimestamp
 timestamp-looks s t = and-yes (looks (ascii "YYYYMMDDThhmmssZ") s) _ t .0
 
 pub timestamp-length : (s : Bytes) → T (isTimestamp s) → length s ≡ 16
-timestamp-length s t = sym (pairwise-length fits looks looks-pairwise (ascii "YYYYMMDDThhmmssZ") s (T-true _ (timestamp-looks s t)))
+timestamp-length s t = sym (pairwise-length fits looks looks-pairwise (ascii "YYYYMMDDThhmmssZ") s (timestamp-looks s t))
 
 pub plain : (t : TextType) (s : Bytes) → T (isOf t s) → T (every identCharacter s)
 plain Ident s h = ident-plain s h

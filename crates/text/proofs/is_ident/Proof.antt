@@ -3,11 +3,12 @@
 use denote.Ref.{now}
 use Prim.Native.Nat.{_≤_}
 use mathlib.Core.Path.{sym, ap, _∙_}
+use mathlib.Core.Bool.{and-true}
 use native.Mathlib.Omega.{arith}
 use borrow.Author.Tests.{not-true, not-false}
 use lib.ListN.{length}
 use Rattle.text.specs.Text.{every, identCharacter, isIdent}
-use Rattle.text.proofs.Tests.{and-stop, and-on, and-last, true-T, between-low}
+use Rattle.text.proofs.Tests.{and-stop, and-on, true-T, between-low}
 use Rattle.text.proofs.Loops.{rest-all}
 use borrow.Author.Needs.{needs}
 use Rattle.text.proofs.is_ident.Statement.{statement}
@@ -53,7 +54,7 @@ unfolding isIdent
 returns-3 c =
     c .all-belong .ensures ∙ ap (every identCharacter) (rest-all (now (c .before .before .before .before .before .before .before .before .args .s)) 1)
     ∙ sym (and-on _ _ (sym (c .before .before .before .before .before .before .is-between .ensures) ∙ not-false _ (c .before .before .before .before .before .if1 .left))
-    ∙ and-on _ _ (sym (c .before .before .before .is-alphanumeric .ensures) ∙ not-false _ (c .before .before .if2 .left)) ∙ and-last _)
+    ∙ and-on _ _ (sym (c .before .before .before .is-alphanumeric .ensures) ∙ not-false _ (c .before .before .if2 .left)) ∙ and-true _)
 
 pub is-ident-spec : {M : Type 1} → statement M
 is-ident-spec =

@@ -3,12 +3,12 @@
 use denote.Ref.{now}
 use Prim.Native.Nat.{ℕ}
 use mathlib.Core.Path.{_≡_, sym, _∙_}
-use mathlib.Core.Bool.{Bool}
+use mathlib.Core.Bool.{Bool, and-true}
 use native.Mathlib.Omega.{arith}
 use borrow.Author.Tests.{not-true, not-false}
 use lib.ListN.{length, drop}
 use Rattle.text.specs.Text.{Bytes, ascii, fits, looks, allOf, timestampTests, isTimestamp}
-use Rattle.text.proofs.Tests.{and-stop, and-on, and-last}
+use Rattle.text.proofs.Tests.{and-stop, and-on, true-T}
 use Rattle.text.proofs.Loops.{looks-pairwise, pairwise-length}
 use borrow.Author.Needs.{needs}
 use Rattle.text.proofs.date.is_timestamp.Statement.{statement}
@@ -41,7 +41,7 @@ past6 c = past5 (c .before .before) ∙ and-on _ _ (sym (c .before .is-two-betwe
 long : (c : tie.Else1) → length (now (c .before .before .before .before .args .s)) ≡ 16
 long c =
     sym (pairwise-length fits looks looks-pairwise (ascii "YYYYMMDDThhmmssZ") (now (c .before .before .before .before .args .s))
-    (sym (c .before .looks-like .ensures) ∙ not-false _ (c .if1 .left)))
+    (true-T _ (sym (c .before .looks-like .ensures) ∙ not-false _ (c .if1 .left))))
 
 slice-aggregate-looks-like : tie.Need-slice-aggregate-looks-like
 slice-aggregate-looks-like c = search needs
@@ -87,7 +87,7 @@ is-two-between-requires-5 : tie.Need-is-two-between-requires-5
 is-two-between-requires-5 c κs = omega (arith, long (c .before .before .before .before .before .before .before .before .before .before))
 
 returns-7 : tie.Need-returns-7
-returns-7 c = c .is-two-between5 .ensures ∙ sym (past6 (c .before) ∙ and-last _)
+returns-7 c = c .is-two-between5 .ensures ∙ sym (past6 (c .before) ∙ and-true _)
 
 pub is-timestamp-spec : {M : Type 1} → statement M
 is-timestamp-spec =
