@@ -8,6 +8,7 @@ use native.Mathlib.Omega.{arith}
 use lib.Dec.{T}
 use Rattle.text.specs.Text.{Bytes}
 use Rattle.text.proofs.Tests.{by-test, cond-yes, cond-no}
+use Rattle.text.proofs.Types.{timestamp-looks}
 use Rattle.format.specs.Numbers.{notAlike}
 use Rattle.format.specs.Kinds.{pubkeyKinds}
 use Rattle.format.specs.Read.{Outcome, accepted, refused, answer, place, readOf}
@@ -20,7 +21,7 @@ use Rattle.newer.specs.Newer.{alike, after, later, Decision, theFirst, t
 use Rattle.newer.specs.declared.Choice.{Choice}
 use Rattle.newer.specs.Keys.{Key, gntOf}
 use Rattle.newer.specs.Steps.{inTurn, subjectIn, gntIn, alikeTexts, Numbered}
-use Rattle.newer.proofs.Later.{timestamp-looks, later-by-bytes}
+use Rattle.newer.proofs.Later.{later-by-bytes}
 use Rattle.newer.proofs.Keys.{key, its-title, its-name, its-gnt}
 
 -- the numbers of an answer

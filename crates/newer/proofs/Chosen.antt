@@ -11,12 +11,13 @@ use lib.Dec.{T}
 use mir.Facts.{and-yes}
 use Rattle.text.specs.Text.{Bytes, same, isTimestamp}
 use Rattle.text.proofs.Tests.{T-true, T-false, by-test, same→eq, same-refl}
+use Rattle.text.proofs.Types.{timestamp-looks}
 use Rattle.format.specs.Kinds.{name}
 use Rattle.format.proofs.Table.{name-inj}
 use Rattle.newer.specs.Newer.{manufacturer, instant, later, Decision, theFirst, theSecond, denied, newer, choicePart, choiceNo, Chosen}
 use Rattle.newer.specs.Keys.{Key, gntOf, Agreed}
 use Rattle.newer.proofs.Order.{after-itself, after-one-way, after-neither}
-use Rattle.newer.proofs.Later.{timestamp-looks, later-by-bytes}
+use Rattle.newer.proofs.Later.{later-by-bytes}
 use Rattle.newer.proofs.Choosing.{newer-keys, chosen-keys, chosen-agree, chosen-later}
 
 -- ---- later is an order of TIMESTAMPs

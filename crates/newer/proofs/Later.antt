@@ -10,9 +10,10 @@ use lib.ListN.{length, take, drop, take-append-drop}
 use lib.Seq.{drop-drop}
 use lib.Dec.{T, eqb, eqb→eq}
 use mir.Facts.{and-yes, yes-and}
-use Rattle.text.specs.Text.{Bytes, ascii, oneOf, every, part, decimal, fits, looks, numberFrom, number, isTimestamp}
+use Rattle.text.specs.Text.{Bytes, ascii, oneOf, every, part, decimal, fits, looks, numberFrom, number}
 use Rattle.text.proofs.Tests.{cond-yes, cond-no, between-low, between-high}
 use Rattle.text.proofs.Loops.{looks-pairwise, pairwise-length}
+use Rattle.text.proofs.Types.{stamp}
 use Rattle.newer.specs.Newer.{instant, after, later}
 use Rattle.newer.proofs.Order.{by-order, after-less, after-equal, after-more}
 
@@ -130,13 +131,6 @@ module _ (p s t : Bytes) (hs : T (looks p s)) (ht : T (looks p t)) where
       ∙ letters-first (part i n p) (drop (i + n) s) (drop (i + n) t)
 
 -- ---- TIMESTAMPs
-
-abbrev pub stamp : Bytes
-stamp = ascii "YYYYMMDDThhmmssZ"
-
-pub timestamp-looks : (s : Bytes) → T (isTimestamp s) → T (looks stamp s)
-unfolding isTimestamp
-timestamp-looks s t = and-yes (looks stamp s) _ t .0
 
 stamp-end : (s : Bytes) → T (looks stamp s) → drop 16 s ≡ []
 unfolding looks

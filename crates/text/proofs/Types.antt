@@ -78,16 +78,20 @@ looks-plain (q ∷ p) (c ∷ s) t =
     let t′ = and-yes (fits q c) (looks p s) t in
     yes-and (identCharacter c) (every identCharacter s) (fits-ident q c (t′ .0)) (looks-plain p s (t′ .1))
 
-timestamp-looks : (s : Bytes) → T (isTimestamp s) → T (looks (ascii "YYYYMMDDThhmmssZ") s)
+-- the pattern of a TIMESTAMP
+abbrev pub stamp : Bytes
+stamp = ascii "YYYYMMDDThhmmssZ"
+
+pub timestamp-looks : (s : Bytes) → T (isTimestamp s) → T (looks stamp s)
 unfolding isTimestamp
-timestamp-looks s t = and-yes (looks (ascii "YYYYMMDDThhmmssZ") s) _ t .0
+timestamp-looks s t = and-yes (looks stamp s) _ t .0
 
 pub timestamp-length : (s : Bytes) → T (isTimestamp s) → length s ≡ 16
-timestamp-length s t = sym (pairwise-length fits looks looks-pairwise (ascii "YYYYMMDDThhmmssZ") s (timestamp-looks s t))
+timestamp-length s t = sym (pairwise-length fits looks looks-pairwise stamp s (timestamp-looks s t))
 
 pub plain : (t : TextType) (s : Bytes) → T (isOf t s) → T (every identCharacter s)
 plain Ident s h = ident-plain s h
-plain Timestamp s h = looks-plain (ascii "YYYYMMDDThhmmssZ") s (timestamp-looks s h)
+plain Timestamp s h = looks-plain stamp s (timestamp-looks s h)
 plain Point s h = hex-plain 194 s (point-hex s h)
 plain Sig s h = hex-plain 192 s h
 plain Mac s h = hex-plain 48 s h

@@ -7,9 +7,10 @@ use mathlib.Core.Bool.{Bool, and-true}
 use native.Mathlib.Omega.{arith}
 use borrow.Author.Tests.{not-true, not-false}
 use lib.ListN.{length, drop}
-use Rattle.text.specs.Text.{Bytes, ascii, fits, looks, allOf, timestampTests, isTimestamp}
+use Rattle.text.specs.Text.{Bytes, fits, looks, allOf, timestampTests, isTimestamp}
 use Rattle.text.proofs.Tests.{and-stop, and-on, true-T}
 use Rattle.text.proofs.Loops.{looks-pairwise, pairwise-length}
+use Rattle.text.proofs.Types.{stamp}
 use borrow.Author.Needs.{needs}
 use Rattle.text.proofs.date.is_timestamp.Statement.{statement}
 use Rattle.text.proofs.date.is_timestamp.Tie as tie
@@ -40,7 +41,7 @@ past6 c = past5 (c .before .before) ∙ and-on _ _ (sym (c .before .is-two-betwe
 -- past the pattern: 16 bytes
 long : (c : tie.Else1) → length (now (c .before .before .before .before .args .s)) ≡ 16
 long c =
-    sym (pairwise-length fits looks looks-pairwise (ascii "YYYYMMDDThhmmssZ") (now (c .before .before .before .before .args .s))
+    sym (pairwise-length fits looks looks-pairwise stamp (now (c .before .before .before .before .args .s))
     (true-T _ (sym (c .before .looks-like .ensures) ∙ not-false _ (c .if1 .left))))
 
 slice-aggregate-looks-like : tie.Need-slice-aggregate-looks-like
