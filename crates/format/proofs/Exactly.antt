@@ -22,7 +22,7 @@ use Rattle.format.specs.Numbers.{tooLong, noKind, noCheck, wrongCheck, w
 use Rattle.format.specs.Kinds.{Kind, Field, name, mark, fieldsOf, identityFields, identityKinds, recordKinds, pubkeyKinds, among}
 use Rattle.format.specs.Build.{recordOf, empty, Fits, FitAll, PermittedOver, BuiltOver, IsIdentity, Permitted, Built}
 use Rattle.format.specs.Read.{Outcome, accepted, refused, answer, title, markAfter, kindIn, body, check, lastOr, fieldsIn, judged, readAs, readOver, readIdentity, readOf, readRecord}
-use Rattle.format.proofs.Table.{name-inj, All, kindIn-some, kindIn-known, record-room, identity-row, pubkey-row}
+use Rattle.format.proofs.Table.{name-inj, All, kindIn-some, kindIn-known, longestRecord, record-room, identity-row, pubkey-row}
 use Rattle.format.proofs.Parts.{WithoutAll, record-length, built-title, built-last, built-check, built-fields, record-without, found-built}
 use Rattle.format.proofs.Outcomes.{never, provided-law, ofKind-law, Honest, honest-zero}
 use Rattle.format.proofs.Fields.{fit-length, Exact, fits-judged, judged-law, Tame, fields-held, record-held}
@@ -175,7 +175,7 @@ built-unique s j k fs gs p q d e =
 
 -- ---- lengths
 
-pub built-length : (k : Kind) (fs : List Bytes) → Permitted k fs → length (recordOf k fs) ≤ 646
+pub built-length : (k : Kind) (fs : List Bytes) → Permitted k fs → length (recordOf k fs) ≤ longestRecord
 built-length k fs p = le-trans (record-held IsIdentity identity-tame k fs (p .fit) .1) (record-room k)
 
 pub identity-length : (k : Kind) (a b c d : Bytes) → T (among k identityKinds) → Permitted k (a ∷ b ∷ c ∷ d ∷ [])

@@ -17,7 +17,7 @@ use Rattle.format.specs.Numbers.{wrongText, noIdentity, wrongKind, unpai
 use Rattle.format.specs.Kinds.{Kind, Field, Text, Identity, OrEmpty, name, mark, fieldsOf, among}
 use Rattle.format.specs.Build.{joined, recordOf, empty, Fits, FitAll, paired, PermittedOver}
 use Rattle.format.specs.Read.{Outcome, accepted, refused, passing, identityAnswer, fieldAnswer, each, wholeAnswer, judged}
-use Rattle.format.proofs.Table.{alien, absent, longestOf, room, mark-absent}
+use Rattle.format.proofs.Table.{alien, absent, longestIdentity, longestOf, room, mark-absent}
 use Rattle.format.proofs.Parts.{WithoutAll, record-length}
 use Rattle.format.proofs.Outcomes.{passing-law}
 
@@ -93,9 +93,9 @@ module _ (ask : Bytes → Outcome) (I : Kind → Bytes → Type 0) (x : Exact as
 
 -- ---- no mark in a field, and its length
 
--- the identities I have no alien byte, and at most 112 bytes
+-- the identities I have no alien byte, and are not longer than the longest
 abbrev pub Tame : (Kind → Bytes → Type 0) → Type 0
-Tame I = (m : ℕ) → T (alien m) → (k : Kind) (f : Bytes) → I k f → T (without m f) × (length f ≤ 112)
+Tame I = (m : ℕ) → T (alien m) → (k : Kind) (f : Bytes) → I k f → T (without m f) × (length f ≤ longestIdentity)
 
 module _ (I : Kind → Bytes → Type 0) (tame : Tame I) where
   field-held : (m : ℕ) (t : Field) (f : Bytes) → T (absent m t) → Fits I t f → T (without m f) × (length f ≤ longestOf t)

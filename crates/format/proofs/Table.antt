@@ -1,6 +1,6 @@
 -- The table of kinds: a kind is known by its name, and what holds of every kind is one computed test.
 -- Assumes nothing.
-use Prim.Native.Nat.{ℕ, zero, suc, _+_, _≤_}
+use Prim.Native.Nat.{ℕ, zero, suc, _+_, _≤_, max}
 use Prim.Native.Char.{code}
 use mathlib.Core.Path.{_≡_, refl, sym, ap, _∙_, subst}
 use mathlib.Core.Logic.{⊎-elim}
@@ -108,24 +108,45 @@ absent m (OrEmpty t) = absent m t
 pub mark-absent : (k : Kind) → T (allOf (map (absent (mark k)) (fieldsOf k)))
 mark-absent = every-kind (λ k. allOf (map (absent (mark k)) (fieldsOf k))) tt
 
-abbrev pub longestOf : Field → ℕ
-longestOf (Text t) = longest t
-longestOf (Identity ks) = 112
-longestOf (OrEmpty t) = longestOf t
+-- ---- lengths, which the checker computes from the table: n is the length of the longest identity
+
+abbrev longestOver : ℕ → Field → ℕ
+longestOver n (Text t) = longest t
+longestOver n (Identity ks) = n
+longestOver n (OrEmpty t) = longestOver n t
 
 -- the longest fields, with a mark after each
-abbrev pub room : List Field → ℕ
-room [] = 0
-room (t ∷ ts) = longestOf t + 1 + room ts
+abbrev roomOver : ℕ → List Field → ℕ
+roomOver n [] = 0
+roomOver n (t ∷ ts) = longestOver n t + 1 + roomOver n ts
 
-pub record-room : (k : Kind) → length (name k) + room (fieldsOf k) + 5 ≤ 646
+-- the longest record of the kinds ks: its name and its mark, its fields, its check
+abbrev longestIn : ℕ → List Kind → ℕ
+longestIn n [] = 0
+longestIn n (k ∷ ks) = max (length (name k) + roomOver n (fieldsOf k) + 5) (longestIn n ks)
+
+-- an identity has no identity in it
+abbrev pub longestIdentity : ℕ
+longestIdentity = longestIn 0 identityKinds
+
+abbrev pub longestRecord : ℕ
+longestRecord = longestIn longestIdentity allKinds
+
+abbrev pub longestOf : Field → ℕ
+longestOf t = longestOver longestIdentity t
+
+abbrev pub room : List Field → ℕ
+room ts = roomOver longestIdentity ts
+
+pub record-room : (k : Kind) → length (name k) + room (fieldsOf k) + 5 ≤ longestRecord
 record-room k =
-    leb→le (length (name k) + room (fieldsOf k) + 5) 646 (every-kind (λ j. leb (length (name j) + room (fieldsOf j) + 5) 646) tt k)
+    leb→le (length (name k) + room (fieldsOf k) + 5) longestRecord
+    (every-kind (λ j. leb (length (name j) + room (fieldsOf j) + 5) longestRecord) tt k)
 
 -- ---- the rows of identities and of public keys
 
 pub identity-row : (k : Kind) → T (among k identityKinds)
-    → (mark k ≡ code ":") × (fieldsOf k ≡ identityFields) × (length (name k) + room (fieldsOf k) + 5 ≤ 112)
+    → (mark k ≡ code ":") × (fieldsOf k ≡ identityFields) × (length (name k) + room (fieldsOf k) + 5 ≤ longestIdentity)
 identity-row = all-among _ identityKinds ((refl, refl, lit≤ tt), ((refl, refl, lit≤ tt), ((refl, refl, lit≤ tt), tt)))
 
 pub pubkey-row : (k : Kind) → T (among k pubkeyKinds) → (ks : List Kind) × (fieldsOf k ≡ pubkeyFields ks)

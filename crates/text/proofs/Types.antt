@@ -10,7 +10,7 @@ use native.Mathlib.Omega.{arith}
 use lib.Dec.{T, T-not, leb, eqb, eqb→eq, le→leb}
 use lib.ListN.{length, take, drop, getD}
 use mir.Facts.{and-yes, yes-and, or-yes}
-use Rattle.text.specs.Text.{Bytes, ascii, between, oneOf, every, without, same, decimal, hexadecimal, alphanumeric, identCharacter, isIdent, fits, looks, isTimestamp, isHex, isPoint, TextType, Ident, Timestamp, Point, Sig, Mac, Print, Hex, isOf, shortest, longest}
+use Rattle.text.specs.Text.{Bytes, ascii, between, oneOf, every, without, same, decimal, hexadecimal, alphanumeric, identCharacter, longestIdent, isIdent, fits, looks, isTimestamp, isHex, isPoint, TextType, Ident, Timestamp, Point, Sig, Mac, Print, Hex, isOf, shortest, longest}
 use Rattle.text.proofs.Tests.{one-of, or-left, or-right, by-test, cond-yes, cond-no, between-low, between-high, every-mono}
 use Rattle.text.proofs.Loops.{looks-pairwise, pairwise-length}
 
@@ -54,13 +54,13 @@ ident-plain : (s : Bytes) → T (isIdent s) → T (every identCharacter s)
 unfolding isIdent
 ident-plain [] t = tt
 ident-plain (c ∷ s) t =
-    let t₁ = and-yes (between 1 32 (length (c ∷ s))) (alphanumeric c && (every identCharacter s && true)) t in
+    let t₁ = and-yes (between 1 longestIdent (length (c ∷ s))) (alphanumeric c && (every identCharacter s && true)) t in
     let t₂ = and-yes (alphanumeric c) (every identCharacter s && true) (t₁ .1) in
     yes-and (identCharacter c) (every identCharacter s) (alphanumeric-ident c (t₂ .0)) (and-yes (every identCharacter s) true (t₂ .1) .0)
 
-ident-length : (s : Bytes) → T (isIdent s) → T (between 1 32 (length s))
+ident-length : (s : Bytes) → T (isIdent s) → T (between 1 longestIdent (length s))
 unfolding isIdent
-ident-length s t = and-yes (between 1 32 (length s)) (alphanumeric (getD s 0 0) && (every identCharacter (drop 1 s) && true)) t .0
+ident-length s t = and-yes (between 1 longestIdent (length s)) (alphanumeric (getD s 0 0) && (every identCharacter (drop 1 s) && true)) t .0
 
 fits-ident : (p c : ℕ) → T (fits p c) → T (identCharacter c)
 fits-ident p c t =

@@ -59,14 +59,18 @@ hexadecimal c = decimal c || between (code "A") (code "F") c
 abbrev pub alphanumeric : ℕ → Bool
 alphanumeric c = decimal c || (between (code "A") (code "Z") c || between (code "a") (code "z") c)
 
--- ---- IDENT (clause 5.1.3; 32 is document 01's limit)
+-- ---- IDENT (clause 5.1.3)
+
+-- document 01's limit
+abbrev pub longestIdent : ℕ
+longestIdent = 32
 
 -- underscore, hyphen, period and comma too, but not as the first character
 abbrev pub identCharacter : ℕ → Bool
 identCharacter c = alphanumeric c || oneOf (ascii "_-.,") c
 
 unfoldable pub isIdent : Bytes → Bool
-isIdent s = allOf (between 1 32 (length s) ∷ alphanumeric (getD s 0 0) ∷ every identCharacter (drop 1 s) ∷ [])
+isIdent s = allOf (between 1 longestIdent (length s) ∷ alphanumeric (getD s 0 0) ∷ every identCharacter (drop 1 s) ∷ [])
 
 -- ---- TIMESTAMP (clause 5.1.4)
 
@@ -164,7 +168,7 @@ shortest Print = 16
 shortest (Hex n) = n
 
 abbrev pub longest : TextType → ℕ
-longest Ident = 32
+longest Ident = longestIdent
 longest Timestamp = 16
 longest Point = 194
 longest Sig = 192

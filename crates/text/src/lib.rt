@@ -11,6 +11,9 @@ pub use date::is_timestamp;
 ghost use mathlib.Core.Path.{_≡_};
 ghost use Rattle.text.specs.Text.{same, isIdent, isHex, isPoint, isSig, isMac, isPrint};
 
+// Document 01's limit of an IDENT.
+const LONGEST_IDENT: usize = 32;
+
 // The two slices hold the same bytes.
 pub fn are_same(a: &[u8], b: &[u8]) -> bool
     ensures { λ r. ⌜ r ≡ same (now (a .entry)) (now (b .entry)) ⌝ }
@@ -28,11 +31,11 @@ pub fn are_same(a: &[u8], b: &[u8]) -> bool
     true
 }
 
-// IDENT: 1 to 32 characters, the first of them alphanumeric, the others alphanumeric or one of `_ - . ,`.
+// IDENT: 1 to LONGEST_IDENT characters, the first of them alphanumeric, the others alphanumeric or one of `_ - . ,`.
 pub fn is_ident(s: &[u8]) -> bool
     ensures { λ r. ⌜ r ≡ isIdent (now (s .entry)) ⌝ }
 {
-    if !alphabet::is_between(1, 32, s.len()) {
+    if !alphabet::is_between(1, LONGEST_IDENT, s.len()) {
         return false;
     }
     if !alphabet::is_alphanumeric(s[0]) {

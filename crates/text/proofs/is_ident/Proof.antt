@@ -7,7 +7,7 @@ use mathlib.Core.Bool.{and-true}
 use native.Mathlib.Omega.{arith}
 use borrow.Author.Tests.{not-true, not-false}
 use lib.ListN.{length}
-use Rattle.text.specs.Text.{every, identCharacter, isIdent}
+use Rattle.text.specs.Text.{every, identCharacter, longestIdent, isIdent}
 use Rattle.text.proofs.Tests.{and-stop, and-on, true-T, between-low}
 use Rattle.text.proofs.Loops.{rest-all}
 use borrow.Author.Needs.{needs}
@@ -16,7 +16,7 @@ use Rattle.text.proofs.is_ident.Tie as tie
 
 -- past the first test: a byte at least
 some : (c : tie.Else1) → 1 ≤ length (now (c .before .before .before .args .s))
-some c = between-low 1 32 (length (now (c .before .before .before .args .s))) (true-T _ (sym (c .before .is-between .ensures) ∙ not-false _ (c .if1 .left)))
+some c = between-low 1 longestIdent (length (now (c .before .before .before .args .s))) (true-T _ (sym (c .before .is-between .ensures) ∙ not-false _ (c .if1 .left)))
 
 is-between-requires : tie.Need-is-between-requires
 is-between-requires c κs = search needs
