@@ -18,10 +18,10 @@ use Rattle.text.specs.Base16.{checkText}
 use Rattle.text.proofs.Tests.{T-true, same→eq, same-refl}
 use Rattle.text.proofs.Types.{hex-length, timestamp-length, point-hex}
 use Rattle.text.proofs.Hexadecimal.{check-hex}
-use Rattle.format.specs.Numbers.{tooLong, noKind, noCheck, wrongCheck, wrongCount}
+use Rattle.format.specs.Numbers.{tooLong, noCheck, wrongCheck, wrongCount}
 use Rattle.format.specs.Kinds.{Kind, Field, name, mark, fieldsOf, identityFields, identityKinds, recordKinds, pubkeyKinds, among}
 use Rattle.format.specs.Build.{recordOf, empty, Fits, FitAll, PermittedOver, BuiltOver, IsIdentity, Permitted, Built}
-use Rattle.format.specs.Read.{Outcome, accepted, refused, answer, title, markAfter, kindIn, body, check, lastOr, fieldsIn, judged, readAs, readOver, readIdentity, readOf, readRecord}
+use Rattle.format.specs.Read.{Outcome, accepted, answer, title, markAfter, kindIn, body, check, lastOr, fieldsIn, judged, readAs, readOver, nobody, readIdentity, readOf, readRecord}
 use Rattle.format.proofs.Table.{name-inj, All, kindIn-some, kindIn-known, longestRecord, record-room, identity-row, pubkey-row}
 use Rattle.format.proofs.Parts.{WithoutAll, record-length, built-title, built-last, built-check, built-fields, record-without, found-built}
 use Rattle.format.proofs.Outcomes.{never, provided-law, ofKind-law, Honest, honest-zero}
@@ -83,9 +83,6 @@ module _ (ask : Bytes → Outcome) (I : Kind → Bytes → Type 0) (x : Exact as
   )
 
 -- ---- the identity call, which asks nobody
-
-abbrev nobody : Bytes → Outcome
-nobody f = refused noKind 0
 
 abbrev NoIdentity : Kind → Bytes → Type 0
 NoIdentity k f = ⊥

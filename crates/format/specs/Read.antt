@@ -134,9 +134,13 @@ readOver ask ks s =
     provided (leb (length s) 1024) tooLong
     (ofKind (kindIn ks (title s) (markAfter s)) (readAs ask s))
 
--- the identity call: there is no identity in an identity
+-- whom the identity call asks: an identity has no identity in it
+abbrev pub nobody : Bytes → Outcome
+nobody f = refused noKind 0
+
+-- the identity call
 unfoldable pub readIdentity : Bytes → Outcome
-readIdentity s = readOver (λ f. refused noKind 0) identityKinds s
+readIdentity s = readOver nobody identityKinds s
 
 -- a call that reads the kinds ks of records, and the record call, which reads them all
 unfoldable pub readOf : List Kind → Bytes → Outcome

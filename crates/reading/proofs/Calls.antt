@@ -8,10 +8,10 @@ use lib.ListN.{length}
 use lib.Dec.{T, lit<}
 use Rattle.text.specs.Text.{Bytes}
 use Rattle.format.specs.Kinds.{Kind, SMMAN, SMID, KMCID, ECDSA, ECDH, REQ, RESP, identityKinds, recordKinds, among}
-use Rattle.format.specs.Read.{Outcome, accepted, refused, passing, title, markAfter, kindIn, ofKind, body, fieldsIn, wholeAnswer, readOver, readIdentity, readOf, readRecord}
+use Rattle.format.specs.Read.{Outcome, accepted, refused, passing, title, markAfter, kindIn, ofKind, body, fieldsIn, wholeAnswer, readOver, nobody, readIdentity, readOf, readRecord}
 use Rattle.table.specs.Table.{rowOf, rowFor}
 use Rattle.table.proofs.Rows.{Found, found}
-use Rattle.reading.specs.Steps.{noInner, fieldsBy, formNo, FirstRefused}
+use Rattle.reading.specs.Steps.{fieldsBy, formNo, FirstRefused}
 use Rattle.reading.proofs.Outcomes.{passing-stop, passing-on, passing-as, over-kind}
 use Rattle.reading.proofs.Form.{fromFields, of-form, form-found}
 use Rattle.format.proofs.Table.{kindIn-some}
@@ -68,7 +68,7 @@ module _ (ask : Bytes → Outcome) {ks : List Kind} {s : Bytes} {row no : ℕ} (
 
 -- ---- the calls by name
 
-pub identity-is : (s : Bytes) → readIdentity s ≡ readOver noInner identityKinds s
+pub identity-is : (s : Bytes) → readIdentity s ≡ readOver nobody identityKinds s
 unfolding readIdentity
 identity-is s = refl
 
@@ -103,7 +103,7 @@ identity-whole RESP fs h = absurd h
 
 module _ {s : Bytes} {row no : ℕ} (b : Begun identityKinds s row no) (z : no ≡ 0) where
   pub identity-row : row < 3
-  identity-row = omega (arith, call-kind noInner b z .at, identity-small (call-kind noInner b z .kind) (call-among noInner b z))
+  identity-row = omega (arith, call-kind nobody b z .at, identity-small (call-kind nobody b z .kind) (call-among nobody b z))
 
-  pub identity-plain : wholeAnswer (call-kind noInner b z .kind) (call-parts noInner b z) ≡ 0
-  identity-plain = identity-whole (call-kind noInner b z .kind) (call-parts noInner b z) (call-among noInner b z)
+  pub identity-plain : wholeAnswer (call-kind nobody b z .kind) (call-parts nobody b z) ≡ 0
+  identity-plain = identity-whole (call-kind nobody b z .kind) (call-parts nobody b z) (call-among nobody b z)

@@ -15,13 +15,13 @@ use Rattle.crc16.specs.Crc.{crcOf}
 use Rattle.text.specs.Text.{Bytes, same, isHex}
 use Rattle.text.specs.Base16.{checkText}
 use Rattle.format.specs.Kinds.{Kind, Field, name, mark, fieldsOf, identityKinds, recordKinds, among}
-use Rattle.format.specs.Read.{Outcome, accepted, refused, provided, passing, title, markAfter, kindIn, ofKind, body, check, lastOr, fieldsIn, fieldAnswer, each, wholeAnswer, judged, readAs, readOver, readIdentity, readOf, readRecord}
+use Rattle.format.specs.Read.{Outcome, accepted, refused, provided, passing, title, markAfter, kindIn, ofKind, body, check, lastOr, fieldsIn, fieldAnswer, each, wholeAnswer, judged, readAs, readOver, nobody, readIdentity, readOf, readRecord}
 use Rattle.format.proofs.Table.{kindIn-some}
 use Rattle.format.proofs.Parts.{found-parts}
 use Rattle.frame.specs.Frame.{partOf}
 use Rattle.table.specs.Table.{rowOf}
 use Rattle.reading.specs.Reading.{answerOf}
-use Rattle.reading.specs.Steps.{noInner, Inside, Within}
+use Rattle.reading.specs.Steps.{Inside, Within}
 use Rattle.reading.specs.declared.Answer.{Answer}
 
 -- ---- each test keeps what is told
@@ -68,7 +68,7 @@ module _ (ks : List Kind) (s : Bytes) where
 
 pub identity-within : (s : Bytes) → Within identityKinds s (readIdentity s)
 unfolding readIdentity
-identity-within s = over-within identityKinds s noInner
+identity-within s = over-within identityKinds s nobody
 
 pub of-within : (ks : List Kind) (s : Bytes) → Within ks s (readOf ks s)
 unfolding readOf

@@ -13,10 +13,6 @@ use Rattle.format.specs.Read.{Outcome, accepted, refused, passing, body, cut, f
 use Rattle.frame.specs.Frame.{checkNo}
 use Rattle.table.specs.Table.{noRow, markOf, countOf, fieldsAt}
 
--- an identity has no identity in it
-abbrev pub noInner : Bytes → Outcome
-noInner f = refused noKind 0
-
 -- the fields of a body by the row of its kind
 abbrev pub fieldsBy : ℕ → Bytes → List Bytes
 fieldsBy row b = drop 1 (cut (markOf row) b)

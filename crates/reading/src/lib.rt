@@ -10,11 +10,11 @@ ghost use Rattle.text.specs.Text.{Bytes, isOf};
 ghost use Rattle.format.specs.Numbers.{wrongText};
 ghost use Rattle.format.specs.Kinds.{Kind};
 ghost use Rattle.format.specs.Build.{empty};
-ghost use Rattle.format.specs.Read.{accepted, refused, passing, fieldAnswer, identityAnswer, readIdentity, readOf, readRecord};
+ghost use Rattle.format.specs.Read.{accepted, refused, passing, fieldAnswer, identityAnswer, nobody, readIdentity, readOf, readRecord};
 ghost use Rattle.table.specs.Table.{rowOf, countOf, markOf, fieldType, mayBeEmpty, permitted, kindsFrom};
 ghost use Rattle.frame.specs.Frame.{partOf};
 ghost use Rattle.reading.specs.Reading.{answerOf, wholeNo};
-ghost use Rattle.reading.specs.Steps.{noInner, fieldsBy, formNo, textIn, FirstRefused};
+ghost use Rattle.reading.specs.Steps.{fieldsBy, formNo, textIn, FirstRefused};
 
 // ---- the numbers given back; frame has 3 and 4
 
@@ -132,7 +132,7 @@ fn text_no(code: u8, field: &[u8]) -> u8
 // The fields of an identity, which are texts, from left to right. The identity kinds are the rows below 3.
 fn identity_fields(row: usize, body: &[u8]) -> Refusal
     requires { ⌜ (row < 3) × (length (fieldsBy row (now body)) ≡ countOf row) ⌝ }
-    ensures { λ r. ⌜ FirstRefused noInner row (fieldsBy row (now (body .entry))) (r .no) (r .field) ⌝ }
+    ensures { λ r. ⌜ FirstRefused nobody row (fieldsBy row (now (body .entry))) (r .no) (r .field) ⌝ }
 {
     let mark = table::mark_of(row);
     let count = table::count_of(row);

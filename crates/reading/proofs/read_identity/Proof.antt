@@ -4,7 +4,7 @@ use denote.Ref.{now}
 use mathlib.Core.Path.{sym, ap, _∙_}
 use Rattle.format.specs.Kinds.{identityKinds}
 use Rattle.reading.specs.Reading.{answerOf}
-use Rattle.reading.specs.Steps.{noInner}
+use Rattle.format.specs.Read.{nobody}
 use Rattle.reading.proofs.Outcomes.{over-long}
 use Rattle.reading.proofs.Form.{form-counted}
 use Rattle.reading.proofs.Calls.{Begun, begun, call-form, call-kind, call-parts, call-plain, identity-is, identity-row, identity-plain}
@@ -20,7 +20,7 @@ refuse-requires : tie.Need-refuse-requires
 refuse-requires c κs = search needs
 
 returns : tie.Need-returns
-returns c = c .refuse .ensures ∙ sym (ap answerOf (identity-is _ ∙ over-long noInner identityKinds (now (c .before .before .before .args .identity)) (c .before .if1 .taken)))
+returns c = c .refuse .ensures ∙ sym (ap answerOf (identity-is _ ∙ over-long nobody identityKinds (now (c .before .before .before .args .identity)) (c .before .if1 .taken)))
 
 title-of-requires : tie.Need-title-of-requires
 title-of-requires c κs = search needs
@@ -38,7 +38,7 @@ refuse-requires-2 : tie.Need-refuse-requires-2
 refuse-requires-2 c κs = search needs
 
 returns-2 : tie.Need-returns-2
-returns-2 c = c .refuse2 .ensures ∙ sym (ap answerOf (identity-is _ ∙ call-form noInner (start (c .before .before)) (c .before .if2 .taken)))
+returns-2 c = c .refuse2 .ensures ∙ sym (ap answerOf (identity-is _ ∙ call-form nobody (start (c .before .before)) (c .before .if2 .taken)))
 
 body-of-requires : tie.Need-body-of-requires
 body-of-requires c κs = search needs
@@ -51,9 +51,9 @@ answered-requires c κs = search needs
 
 returns-3 : tie.Need-returns-3
 returns-3 c =
-    let s = start (c .before .before .before .before) in let z = c .before .before .before .if2 .left in let k = call-kind noInner s z in
-    c .answered .ensures (k .kind) (call-parts noInner s z) (k .at)
-    ∙ sym (ap answerOf (identity-is _ ∙ call-plain noInner s z _ (c .before .before .body-of .ensures) (c .before .identity-fields .ensures) (identity-plain s z)))
+    let s = start (c .before .before .before .before) in let z = c .before .before .before .if2 .left in let k = call-kind nobody s z in
+    c .answered .ensures (k .kind) (call-parts nobody s z) (k .at)
+    ∙ sym (ap answerOf (identity-is _ ∙ call-plain nobody s z _ (c .before .before .body-of .ensures) (c .before .identity-fields .ensures) (identity-plain s z)))
 
 pub read-identity-spec : {M : Type 1} → statement M
 read-identity-spec =
