@@ -22,7 +22,7 @@ use Rattle.format.proofs.Parts.{WithoutAll}
 
 -- ---- the first c in a text
 
-take-upTo : (c : ℕ) (s : Bytes) → take (length (upTo c s)) s ≡ upTo c s
+pub take-upTo : (c : ℕ) (s : Bytes) → take (length (upTo c s)) s ≡ upTo c s
 take-upTo c [] = refl
 take-upTo c (d ∷ s) = by-test (eqb d c) (λ t. rw (T-true (eqb d c) t)) (λ t. rw (T-false (eqb d c) t, take-upTo c s))
 

@@ -7,7 +7,7 @@ use mathlib.Core.List.{List, [], _∷_}
 use native.Mathlib.Omega.{arith}
 use native.Mathlib.Numerals.{add-one}
 use native.Mathlib.Nat.{add-zero}
-use lib.ListN.{length, take, drop, getD, drop-of-length-le, length-append, length-drop, take-append-drop, List·getD-eq-default}
+use lib.ListN.{length, take, drop, getD, drop-of-length-le, length-append, length-take, length-drop, take-append-drop, List·getD-eq-default}
 use lib.Seq.{take-all, length-take-le, take-append-le, drop-append-le, drop-cons, drop-drop, getD-drop}
 use lib.Dec.{eqb, ltb, ltb→lt, nltb→le}
 use borrow.Author.Tests.{eq-eqb, ne-eqb}
@@ -15,8 +15,9 @@ use Rattle.text.specs.Text.{Bytes}
 use Rattle.text.proofs.Tests.{by-test}
 use Rattle.format.specs.Build.{joined}
 use Rattle.format.specs.Read.{body, check, cut, onFirst, lastOr}
-use Rattle.frame.specs.Frame.{nextMark, marksIn, partStart, partOf}
 use Rattle.format.specs.Files.{upTo}
+use Rattle.format.proofs.Lines.{take-upTo}
+use Rattle.frame.specs.Frame.{nextMark, marksIn, partStart, partOf}
 
 -- ---- the next mark
 
@@ -34,20 +35,7 @@ module _ (m : ℕ) (s : Bytes) (i : ℕ) where
   next-end h = rw (drop-of-length-le s h, add-zero)
 
 upTo-within : (m : ℕ) (s : Bytes) → length (upTo m s) ≤ length s
-upTo-within m [] = omega arith
-upTo-within m (c ∷ s) = go (eqb c m) (upTo-within m s)
-  where
-    go : (b : Bool) → length (upTo m s) ≤ length s → length (cond b [] (c ∷ upTo m s)) ≤ suc (length s)
-    go true e = omega arith
-    go false e = omega arith
-
-pub upTo-take : (m : ℕ) (s : Bytes) → upTo m s ≡ take (length (upTo m s)) s
-upTo-take m [] = refl
-upTo-take m (c ∷ s) = go (eqb c m) (upTo-take m s)
-  where
-    go : (b : Bool) → upTo m s ≡ take (length (upTo m s)) s → cond b [] (c ∷ upTo m s) ≡ take (length (cond b [] (c ∷ upTo m s))) (c ∷ s)
-    go true e = refl
-    go false e = ap (λ (x : Bytes). c ∷ x) e
+upTo-within m s = omega (arith, ap length (take-upTo m s), length-take (length (upTo m s)) s)
 
 -- the first part, and the parts of what follows its mark
 cut-first : (m c : ℕ) (s : Bytes) → cut m (c ∷ s) ≡ upTo m (c ∷ s) ∷ cut m (drop (suc (length (upTo m (c ∷ s)))) (c ∷ s))
@@ -80,7 +68,7 @@ module _ (m : ℕ) (s : Bytes) (i : ℕ) where
       let a : i + length (upTo m (drop i s)) - i ≡ length (upTo m (drop i s)) = omega arith in
       let b : i + length (upTo m (drop i s)) + 1 ≡ i + suc (length (upTo m (drop i s))) = omega arith in
       let f : cut m (drop i s) ≡ upTo m (drop i s) ∷ cut m (drop (suc (length (upTo m (drop i s)))) (drop i s)) = rw (drop-cons s i 0 h) (cut-first m (getD s i 0) (drop (suc i) s)) in
-      rw (a, b, ← upTo-take, ← drop-drop) f
+      rw (a, b, take-upTo, ← drop-drop) f
 
   pub cut-none : length s ≤ i → cut m (drop i s) ≡ []
   cut-none h = rw (drop-of-length-le s h)

@@ -6,7 +6,7 @@ use mathlib.Core.Bool.{Bool, true, false, cond}
 use mathlib.Core.List.{[], _∷_}
 use native.Mathlib.Omega.{arith}
 use native.Mathlib.Numerals.{add-one}
-use lib.ListN.{length, take, drop, getD, drop-of-length-le}
+use lib.ListN.{length, take, drop, getD, drop-of-length-le, length-take}
 use lib.Seq.{drop-cons}
 use Rattle.text.specs.Text.{Bytes}
 use Rattle.format.specs.Read.{isMark, title, markAfter}
@@ -25,14 +25,6 @@ module _ (s : Bytes) (i : ℕ) where
 
 -- ---- the title and its mark, by the title's length
 
-pub title-within : (s : Bytes) → length (title s) ≤ length s
-title-within [] = omega arith
-title-within (c ∷ s) = go (isMark c) (title-within s)
-  where
-    go : (b : Bool) → length (title s) ≤ length s → length (cond b [] (c ∷ title s)) ≤ suc (length s)
-    go true e = omega arith
-    go false e = omega arith
-
 title-take : (s : Bytes) → take (length (title s)) s ≡ title s
 title-take [] = refl
 title-take (c ∷ s) = go (isMark c) (title-take s)
@@ -40,6 +32,9 @@ title-take (c ∷ s) = go (isMark c) (title-take s)
     go : (b : Bool) → take (length (title s)) s ≡ title s → take (length (cond b [] (c ∷ title s))) (c ∷ s) ≡ cond b [] (c ∷ title s)
     go true e = refl
     go false e = ap (λ (x : Bytes). c ∷ x) e
+
+pub title-within : (s : Bytes) → length (title s) ≤ length s
+title-within s = omega (arith, ap length (title-take s), length-take (length (title s)) s)
 
 mark-get : (s : Bytes) → getD s (length (title s)) 0 ≡ markAfter s
 mark-get [] = refl
