@@ -6,14 +6,14 @@ use mathlib.Core.List.{List, []}
 use native.Mathlib.Omega.{arith}
 use native.Mathlib.Numerals.{add-one}
 use lib.ListN.{length, take, drop, getD, set, length-set, length-drop, List·getD-eq-default}
-use lib.Seq.{length-take-le, getD-drop, getD-set-same, getD-set-other}
+use lib.Seq.{length-take-le, getD-set-same, getD-set-other}
 use lib.Dec.{ltb, ltb→lt, nltb→le}
 use Rattle.text.specs.Text.{Bytes}
 use Rattle.text.proofs.Tests.{by-test}
 use Rattle.format.specs.Kinds.{REQ, mark}
 use Rattle.format.specs.Read.{body, cut, fieldsIn}
-use Rattle.frame.specs.Frame.{nextMark, partStart, partOf}
-use Rattle.frame.proofs.Parts.{Walk, walk-start, walk-on, walk-to, next-from, next-within, part-there, start-within, body-bytes}
+use Rattle.frame.specs.Frame.{nextMark, partStart}
+use Rattle.frame.proofs.Parts.{Walk, walk-start, walk-on, walk-to, next-from, next-within, part-there, start-within, field-part, body-bytes}
 use Rattle.agreement.specs.Steps.{Starts}
 
 -- ---- the loop: of the body b the first j places are known, and part j starts at `at`
@@ -64,21 +64,10 @@ module _ {b : Bytes} {places : List ℕ} {at j : ℕ} (p : Placed b places at j)
 
 -- ---- field n, between two places
 
--- part 0 is the kind's name
-field-part : (s : Bytes) (n : ℕ) → partOf (mark REQ) (body s) (suc n) ≡ getD (fieldsIn REQ s) n []
-unfolding partOf
-field-part s n = let z : suc n ≡ 1 + n = omega arith in rw z (sym (getD-drop 1 (cut (mark REQ) (body s)) n []))
-
 pub field-none : (s : Bytes) (places : List ℕ) (n : ℕ) → Starts s places → 7 ≤ n → [] ≡ getD (fieldsIn REQ s) n []
 field-none s places n t h = sym (List·getD-eq-default (fieldsIn REQ s) [] {n = n} (omega (arith, t .seven)))
 
 module _ (s : Bytes) (places : List ℕ) (n : ℕ) (t : Starts s places) (h : n < 7) where
-  abbrev from : ℕ
-  from = getD places n 0
-
-  abbrev to : ℕ
-  to = getD places (n + 1) 0
-
   many : suc n < length (cut (mark REQ) (body s))
   many = omega (arith, t .seven, length-drop 1 (cut (mark REQ) (body s)))
 
@@ -105,4 +94,4 @@ module _ (s : Bytes) (places : List ℕ) (n : ℕ) (t : Starts s places) (h : n 
       let ends = next-within (mark REQ) (body s) (getD places n 0) (omega (arith, starts)) in
       body-bytes s i j (omega (arith, starts)) (omega (arith, r, ends))
       ∙ part-there (mark REQ) (body s) (suc n) i (t .place n (omega arith)) starts j r
-      ∙ field-part s n
+      ∙ field-part REQ s n

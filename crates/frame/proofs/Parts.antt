@@ -13,8 +13,9 @@ use lib.Dec.{eqb, ltb, ltb→lt, nltb→le}
 use borrow.Author.Tests.{eq-eqb, ne-eqb}
 use Rattle.text.specs.Text.{Bytes}
 use Rattle.text.proofs.Tests.{by-test}
+use Rattle.format.specs.Kinds.{Kind, mark}
 use Rattle.format.specs.Build.{joined}
-use Rattle.format.specs.Read.{body, check, cut, onFirst, lastOr}
+use Rattle.format.specs.Read.{body, check, cut, onFirst, lastOr, fieldsIn}
 use Rattle.format.specs.Files.{upTo}
 use Rattle.format.proofs.Lines.{take-upTo}
 use Rattle.frame.specs.Frame.{nextMark, marksIn, partStart, partOf}
@@ -247,6 +248,12 @@ module _ (m : ℕ) (s : Bytes) where
       by-test (ltb n (length (cut m s)))
       (λ t. absurd (omega (arith, q, start-within n (ltb→lt _ _ t))))
       (λ t. sym (List·getD-eq-default (cut m s) [] {n = n + k} (omega (arith, nltb→le n (length (cut m s)) t))))
+
+-- ---- the fields of a record are the parts of its body from part 1 on: part 0 is the kind's name
+
+pub field-part : (k : Kind) (s : Bytes) (n : ℕ) → partOf (mark k) (body s) (suc n) ≡ getD (fieldsIn k s) n []
+unfolding partOf
+field-part k s n = let z : suc n ≡ 1 + n = omega arith in rw z (sym (getD-drop 1 (cut (mark k) (body s)) n []))
 
 -- ---- a part of a record's body is the same part of the record
 

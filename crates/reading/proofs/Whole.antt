@@ -6,14 +6,13 @@ use mathlib.Core.Bool.{true, false, cond, Bool·beq}
 use mathlib.Core.List.{List, [], _∷_}
 use native.Mathlib.Omega.{arith}
 use lib.ListN.{length, drop, getD}
-use lib.Seq.{getD-drop}
 use lib.Dec.{eqb, eqb·suc-zero}
 use Rattle.text.specs.Text.{Bytes}
 use Rattle.format.specs.Kinds.{Kind, mark, pubkeyKinds, among}
 use Rattle.format.specs.Build.{empty}
-use Rattle.format.specs.Read.{body, cut, fieldsIn, wholeAnswer}
+use Rattle.format.specs.Read.{body, fieldsIn, wholeAnswer}
 use Rattle.frame.specs.Frame.{partStart, partOf}
-use Rattle.frame.proofs.Parts.{parts-from, parts-past}
+use Rattle.frame.proofs.Parts.{parts-from, parts-past, field-part}
 use Rattle.table.specs.Table.{rowOf, markOf, isPubkey}
 use Rattle.table.proofs.Rows.{of-kind}
 use Rattle.reading.specs.Reading.{wholeNo}
@@ -45,9 +44,7 @@ whole-kind k fs = rw (of-kind (λ j. among j pubkeyKinds) false k)
 
 -- Issuer and Signature are parts 4 and 5 of the body
 pub whole-parts : (k : Kind) (s b : Bytes) (row : ℕ) → row ≡ rowOf k → b ≡ body s → wholeNo row (partOf (markOf row) b 4) (partOf (markOf row) b 5) ≡ wholeAnswer k (fieldsIn k s)
-unfolding partOf
-whole-parts k s b row e eb =
-    rw (e, eb, of-kind mark 0 k, ← getD-drop 1 (cut (mark k) (body s)) 3 [], ← getD-drop 1 (cut (mark k) (body s)) 4 []) (whole-kind k (fieldsIn k s))
+whole-parts k s b row e eb = rw (e, eb, of-kind mark 0 k, field-part k s 3, field-part k s 4) (whole-kind k (fieldsIn k s))
 
 -- ---- Issuer and Signature of a body b, whose part 4 starts at i, as the code cuts them
 module _ (row : ℕ) (b : Bytes) (m i : ℕ) (em : m ≡ markOf row) (q : i ≡ partStart m b 4) where
