@@ -1,7 +1,7 @@
 -- What is known of an accepted request: its kind, its fields, and that they go into a text.
 -- Assumes nothing.
 use Prim.Native.Nat.{ℕ, zero, suc, _≤_, _<_}
-use mathlib.Core.Path.{_≡_, refl, ap, ap₂, _∙_}
+use mathlib.Core.Path.{_≡_, refl, sym, ap, ap₂, _∙_}
 use mathlib.Core.Logic.{inl, inr}
 use mathlib.Core.List.{List, [], _∷_}
 use native.Mathlib.Omega.{arith}
@@ -12,23 +12,23 @@ use Rattle.text.specs.Text.{Bytes, Ident, shortest, longest}
 use Rattle.text.proofs.Tests.{by-test, between-high, allBelow, below}
 use Rattle.text.proofs.Types.{lengths, point-hex}
 use Rattle.format.specs.Kinds.{REQ, Field, Text, Identity, OrEmpty, fieldsOf}
-use Rattle.format.specs.Build.{Fits, FitAll, IsIdentity, Permitted}
+use Rattle.format.specs.Build.{Fits, FitAll, IsIdentity, Permitted, Built}
 use Rattle.format.specs.Read.{Outcome, accepted, fieldsIn, readOf}
 use Rattle.format.proofs.Table.{all-among, longestOf}
 use Rattle.format.proofs.Fields.{fit-length}
-use Rattle.format.proofs.Exactly.{identity-tame, read-exact}
+use Rattle.format.proofs.Exactly.{identity-tame, read-exact, read-says, its-fields}
 use Rattle.reading.specs.Reading.{answerOf}
 use Rattle.reading.specs.declared.Answer.{Answer}
-use Rattle.reading.proofs.Within.{taken, of-within}
+use Rattle.reading.proofs.Answers.{taken}
 use Rattle.agreement.specs.Steps.{Suited}
 
 -- ---- its kind and its fields
 
 pub request-read : (s : Bytes) (a : Answer) → a ≡ answerOf (readOf (REQ ∷ []) s) → a .no ≡ 0 → readOf (REQ ∷ []) s ≡ accepted REQ (fieldsIn REQ s)
 request-read s a e z =
-    let t = taken (REQ ∷ []) s (readOf (REQ ∷ []) s) a (of-within (REQ ∷ []) s) e z in
-    let k = all-among (λ j. j ≡ REQ) (REQ ∷ []) (refl, tt) (t .kind) (t .inside .of-kind) in
-    t .is ∙ ap₂ {C = Outcome} accepted k (t .inside .its-fields ∙ ap (λ j. fieldsIn j s) k)
+    let t = taken (Built (REQ ∷ []) s) (readOf (REQ ∷ []) s) a (read-says (REQ ∷ []) s) e z in
+    let k = all-among (λ j. j ≡ REQ) (REQ ∷ []) (refl, tt) (t .kind) (t .holds .of-kind) in
+    t .is ∙ ap₂ {C = Outcome} accepted k (sym (its-fields (t .holds)) ∙ ap (λ j. fieldsIn j s) k)
 
 -- ---- its fields go into a text
 

@@ -19,7 +19,7 @@ use Rattle.put.specs.declared.Written.{Written}
 use Rattle.put.proofs.Pieces.{put-whole, put-denied}
 use Rattle.reading.specs.Reading.{answerOf}
 use Rattle.reading.specs.declared.Answer.{Answer}
-use Rattle.reading.proofs.Within.{untaken}
+use Rattle.reading.proofs.Answers.{untaken}
 use Rattle.agreement.specs.Texts.{qe, sharedItems, moduleItems, centreItems, textMade, sharedInfo, moduleText, centreText}
 use Rattle.agreement.proofs.Request.{permitted-suited}
 use Rattle.agreement.proofs.Decoding.{point-bytes}

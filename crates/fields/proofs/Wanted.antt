@@ -12,33 +12,40 @@ use mir.Facts.{and-yes}
 use borrow.Author.Tests.{le-leb, lt-leb}
 use Rattle.text.specs.Text.{Bytes, between}
 use Rattle.text.proofs.Tests.{by-test, T-true, T-false}
-use Rattle.format.specs.Kinds.{Kind, mark, fieldsOf}
+use Rattle.format.specs.Kinds.{Kind, mark, fieldsOf, identityKinds}
+use Rattle.format.specs.Build.{Built}
 use Rattle.format.specs.Read.{Outcome, accepted, refused, place, body}
+use Rattle.format.proofs.Outcomes.{Honest}
+use Rattle.format.proofs.Exactly.{identity-says, read-says, its-parts, its-fields, its-count}
 use Rattle.frame.specs.Frame.{nextMark, partStart, partOf}
-use Rattle.frame.proofs.Parts.{next-within, part-there, start-within, body-bytes}
+use Rattle.frame.proofs.Parts.{next-within, part-there, start-within, field-part, body-bytes}
 use Rattle.table.specs.Table.{markOf, countOf}
 use Rattle.table.proofs.Rows.{less-or, of-kind}
 use Rattle.reading.specs.Reading.{answerOf}
 use Rattle.fields.specs.Fields.{wantedPart, wantedNo, wantedStart, Placed, FieldSaid}
-use Rattle.reading.specs.Steps.{Inside, Within}
-use Rattle.fields.specs.Steps.{Handed}
+use Rattle.fields.specs.Steps.{Reads, identity, records, Handed}
 use Rattle.reading.specs.declared.Answer.{Answer}
 use Rattle.fields.specs.declared.Place.{Place}
-use Rattle.reading.proofs.Within.{Taken, taken, untaken, field-part}
+use Rattle.reading.proofs.Answers.{told, Taken, taken, untaken}
 
 -- ---- the number
 
-module _ (o : Outcome) (ks : List Kind) (s : Bytes) (w : Within ks s o) (a : Answer) (e : a ≡ answerOf o) (wanted : ℕ) where
+-- a reading call accepts only what is built
+says : {s : Bytes} {o : Outcome} → Reads s o → (ks : List Kind) × Honest (Built ks s) o
+says {s} identity = (identityKinds, identity-says s)
+says {s} (records ks) = (ks, read-says ks s)
+
+module _ (o : Outcome) (s : Bytes) (r : Reads s o) (a : Answer) (e : a ≡ answerOf o) (wanted : ℕ) where
   pub wanted-refused : (a .no ≡ 0 → ⊥) → a .no ≡ wantedNo o wanted
   unfolding wantedNo
   wanted-refused z = sym (ap (λ (x : Outcome). wantedNo x wanted) (untaken o a e z))
 
   module _ (z : a .no ≡ 0) where
-    abbrev t : Taken ks s o (a .kind)
-    t = taken ks s o a w e z
+    abbrev t : Taken (Built (says r .0) s) o (a .kind)
+    t = taken (Built (says r .0) s) o a (says r .1) e z
 
     count-is : countOf (a .kind) ≡ length (t .fields)
-    count-is = ap countOf (t .at) ∙ of-kind (λ k. length (fieldsOf k)) 0 (t .kind) ∙ sym (t .inside .its-count)
+    count-is = ap countOf (t .at) ∙ of-kind (λ k. length (fieldsOf k)) 0 (t .kind) ∙ sym (its-count (t .holds))
 
     by-count : wantedNo o wanted ≡ cond (between 1 (countOf (a .kind)) wanted) 0 12
     unfolding wantedNo
@@ -63,10 +70,6 @@ outside fs (suc w) h =
     (λ l. absurd (rw (le-leb 1 (suc w) (omega arith), le-leb (suc w) (length fs) l) at h))
     (λ l. sym (List·getD-eq-default fs [] l))
 
-the-place : (o : Outcome) (a : Answer) → a ≡ answerOf o → a .field ≡ place o
-the-place (accepted k fs) a e = ap (λ (x : Answer). x .field) e
-the-place (refused n i) a e = ap (λ (x : Answer). x .field) e
-
 module _ (s : Bytes) (wanted : ℕ) where
   placed : (o : Outcome) (n f start len : ℕ) → n ≡ wantedNo o wanted → f ≡ place o → start ≡ wantedStart o wanted
       → start + len ≤ length s → take len (drop start s) ≡ wantedPart o wanted
@@ -84,14 +87,14 @@ module _ (s : Bytes) (wanted : ℕ) where
   nowhere (refused m i) n = (refl, refl)
 
   -- the field of an accepted record, from i to before j
-  module _ (ks : List Kind) (k : Kind) (fs : List Bytes) (n : Inside ks s k fs) (t : T (between 1 (length fs) wanted)) (i j : ℕ)
+  module _ (ks : List Kind) (k : Kind) (fs : List Bytes) (b : Built ks s k fs) (t : T (between 1 (length fs) wanted)) (i j : ℕ)
       (p : i ≡ partStart (mark k) (body s) wanted) (r : j ≡ nextMark (mark k) (body s) i) where
     its-start : i ≡ wantedStart (accepted k fs) wanted
     unfolding partStart wantedStart
-    its-start = p ∙ rw (n .its-parts, T-true (between 1 (length fs) wanted) t)
+    its-start = p ∙ rw (its-parts b, T-true (between 1 (length fs) wanted) t)
 
     starts : i < length (body s)
-    starts = let h = and-yes (leb 1 wanted) (leb wanted (length fs)) t in omega (arith, p, start-within (mark k) (body s) wanted (omega (arith, ap length (n .its-parts), leb→le wanted (length fs) (h .1))))
+    starts = let h = and-yes (leb 1 wanted) (leb wanted (length fs)) t in omega (arith, p, start-within (mark k) (body s) wanted (omega (arith, ap length (its-parts b), leb→le wanted (length fs) (h .1))))
 
     ends : j ≤ length (body s)
     ends = omega (arith, r, next-within (mark k) (body s) i (omega (arith, starts)))
@@ -102,14 +105,14 @@ module _ (s : Bytes) (wanted : ℕ) where
       where
         there : (v : ℕ) → T (leb 1 v) → partOf (mark k) (body s) v ≡ getD ([] ∷ fs) v []
         there zero h = absurd h
-        there (suc v) h = field-part ks s k fs n v
+        there (suc v) h = field-part k s v ∙ ap (λ (l : List Bytes). getD l v []) (its-fields b)
 
     its-bytes : take (j - i) (drop i s) ≡ wantedPart (accepted k fs) wanted
     its-bytes =
         body-bytes s i j (omega (arith, starts)) ends
         ∙ part-there (mark k) (body s) wanted i p starts j r ∙ its-part
 
-  there-said : (o : Outcome) (ks : List Kind) → Within ks s o → (a : Answer) → a ≡ answerOf o → wantedNo o wanted ≡ 0 → (i j : ℕ)
+  there-said : (o : Outcome) (ks : List Kind) → Honest (Built ks s) o → (a : Answer) → a ≡ answerOf o → wantedNo o wanted ≡ 0 → (i j : ℕ)
       → i ≡ partStart (markOf (a .kind)) (body s) wanted → j ≡ nextMark (markOf (a .kind)) (body s) i
       → (i ≡ wantedStart o wanted) × (i + (j - i) ≤ length s) × (take (j - i) (drop i s) ≡ wantedPart o wanted)
   unfolding wantedNo
@@ -124,14 +127,14 @@ module _ (s : Bytes) (wanted : ℕ) where
   there-said (refused zero f) ks w a q z i j p r = absurd w
   there-said (refused (suc m) f) ks w a q z i j p r = absurd (omega arith)
 
-  module _ (o : Outcome) (ks : List Kind) (w : Within ks s o) (a : Answer) (q : a ≡ answerOf o) (n : ℕ) (e : n ≡ wantedNo o wanted) where
+  module _ (o : Outcome) (r : Reads s o) (a : Answer) (q : a ≡ answerOf o) (n : ℕ) (e : n ≡ wantedNo o wanted) where
     pub place-none : (n ≡ 0 → ⊥) → Placed o wanted s (record { no = n; field = a .field; start = 0; len = 0 })
-    place-none z = let h = nowhere o (λ (y : wantedNo o wanted ≡ 0). z (e ∙ y)) in placed o n (a .field) 0 0 e (the-place o a q) (h .0) (omega arith) (h .1)
+    place-none z = let h = nowhere o (λ (y : wantedNo o wanted ≡ 0). z (e ∙ y)) in placed o n (a .field) 0 0 e (told o a q .1) (h .0) (omega arith) (h .1)
 
     -- i and j are the start and the end as the code has them
     pub place-there : n ≡ 0 → (i j : ℕ) → i ≡ partStart (markOf (a .kind)) (body s) wanted → j ≡ nextMark (markOf (a .kind)) (body s) i
         → Placed o wanted s (record { no = n; field = a .field; start = i; len = j - i })
-    place-there z i j p r = let h = there-said o ks w a q (sym e ∙ z) i j p r in placed o n (a .field) i (j - i) e (the-place o a q) (h .0) (h .1) (h .2)
+    place-there z i j p l = let h = there-said o (says r .0) (says r .1) a q (sym e ∙ z) i j p l in placed o n (a .field) i (j - i) e (told o a q .1) (h .0) (h .1) (h .2)
 
 -- ---- the part at a place
 

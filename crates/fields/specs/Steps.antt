@@ -2,9 +2,17 @@
 -- Assumes nothing.
 use Prim.Native.Nat.{ℕ}
 use mathlib.Core.Path.{_≡_}
+use mathlib.Core.List.{List}
 use lib.ListN.{take, drop}
 use Rattle.text.specs.Text.{Bytes}
+use Rattle.format.specs.Kinds.{Kind}
+use Rattle.format.specs.Read.{Outcome, readIdentity, readOf}
 use Rattle.fields.specs.declared.Place.{Place}
+
+-- o is what a reading call says of s
+pub data Reads (s : Bytes) : Outcome → Type 0 where
+  identity : Reads s (readIdentity s)
+  records : (ks : List Kind) → Reads s (readOf ks s)
 
 -- the part of s at a place, and the place's numbers
 pub record Handed (at : Place) (s part : Bytes) (no field : ℕ) : Type 0 where

@@ -1,17 +1,14 @@
 // One field of a record, by its number from 1: document 01, "Numbers given back". Each call reads the record first, as the
 // reading calls do; 12 for a field that the kind hasn't comes after every other number. No public call has a `requires`.
 ghost use mathlib.Core.Path.{_≡_};
-ghost use mathlib.Core.List.{List};
 ghost use Prim.Native.Nat.{_+_, _≤_};
 ghost use lib.ListN.{length};
 ghost use Rattle.text.specs.Text.{Bytes};
-ghost use Rattle.format.specs.Kinds.{Kind};
 ghost use Rattle.format.specs.Read.{Outcome, readIdentity, readOf, readRecord};
 ghost use Rattle.table.specs.Table.{kindsFrom};
 ghost use Rattle.reading.specs.Reading.{answerOf};
-ghost use Rattle.reading.specs.Steps.{Within};
 ghost use Rattle.fields.specs.Fields.{wantedNo, FieldSaid, Placed};
-ghost use Rattle.fields.specs.Steps.{Handed};
+ghost use Rattle.fields.specs.Steps.{Reads, Handed};
 
 const NO_ITEM: u8 = 12;
 
@@ -25,7 +22,7 @@ pub struct Place {
 
 // A refusal's own number, and 12 for a field that the accepted kind hasn't.
 fn wanted_no(answer: reading::Answer, wanted: usize) -> u8
-    ensures { λ r. ⌜ ((o : Outcome) (ks : List Kind) (s : Bytes) → Within ks s o → answer ≡ answerOf o → r ≡ wantedNo o wanted) ⌝ }
+    ensures { λ r. ⌜ ((o : Outcome) (s : Bytes) → Reads s o → answer ≡ answerOf o → r ≡ wantedNo o wanted) ⌝ }
 {
     if answer.no != reading::ACCEPTED {
         return answer.no;
@@ -41,7 +38,7 @@ fn wanted_no(answer: reading::Answer, wanted: usize) -> u8
 
 // Where the wanted field of s stands, to which a reading call gave this answer.
 fn place_from(answer: reading::Answer, s: &[u8], wanted: usize) -> Place
-    ensures { λ r. ⌜ ((o : Outcome) (ks : List Kind) → Within ks (now (s .entry)) o → answer ≡ answerOf o → Placed o wanted (now (s .entry)) r) ⌝ }
+    ensures { λ r. ⌜ ((o : Outcome) → Reads (now (s .entry)) o → answer ≡ answerOf o → Placed o wanted (now (s .entry)) r) ⌝ }
 {
     let no = wanted_no(answer, wanted);
     if no != reading::ACCEPTED {

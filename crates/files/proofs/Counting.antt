@@ -2,19 +2,20 @@
 -- Assumes nothing.
 use Prim.Native.Nat.{ℕ, zero, suc, _+_, _-_, _≤_, _<_}
 use mathlib.Core.Path.{_≡_, refl, ap, _∙_}
-use mathlib.Core.List.{[], _∷_}
+use mathlib.Core.List.{List, [], _∷_}
 use native.Mathlib.Omega.{arith}
 use lib.ListN.{length, take, drop}
 use Rattle.text.specs.Text.{Bytes}
 use Rattle.format.specs.Numbers.{unfinished}
-use Rattle.format.specs.Kinds.{recordKinds}
+use Rattle.format.specs.Kinds.{Kind, recordKinds}
+use Rattle.format.specs.Build.{Built}
 use Rattle.format.specs.Read.{Outcome, accepted, refused, readRecord}
 use Rattle.format.specs.Files as files
 use Rattle.format.specs.Files.{Said, finished, read, lineAt, walk, one, acceptedLines}
+use Rattle.format.proofs.Outcomes.{Honest}
+use Rattle.format.proofs.Exactly.{record-says}
 use Rattle.format.proofs.Lines.{at-end, at-line, at-unfinished, by-place, next-beyond, next-inside, rest, rest-walk, rest-onward, rest-step}
 use Rattle.reading.specs.Reading.{answerOf}
-use Rattle.reading.specs.Steps.{Within}
-use Rattle.reading.proofs.Within.{record-within}
 use Rattle.files.specs.Walk.{lineSaid, totalsOf}
 use Rattle.files.specs.declared.Line.the-variants.{Finished, Read}
 
@@ -23,10 +24,10 @@ use Rattle.files.specs.declared.Line.the-variants.{Finished, Read}
 abbrev Numbered : ℕ → Outcome → Type 0
 Numbered n o = (n ≡ 0 → one o ≡ 1) × ((n ≡ 0 → ⊥) → one o ≡ 0)
 
-within-numbered : (s : Bytes) (o : Outcome) → Within recordKinds s o → Numbered (answerOf o .no) o
-within-numbered s (accepted k fs) w = (λ e. refl, λ n. absurd (n refl))
-within-numbered s (refused zero i) w = absurd w
-within-numbered s (refused (suc n) i) w = (λ e. absurd (omega arith), λ n. refl)
+honest-numbered : (P : Kind → List Bytes → Type 0) (o : Outcome) → Honest P o → Numbered (answerOf o .no) o
+honest-numbered P (accepted k fs) h = (λ e. refl, λ n. absurd (n refl))
+honest-numbered P (refused zero i) h = absurd h
+honest-numbered P (refused (suc n) i) h = (λ e. absurd (omega arith), λ n. refl)
 
 abbrev SaidNumbered : Said → Type 0
 SaidNumbered (finished p) = Unit {0}
@@ -36,8 +37,8 @@ numbered : (file : Bytes) (place : ℕ) → SaidNumbered (lineAt file place)
 numbered file place =
     by-place file place (λ h. rw (at-end file place h) tt) (λ e f h.
     let l = take (e - place) (drop place file) in
-    rw (at-line file place e f h) (within-numbered l (readRecord l) (record-within l)))
-    (λ e f l h. rw (at-unfinished file place e f l h) (within-numbered [] (refused unfinished 0) tt))
+    rw (at-line file place e f h) (honest-numbered (Built recordKinds l) (readRecord l) (record-says l)))
+    (λ e f l h. rw (at-unfinished file place e f l h) (λ z. absurd (omega arith), λ n. refl))
 
 -- ---- a line was read at the place, with this number and this next place
 pub record Told (file : Bytes) (place n next : ℕ) : Type 0 where

@@ -10,7 +10,7 @@ use mathlib.Core.List.{List, [], _∷_}
 use native.Mathlib.Omega.{arith}
 use native.Mathlib.Nat.{le-trans}
 use lib.Dec.{T, T-not, eqb, leb, eqb→eq, le→leb}
-use lib.ListN.{length, length-append}
+use lib.ListN.{length, drop, length-append}
 use mir.Facts.{and-yes, yes-and, yes-eqb}
 use Rattle.crc16.specs.Crc.{crcOf}
 use Rattle.text.specs.Text.{Bytes, same, identCharacter, isHex}
@@ -21,18 +21,18 @@ use Rattle.text.proofs.Hexadecimal.{check-hex}
 use Rattle.format.specs.Numbers.{tooLong, noCheck, wrongCheck, wrongCount}
 use Rattle.format.specs.Kinds.{Kind, Field, name, mark, fieldsOf, identityFields, identityKinds, recordKinds, pubkeyKinds, among}
 use Rattle.format.specs.Build.{recordOf, empty, Fits, FitAll, PermittedOver, BuiltOver, IsIdentity, Permitted, Built}
-use Rattle.format.specs.Read.{Outcome, accepted, answer, title, markAfter, kindIn, body, check, lastOr, fieldsIn, judged, readAs, readOver, nobody, readIdentity, readOf, readRecord}
+use Rattle.format.specs.Read.{Outcome, accepted, answer, title, markAfter, kindIn, body, check, lastOr, cut, fieldsIn, judged, readAs, readOver, nobody, readIdentity, readOf, readRecord}
 use Rattle.format.proofs.Table.{name-inj, All, kindIn-some, kindIn-known, longestRecord, record-room, identity-row, pubkey-row}
-use Rattle.format.proofs.Parts.{WithoutAll, record-length, built-title, built-last, built-check, built-fields, record-without, found-built}
-use Rattle.format.proofs.Outcomes.{never, provided-law, ofKind-law, Honest, honest-zero}
+use Rattle.format.proofs.Parts.{WithoutAll, record-length, built-title, built-last, built-check, built-parts, record-without, found-built}
+use Rattle.format.proofs.Outcomes.{never, provided-law, ofKind-law, Honest, honest-map, honest-zero}
 use Rattle.format.proofs.Fields.{fit-length, Exact, fits-judged, judged-law, Tame, fields-held, record-held}
 
 -- ---- a call that asks `ask` of identities, which accepts exactly the identities I
 
 module _ (ask : Bytes → Outcome) (I : Kind → Bytes → Type 0) (x : Exact ask I) where
-  read-says : (ks : List Kind) (s : Bytes) → Honest (BuiltOver I ks s) (readOver ask ks s)
+  over-says : (ks : List Kind) (s : Bytes) → Honest (BuiltOver I ks s) (readOver ask ks s)
   unfolding readOver readAs
-  read-says ks s =
+  over-says ks s =
       let P : Outcome → Type 0 = Honest (BuiltOver I ks s) in
       provided-law P (leb (length s) 1024) tooLong _ tt
       (λ short. ofKind-law P (kindIn ks (title s) (markAfter s)) (readAs ask s) tt
@@ -60,7 +60,7 @@ module _ (ask : Bytes → Outcome) (I : Kind → Bytes → Type 0) (x : Exact as
       let hex : T (isHex 4 (check s)) = rw (built-check k fs) (check-hex (crcOf (body s))) in
       let ends = yes-and (isHex 4 (check s)) (eqb (lastOr 0 (body s)) (mark k)) hex (yes-eqb (built-last k fs)) in
       rw (
-        built-fields k fs w,
+        ap (drop 1) (built-parts k fs w),
         T-true (isHex 4 (check s) && eqb (lastOr 0 (body s)) (mark k)) ends,
         T-true (same (check s) (checkText (crcOf (body s)))) (rw (built-check k fs) (same-refl (checkText (crcOf (body s))))),
         T-true (eqb (length fs) (length (fieldsOf k))) (yes-eqb (fit-length I (fieldsOf k) fs (p .fit))),
@@ -69,7 +69,7 @@ module _ (ask : Bytes → Outcome) (I : Kind → Bytes → Type 0) (x : Exact as
   over-exact : Tame I → (ks : List Kind) (s : Bytes) (k : Kind) (fs : List Bytes) → (readOver ask ks s ≡ accepted k fs) ↔ BuiltOver I ks s k fs
   unfolding readOver
   over-exact tame ks s k fs = (
-    λ e. subst (Honest (BuiltOver I ks s)) e (read-says ks s),
+    λ e. subst (Honest (BuiltOver I ks s)) e (over-says ks s),
     λ b.
         let held = record-held I tame k fs (b .permitted .fit) in
         let known = built-title k fs in
@@ -96,10 +96,6 @@ no-tame m u k f i = absurd i
 identity-over : (s : Bytes) (k : Kind) (fs : List Bytes) → (readIdentity s ≡ accepted k fs) ↔ BuiltOver NoIdentity identityKinds s k fs
 unfolding readIdentity
 identity-over s k fs = over-exact nobody NoIdentity no-exact no-tame identityKinds s k fs
-
-pub identity-honest : (s : Bytes) → answer (readIdentity s) ≡ 0 → (k : Kind) × (fs : List Bytes) × (readIdentity s ≡ accepted k fs)
-unfolding readIdentity
-identity-honest s = honest-zero (BuiltOver NoIdentity identityKinds s) (readIdentity s) (read-says nobody NoIdentity no-exact identityKinds s)
 
 pub ask-sound : (k : Kind) (fs : List Bytes) (f : Bytes) → readIdentity f ≡ accepted k fs → IsIdentity k f
 unfolding IsIdentity
@@ -128,6 +124,10 @@ built-over I J s k fs b =
     let fit = refit I J identityFields (λ f h. h, (λ f h. h, (λ f h. h, (λ f h. h, tt)))) fs (rw row at (b .permitted .fit)) in
     record { of-kind = b .of-kind; permitted = record { fit = rw row fit; both = b .permitted .both }; built = b .built }
 
+pub identity-says : (s : Bytes) → Honest (Built identityKinds s) (readIdentity s)
+unfolding readIdentity
+identity-says s = honest-map (built-over NoIdentity IsIdentity s) (readIdentity s) (over-says nobody NoIdentity no-exact identityKinds s)
+
 pub identity-exact : (s : Bytes) (k : Kind) (fs : List Bytes) → (readIdentity s ≡ accepted k fs) ↔ Built identityKinds s k fs
 identity-exact s k fs = (
   λ e. built-over NoIdentity IsIdentity s k fs (identity-over s k fs .0 e),
@@ -155,20 +155,38 @@ pub record-exact : (s : Bytes) (k : Kind) (fs : List Bytes) → (readRecord s �
 unfolding readRecord
 record-exact s k fs = read-exact recordKinds s k fs
 
-pub read-honest : (ks : List Kind) (s : Bytes) → answer (readOf ks s) ≡ 0 → (k : Kind) × (fs : List Bytes) × (readOf ks s ≡ accepted k fs)
+pub read-says : (ks : List Kind) (s : Bytes) → Honest (Built ks s) (readOf ks s)
 unfolding readOf
-read-honest ks s = honest-zero (Built ks s) (readOf ks s) (read-says readIdentity IsIdentity ask-exact ks s)
+read-says ks s = over-says readIdentity IsIdentity ask-exact ks s
+
+pub read-honest : (ks : List Kind) (s : Bytes) → answer (readOf ks s) ≡ 0 → (k : Kind) × (fs : List Bytes) × (readOf ks s ≡ accepted k fs)
+read-honest ks s = honest-zero (Built ks s) (readOf ks s) (read-says ks s)
+
+pub record-says : (s : Bytes) → Honest (Built recordKinds s) (readRecord s)
+unfolding readRecord
+record-says s = read-says recordKinds s
 
 -- ---- one kind and one list of fields
 
-pub permitted-fields : (k : Kind) (fs : List Bytes) → Permitted k fs → fieldsIn k (recordOf k fs) ≡ fs
-permitted-fields k fs p = built-fields k fs (record-held IsIdentity identity-tame k fs (p .fit) .0)
+-- the first part of the body is the kind's name, and the fields are the others
+permitted-parts : (k : Kind) (fs : List Bytes) → Permitted k fs → cut (mark k) (body (recordOf k fs)) ≡ name k ∷ fs
+permitted-parts k fs p = built-parts k fs (record-held IsIdentity identity-tame k fs (p .fit) .0)
+
+module _ {ks : List Kind} {s : Bytes} {k : Kind} {fs : List Bytes} (b : Built ks s k fs) where
+  pub its-parts : cut (mark k) (body s) ≡ name k ∷ fs
+  its-parts = rw (b .built) (permitted-parts k fs (b .permitted))
+
+  pub its-fields : fieldsIn k s ≡ fs
+  its-fields = ap (drop 1) its-parts
+
+  pub its-count : length fs ≡ length (fieldsOf k)
+  its-count = fit-length IsIdentity (fieldsOf k) fs (b .permitted .fit)
 
 pub built-unique : (s : Bytes) (j k : Kind) (fs gs : List Bytes) → Permitted j fs → Permitted k gs → s ≡ recordOf j fs → s ≡ recordOf k gs
     → (j ≡ k) × (fs ≡ gs)
 built-unique s j k fs gs p q d e =
     let one : j ≡ k = name-inj j k (sym (built-title j fs .0) ∙ ap title (sym d ∙ e) ∙ built-title k gs .0) in
-    (one, sym (permitted-fields j fs p) ∙ ap₂ fieldsIn one (sym d ∙ e) ∙ permitted-fields k gs q)
+    (one, ap (drop 1) (sym (permitted-parts j fs p)) ∙ ap₂ fieldsIn one (sym d ∙ e) ∙ ap (drop 1) (permitted-parts k gs q))
 
 -- ---- lengths
 

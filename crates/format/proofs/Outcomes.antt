@@ -38,6 +38,11 @@ Honest P (accepted k fs) = P k fs
 Honest P (refused zero i) = ⊥
 Honest P (refused (suc n) i) = Unit {0}
 
+pub honest-map : {P Q : Kind → List Bytes → Type 0} → ((k : Kind) (fs : List Bytes) → P k fs → Q k fs) → (o : Outcome) → Honest P o → Honest Q o
+honest-map f (accepted k fs) h = f k fs h
+honest-map f (refused zero i) h = h
+honest-map f (refused (suc n) i) h = h
+
 pub honest-zero : (P : Kind → List Bytes → Type 0) (o : Outcome) → Honest P o → answer o ≡ 0 → (k : Kind) × (fs : List Bytes) × (o ≡ accepted k fs)
 honest-zero P (accepted k fs) h e = (k, fs, refl)
 honest-zero P (refused zero i) h e = absurd h

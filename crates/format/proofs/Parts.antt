@@ -128,11 +128,11 @@ module _ (k : Kind) (fs : List Bytes) where
   unfolding recordOf
   built-check = check-of (joined (mark k) (name k ∷ fs))
 
-  pub built-fields : WithoutAll (mark k) fs → fieldsIn k (recordOf k fs) ≡ fs
+  pub built-parts : WithoutAll (mark k) fs → cut (mark k) (body (recordOf k fs)) ≡ name k ∷ fs
   unfolding recordOf
-  built-fields h =
+  built-parts h =
       let n = plain-without (mark k) (mark-no-character k) (name k) (name-plain k) in
-      rw (body-of, cut-joined (mark k) (name k ∷ fs) (n, h))
+      rw body-of (cut-joined (mark k) (name k ∷ fs) (n, h))
 
 -- ---- a byte that stands in no part
 
@@ -157,7 +157,7 @@ module _ (k : Kind) (s : Bytes) (t : title s ≡ name k) (m : markAfter s ≡ ma
   whole : body s ++ check s ≡ s
   whole = take-append-drop (length s - 4) s
 
-  pub found-parts : cut (mark k) (body s) ≡ name k ∷ fieldsIn k s
+  found-parts : cut (mark k) (body s) ≡ name k ∷ fieldsIn k s
   found-parts =
       let front = title-front 0 (body s) (check s) tt (rw l (mark-is-mark k)) in
       let t′ : title (body s) ≡ name k = sym (front .0) ∙ ap title whole ∙ t in

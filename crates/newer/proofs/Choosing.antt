@@ -11,23 +11,19 @@ use Rattle.text.proofs.Tests.{by-test, cond-yes, cond-no}
 use Rattle.text.proofs.Types.{timestamp-looks}
 use Rattle.format.specs.Numbers.{notAlike}
 use Rattle.format.specs.Kinds.{pubkeyKinds}
+use Rattle.format.specs.Build.{Built}
 use Rattle.format.specs.Read.{Outcome, accepted, refused, answer, place, readOf}
 use Rattle.format.proofs.Outcomes.{never}
+use Rattle.format.proofs.Exactly.{read-says, read-honest}
 use Rattle.reading.specs.Reading.{answerOf}
-use Rattle.reading.specs.Steps.{Within}
 use Rattle.reading.specs.declared.Answer.{Answer}
-use Rattle.reading.proofs.Within.{of-within, taken, untaken}
+use Rattle.reading.proofs.Answers.{told, taken, untaken}
 use Rattle.newer.specs.Newer.{alike, after, later, Decision, theFirst, theSecond, denied, byRecords, newer, choiceNo, choiceWhich, choiceSaid, choicePart, Chosen}
 use Rattle.newer.specs.declared.Choice.{Choice}
 use Rattle.newer.specs.Keys.{Key, gntOf}
 use Rattle.newer.specs.Steps.{inTurn, subjectIn, gntIn, alikeTexts, Numbered}
 use Rattle.newer.proofs.Later.{later-by-bytes}
 use Rattle.newer.proofs.Keys.{key, its-title, its-name, its-gnt}
-
--- the numbers of an answer
-told : (o : Outcome) (r : Answer) → r ≡ answerOf o → (r .no ≡ answer o) × (r .field ≡ place o)
-told (accepted k fs) r e = (ap (λ (x : Answer). x .no) e, ap (λ (x : Answer). x .field) e)
-told (refused n i) r e = (ap (λ (x : Answer). x .no) e, ap (λ (x : Answer). x .field) e)
 
 -- ---- one record after the other
 
@@ -40,7 +36,7 @@ module _ (a b : Bytes) where
     turn-stop z = e ∙ rw (untaken (readOf pubkeyKinds a) r e z)
 
     pub turn-on : r .no ≡ 0 → both ≡ readOf pubkeyKinds b
-    turn-on z = rw (taken pubkeyKinds a (readOf pubkeyKinds a) r (of-within pubkeyKinds a) e z .is)
+    turn-on z = rw (taken (Built pubkeyKinds a) (readOf pubkeyKinds a) r (read-says pubkeyKinds a) e z .is)
 
   both-denied : {n i : ℕ} → both ≡ refused n i → newer a b ≡ denied n i
   unfolding newer
@@ -52,15 +48,14 @@ module _ (a b : Bytes) where
       go (refused m j) p e = ap (λ (o : Outcome). denied (answer o) (place o)) e
 
   both-keys : answer both ≡ 0 → Key a × Key b
-  both-keys = go (readOf pubkeyKinds a) (readOf pubkeyKinds b) refl refl (of-within pubkeyKinds a) (of-within pubkeyKinds b)
+  both-keys z =
+      let (k, fs, e) = read-honest pubkeyKinds a (first (readOf pubkeyKinds a) z) in
+      let (j, gs, f) = read-honest pubkeyKinds b (rw e at z) in
+      (key a k fs e, key b j gs f)
     where
-      go : (o p : Outcome) → readOf pubkeyKinds a ≡ o → readOf pubkeyKinds b ≡ p → Within pubkeyKinds a o → Within pubkeyKinds b p
-          → answer (inTurn o p) ≡ 0 → Key a × Key b
-      go (accepted k fs) (accepted j gs) e f v w z = (key a k fs e, key b j gs f)
-      go (accepted k fs) (refused zero i) e f v w z = absurd w
-      go (accepted k fs) (refused (suc n) i) e f v w z = absurd (omega arith)
-      go (refused zero i) p e f v w z = absurd v
-      go (refused (suc n) i) p e f v w z = absurd (omega arith)
+      first : (o : Outcome) → answer (inTurn o (readOf pubkeyKinds b)) ≡ 0 → answer o ≡ 0
+      first (accepted k fs) h = refl
+      first (refused n i) h = h
 
   -- ---- two accepted public keys
 

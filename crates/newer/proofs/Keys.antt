@@ -14,9 +14,8 @@ use Rattle.format.specs.Build.{Fits, FitAll, IsIdentity, Built}
 use Rattle.format.specs.Read.{accepted, title, readOf}
 use Rattle.format.proofs.Table.{all-among, identity-row, pubkey-row}
 use Rattle.format.proofs.Parts.{built-title}
-use Rattle.format.proofs.Exactly.{ask-complete, identity-exact, read-exact}
-use Rattle.reading.specs.Steps.{Inside}
-use Rattle.reading.proofs.Within.{identity-within, of-within, field-part}
+use Rattle.format.proofs.Exactly.{ask-complete, identity-exact, read-exact, its-fields}
+use Rattle.frame.proofs.Parts.{field-part}
 use Rattle.newer.specs.Newer.{subject}
 use Rattle.newer.specs.Keys.{Key, gntOf}
 use Rattle.newer.specs.Steps.{subjectIn, identityPart}
@@ -41,9 +40,9 @@ key s k fs e =
 module _ (s : Bytes) (k : Key s) where
   its-subject : subjectIn s ≡ subject (k .fields)
   its-subject =
-      let inside : Inside pubkeyKinds s (k .kind) (k .fields) = rw (k .is) at (of-within pubkeyKinds s) in
-      let bar : mark (k .kind) ≡ code "|" = all-among (λ j. mark j ≡ code "|") pubkeyKinds (refl, (refl, tt)) (k .kind) (inside .of-kind) in
-      rw (← bar) (field-part pubkeyKinds s (k .kind) (k .fields) inside 0)
+      let b = read-exact pubkeyKinds s (k .kind) (k .fields) .0 (k .is) in
+      let bar : mark (k .kind) ≡ code "|" = all-among (λ j. mark j ≡ code "|") pubkeyKinds (refl, (refl, tt)) (k .kind) (b .of-kind) in
+      rw (← bar) (field-part (k .kind) s 0 ∙ ap subject (its-fields b))
 
   identity : Built identityKinds (subject (k .fields)) (k .who) (k .names)
   identity = identity-exact (subject (k .fields)) (k .who) (k .names) .0 (k .known)
@@ -53,10 +52,9 @@ module _ (s : Bytes) (k : Key s) where
 
   pub its-name : (j : ℕ) → identityPart (subjectIn s) (suc j) ≡ getD (k .names) j []
   its-name j =
-      let i : Bytes = subject (k .fields) in
-      let inside : Inside identityKinds i (k .who) (k .names) = rw (k .known) at (identity-within i) in
       ap (λ (t : Bytes). identityPart t (suc j)) its-subject
-      ∙ rw (← (identity-row (k .who) (identity .of-kind) .0)) (field-part identityKinds i (k .who) (k .names) inside j)
+      ∙ rw (← (identity-row (k .who) (identity .of-kind) .0))
+      (field-part (k .who) (subject (k .fields)) j ∙ ap (λ (l : List Bytes). getD l j []) (its-fields identity))
 
   pub its-gnt : T (isTimestamp (gntOf k))
   unfolding Fits

@@ -14,25 +14,23 @@ use Rattle.text.proofs.Tests.{by-test, cond-yes}
 use Rattle.format.specs.Numbers.{noItem}
 use Rattle.format.specs.Kinds.{Kind, identityKinds, recordKinds}
 use Rattle.format.specs.Build.{Built}
-use Rattle.format.specs.Read.{Outcome, accepted, refused, answer, readRecord}
-use Rattle.format.proofs.Exactly.{identity-exact, record-exact, identity-honest, read-honest, built-unique, built-length, identity-length, unsigned-length, signed-length}
+use Rattle.format.specs.Read.{Outcome, accepted, refused, answer}
+use Rattle.format.proofs.Outcomes.{Honest, honest-zero}
+use Rattle.format.proofs.Exactly.{identity-says, identity-exact, record-says, record-exact, built-unique, built-length, identity-length, unsigned-length, signed-length}
 use Rattle.table.specs.Table.{rowOf}
 use Rattle.reading.specs.declared.Answer.{Answer}
 use Rattle.reading.specs.Reading.{answerOf}
+use Rattle.reading.proofs.Answers.{told}
 use Rattle.fields.specs.Fields.{wantedPart, wantedNo, FieldSaid}
 use Rattle.promises.specs.Reading.{Reading}
 
-number : (o : Outcome) → answerOf o .no ≡ answer o
-number (accepted k fs) = refl
-number (refused n i) = refl
-
 -- a call whose outcome is accepted exactly for what is built, and whose refusals have another number than 0
 module _ (o : Outcome) (B : Kind → List Bytes → Type 0) (exact : (k : Kind) (fs : List Bytes) → (o ≡ accepted k fs) ↔ B k fs)
-    (honest : answer o ≡ 0 → (k : Kind) × (fs : List Bytes) × (o ≡ accepted k fs)) where
+    (says : Honest B o) where
   exactly : (r : Answer) → r ≡ answerOf o → (r .no ≡ 0) ↔ ((k : Kind) × (fs : List Bytes) × B k fs)
   exactly r e =
-      let q : r .no ≡ answer o = ap (λ (a : Answer). a .no) e ∙ number o in (
-        λ z. let (k, fs, h) = honest (sym q ∙ z) in (k, fs, exact k fs .0 h),
+      let q = told o r e .0 in (
+        λ z. let (k, fs, h) = honest-zero B o says (sym q ∙ z) in (k, fs, exact k fs .0 h),
         λ b. q ∙ ap answer (exact (b .0) (b .1) .1 (b .2)),
       )
 
@@ -59,14 +57,13 @@ nothing (accepted k fs) (suc w) part m i p n =
 nothing (refused m i) wanted part k j p n = p .its-part
 
 pub reading : Reading
-unfolding readRecord
 reading = record {
-  identity-exactly = λ κs a r s p. exactly _ (Built identityKinds _) (identity-exact _) (identity-honest _) r p;
-  record-exactly = λ κs a r s p. exactly _ (Built recordKinds _) (record-exact _) (read-honest recordKinds _) r p;
-  identity-kind = λ κs a r s p. says-kind _ (Built identityKinds _) (identity-exact _) (identity-honest _) r p;
-  record-kind = λ κs a r s p. says-kind _ (Built recordKinds _) (record-exact _) (read-honest recordKinds _) r p;
-  identity-fields = λ κs a r s p. hands-back _ (Built identityKinds _) (identity-exact _) (identity-honest _) _ _ _ _ p;
-  record-fields = λ κs a r s p. hands-back _ (Built recordKinds _) (record-exact _) (read-honest recordKinds _) _ _ _ _ p;
+  identity-exactly = λ κs a r s p. exactly _ (Built identityKinds _) (identity-exact _) (identity-says _) r p;
+  record-exactly = λ κs a r s p. exactly _ (Built recordKinds _) (record-exact _) (record-says _) r p;
+  identity-kind = λ κs a r s p. says-kind _ (Built identityKinds _) (identity-exact _) (identity-says _) r p;
+  record-kind = λ κs a r s p. says-kind _ (Built recordKinds _) (record-exact _) (record-says _) r p;
+  identity-fields = λ κs a r s p. hands-back _ (Built identityKinds _) (identity-exact _) (identity-says _) _ _ _ _ p;
+  record-fields = λ κs a r s p. hands-back _ (Built recordKinds _) (record-exact _) (record-says _) _ _ _ _ p;
   identity-nothing = λ κs a r s p n. nothing _ _ _ _ _ p n;
   record-nothing = λ κs a r s p n. nothing _ _ _ _ _ p n;
   unique = built-unique;

@@ -1,6 +1,6 @@
 pub mod Outcomes
 pub mod Form
-pub mod Within
+pub mod Answers
 pub mod Types
 pub mod Fields
 pub mod Places

@@ -13,13 +13,14 @@ use Rattle.text.proofs.Tests.{and-stop, cond-yes}
 use Rattle.format.specs.Kinds.{Kind, Field, Text, Identity, OrEmpty, identityFields}
 use Rattle.format.specs.Build.{empty}
 use Rattle.format.specs.Read.{Outcome, fieldAnswer, identityAnswer}
+use Rattle.format.proofs.Outcomes.{Honest}
 use Rattle.table.specs.Table.{ofRow, fieldsAt, fieldType, TypeOf, isIdentity, mayBeEmpty, permitted, rowAmong}
 use Rattle.table.proofs.Rows.{less-or, among-row}
 use Rattle.table.proofs.Codes.{noCode, past-codes, identity-codes}
 use Rattle.reading.specs.Reading.{answerOf}
-use Rattle.reading.specs.Steps.{textIn, Within}
+use Rattle.reading.specs.Steps.{textIn}
 use Rattle.reading.specs.declared.Answer.{Answer}
-use Rattle.reading.proofs.Within.{taken, untaken}
+use Rattle.reading.proofs.Answers.{taken, untaken}
 
 -- ---- empty or not, by the length
 
@@ -102,8 +103,8 @@ module _ (ks : List Kind) (o : Outcome) (a : Answer) (e : a ≡ answerOf o) wher
   unfolding identityAnswer
   identity-refused z = ap (identityAnswer ks) (untaken o a e z)
 
-  pub identity-taken : (js : List Kind) (s : Bytes) → Within js s o → a .no ≡ 0 → identityAnswer ks o ≡ cond (rowAmong (a .kind) ks) 0 9
+  pub identity-taken : (P : Kind → List Bytes → Type 0) → Honest P o → a .no ≡ 0 → identityAnswer ks o ≡ cond (rowAmong (a .kind) ks) 0 9
   unfolding identityAnswer
-  identity-taken js s h z =
-      let t = taken js s o a h e z in
+  identity-taken P h z =
+      let t = taken P o a h e z in
       ap (identityAnswer ks) (t .is) ∙ ap (λ (b : Bool). cond b 0 9) (sym (ap (λ (n : ℕ). rowAmong n ks) (t .at) ∙ among-row (t .kind) ks))

@@ -1,15 +1,15 @@
 -- What the private functions of the crate answer. No clause of a document stands here.
 -- Assumes nothing.
-use Prim.Native.Nat.{ℕ, zero, suc}
+use Prim.Native.Nat.{ℕ}
 use mathlib.Core.Path.{_≡_}
 use mathlib.Core.Bool.{cond}
-use mathlib.Core.List.{List, _∷_}
+use mathlib.Core.List.{List}
 use lib.ListN.{length, drop}
-use lib.Dec.{T, eqb}
+use lib.Dec.{eqb}
 use Rattle.text.specs.Text.{Bytes, TextType, Ident}
 use Rattle.format.specs.Numbers.{noKind, wrongCount}
-use Rattle.format.specs.Kinds.{Kind, Field, Text, Identity, OrEmpty, name, mark, fieldsOf, among}
-use Rattle.format.specs.Read.{Outcome, accepted, refused, passing, body, cut, fieldsIn, each}
+use Rattle.format.specs.Kinds.{Field, Text, Identity, OrEmpty}
+use Rattle.format.specs.Read.{Outcome, passing, body, cut, each}
 use Rattle.frame.specs.Frame.{checkNo}
 use Rattle.table.specs.Table.{noRow, markOf, countOf, fieldsAt}
 
@@ -34,15 +34,3 @@ textIn (OrEmpty t) = textIn t
 -- the first of the fields fs that is refused has this number and place; both are 0 where none is
 pub record FirstRefused (ask : Bytes → Outcome) (row : ℕ) (fs : List Bytes) (no place : ℕ) : Type 0 where
   pub first : (o : Outcome) → each ask 1 (fieldsAt row) fs o ≡ passing no place o
-
--- what an outcome of s tells, where the kinds ks are read: a refusal has a number
-pub record Inside (ks : List Kind) (s : Bytes) (k : Kind) (fs : List Bytes) : Type 0 where
-  pub of-kind : T (among k ks)
-  pub its-fields : fs ≡ fieldsIn k s
-  pub its-parts : cut (mark k) (body s) ≡ name k ∷ fs
-  pub its-count : length fs ≡ length (fieldsOf k)
-
-abbrev pub Within : List Kind → Bytes → Outcome → Type 0
-Within ks s (accepted k fs) = Inside ks s k fs
-Within ks s (refused zero i) = ⊥
-Within ks s (refused (suc n) i) = Unit {0}

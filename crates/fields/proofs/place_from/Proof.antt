@@ -16,7 +16,7 @@ wanted-no-requires : tie.Need-wanted-no-requires
 wanted-no-requires c κs = search needs
 
 returns : tie.Need-returns
-returns c = λ o ks w e. let s = now (c .before .before .before .args .s) in place-none s _ o ks w _ e _ (c .before .wanted-no .ensures o ks s w e) (c .if1 .taken)
+returns c = λ o r e. let s = now (c .before .before .before .args .s) in place-none s _ o r _ e _ (c .before .wanted-no .ensures o s r e) (c .if1 .taken)
 
 mark-of-requires : tie.Need-mark-of-requires
 mark-of-requires c κs = search needs
@@ -34,11 +34,11 @@ sub-t10 : tie.Need-sub-t10
 sub-t10 c = omega (arith, c .next-mark .ensures, next-from (c .before .before .before .mark-of .result) (now (c .before .before .body-of .result)) (c .before .part-start .result))
 
 returns-2 : tie.Need-returns-2
-returns-2 c = λ o ks w e.
+returns-2 c = λ o r e.
     let a = c .before .before .before .before .before .before .before .args in
     let mark = c .before .before .before .mark-of .ensures in
     let body = c .before .before .body-of .ensures in
-    place-there (now (a .s)) _ o ks w _ e _ (c .before .before .before .before .before .wanted-no .ensures o ks (now (a .s)) w e) (c .before .before .before .before .if1 .left)
+    place-there (now (a .s)) _ o r _ e _ (c .before .before .before .before .before .wanted-no .ensures o (now (a .s)) r e) (c .before .before .before .before .if1 .left)
     _ _ (c .before .part-start .ensures ∙ ap₂ (λ (m : ℕ) (b : Bytes). partStart m b (a .wanted)) mark body) (c .next-mark .ensures ∙ ap₂ (λ (m : ℕ) (b : Bytes). nextMark m b (c .before .part-start .result)) mark body)
 
 pub place-from-spec : {M : Type 1} → statement M

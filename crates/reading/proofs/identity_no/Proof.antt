@@ -4,9 +4,10 @@ use denote.Ref.{now}
 use mathlib.Core.Path.{_≡_, sym, ap, _∙_}
 use mathlib.Core.Bool.{Bool, cond}
 use Rattle.format.specs.Kinds.{identityKinds}
+use Rattle.format.specs.Build.{Built}
 use Rattle.format.specs.Read.{readIdentity, identityAnswer}
+use Rattle.format.proofs.Exactly.{identity-says}
 use Rattle.table.specs.Table.{fieldType, permitted}
-use Rattle.reading.proofs.Within.{identity-within}
 use Rattle.reading.proofs.Types.{identity-refused, identity-taken}
 use borrow.Author.Needs.{needs}
 use Rattle.reading.proofs.identity_no.Statement.{statement}
@@ -15,7 +16,7 @@ use Rattle.reading.proofs.identity_no.Tie as tie
 -- past number 7: the table decides
 inner : (c : tie.After-does-permit) → identityAnswer (permitted (fieldType (c .before .before .before .before .before .args .code))) (readIdentity (now (c .before .before .before .before .before .args .field))) ≡ cond (c .does-permit .result) 0 9
 inner c =
-    identity-taken _ (readIdentity (now (c .before .before .before .before .before .args .field))) _ (c .before .before .before .read-identity .ensures) identityKinds _ (identity-within (now (c .before .before .before .before .before .args .field))) (c .before .if1 .left)
+    identity-taken _ (readIdentity (now (c .before .before .before .before .before .args .field))) _ (c .before .before .before .read-identity .ensures) (Built identityKinds _) (identity-says (now (c .before .before .before .before .before .args .field))) (c .before .if1 .left)
     ∙ ap (λ (b : Bool). cond b 0 9) (sym (c .does-permit .ensures))
 
 read-identity-requires : tie.Need-read-identity-requires
