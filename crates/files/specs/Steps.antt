@@ -22,6 +22,10 @@ pub record Stepped (before : Reader) (said : Line) (after : Reader) : Type 0 whe
   pub same-file : after .file ≡ before .file
   pub its-place : after .place ≡ nextOf said
 
+-- one step of a reader that stands at this place
+abbrev pub stepFrom : Bytes → ℕ → Line
+stepFrom file place = lineSaid (lineAt file place)
+
 -- steps in a row: each starts where the one before it ended
 pub data Steps : Reader → List Line → Reader → Type 0 where
   none : {reader : Reader} → Steps reader [] reader

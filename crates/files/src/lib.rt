@@ -5,7 +5,7 @@ ghost use Prim.Native.Nat.{_≤_};
 ghost use lib.ListN.{length};
 ghost use Rattle.format.specs.Files.{lineAt, walk};
 ghost use Rattle.files.specs.Walk.{lineEnd, lineSaid, nextOf, totalsOf};
-ghost use Rattle.files.specs.Steps.{Begins, Stepped};
+ghost use Rattle.files.specs.Steps.{Begins, Stepped, stepFrom};
 
 // The number of an unfinished last line, whatever it holds.
 const UNFINISHED: u8 = 11;
@@ -141,7 +141,7 @@ impl<'a> Reader<'a> {
 
 // One step of a reader that stands at the place. Its parameters are plain, so a caller's proof needs no walk by hand.
 pub fn step_from(file: &[u8], place: usize) -> Line
-    ensures { λ r. ⌜ r ≡ lineSaid (lineAt (now (file .entry)) place) ⌝ }
+    ensures { λ r. ⌜ r ≡ stepFrom (now (file .entry)) place ⌝ }
 {
     let mut reader = Reader { file, place };
     reader.step()
