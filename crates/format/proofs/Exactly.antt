@@ -20,10 +20,10 @@ use Rattle.text.proofs.Types.{hex-length, timestamp-length, point-hex}
 use Rattle.text.proofs.Hexadecimal.{check-hex}
 use Rattle.format.specs.Numbers.{tooLong, noCheck, wrongCheck, wrongCount}
 use Rattle.format.specs.Kinds.{Kind, Field, name, mark, fieldsOf, identityFields, identityKinds, recordKinds, pubkeyKinds, among}
-use Rattle.format.specs.Build.{recordOf, empty, Fits, FitAll, PermittedOver, BuiltOver, IsIdentity, Permitted, Built}
+use Rattle.format.specs.Build.{WithoutAll, recordOf, empty, Fits, FitAll, PermittedOver, BuiltOver, IsIdentity, Permitted, Built}
 use Rattle.format.specs.Read.{Outcome, accepted, answer, title, markAfter, kindIn, body, check, lastOr, cut, fieldsIn, judged, readAs, readOver, nobody, readIdentity, readOf, readRecord}
 use Rattle.format.proofs.Table.{name-inj, All, kindIn-some, kindIn-known, longestRecord, record-room, identity-row, pubkey-row}
-use Rattle.format.proofs.Parts.{WithoutAll, record-length, built-title, built-last, built-check, built-parts, record-without, found-built}
+use Rattle.format.proofs.Parts.{record-length, built-title, built-last, built-check, built-parts, record-without, found-built}
 use Rattle.format.proofs.Outcomes.{never, provided-law, ofKind-law, Honest, honest-map, honest-zero}
 use Rattle.format.proofs.Fields.{fit-length, Exact, fits-judged, judged-law, Tame, fields-held, record-held}
 

@@ -1,24 +1,24 @@
 -- The fields of a record: they are answered 0 exactly if they fit, no mark stands in them, and they are no longer than the table
 -- says.
 -- Assumes nothing.
-use Prim.Native.Nat.{ℕ, suc, _+_, _≤_}
+use Prim.Native.Nat.{ℕ, zero, suc, _+_, _≤_, _<_}
 use mathlib.Core.Path.{_≡_, refl, sym, ap, _∙_}
 use mathlib.Core.Logic.{inl, inr}
 use mathlib.Core.Bool.{Bool, true, false, cond}
 use mathlib.Core.List.{List, [], _∷_, map}
 use native.Mathlib.Omega.{arith}
 use lib.Dec.{T}
-use lib.ListN.{length, length-append}
+use lib.ListN.{length, getD, length-append}
 use mir.Facts.{and-yes}
-use Rattle.text.specs.Text.{Bytes, without, allOf, isOf, shortest, longest}
+use Rattle.text.specs.Text.{Bytes, Ident, without, allOf, isOf, shortest, longest}
 use Rattle.text.proofs.Tests.{by-test, cond-yes, cond-no, between-high}
 use Rattle.text.proofs.Types.{plain, plain-without, lengths}
 use Rattle.format.specs.Numbers.{wrongText, noIdentity, wrongKind, unpaired}
 use Rattle.format.specs.Kinds.{Kind, Field, Text, Identity, OrEmpty, name, mark, fieldsOf, among}
-use Rattle.format.specs.Build.{joined, recordOf, empty, Fits, FitAll, paired, PermittedOver}
+use Rattle.format.specs.Build.{joined, WithoutAll, recordOf, empty, Fits, FitAll, paired, PermittedOver}
 use Rattle.format.specs.Read.{Outcome, accepted, refused, passing, identityAnswer, fieldAnswer, each, wholeAnswer, judged}
 use Rattle.format.proofs.Table.{alien, absent, longestIdentity, longestOf, room, mark-absent}
-use Rattle.format.proofs.Parts.{WithoutAll, record-length}
+use Rattle.format.proofs.Parts.{record-length}
 use Rattle.format.proofs.Outcomes.{passing-law}
 
 -- ---- as many fields as the table has
@@ -29,6 +29,15 @@ fit-length I [] [] h = refl
 fit-length I [] (f ∷ fs) h = absurd h
 fit-length I (t ∷ ts) [] h = absurd h
 fit-length I (t ∷ ts) (f ∷ fs) h = ap suc (fit-length I ts fs (h .1))
+
+-- each field is as the table says
+pub fit-at : (I : Kind → Bytes → Type 0) (ts : List Field) (fs : List Bytes) → FitAll I ts fs → (j : ℕ) → j < length ts
+    → Fits I (getD ts j (Text Ident)) (getD fs j [])
+unfolding FitAll
+fit-at I [] fs h j l = absurd (omega arith)
+fit-at I (t ∷ ts) [] h j l = absurd h
+fit-at I (t ∷ ts) (f ∷ fs) h zero l = h .0
+fit-at I (t ∷ ts) (f ∷ fs) h (suc j) l = fit-at I ts fs (h .1) j (omega arith)
 
 -- ---- answered 0 exactly if they fit
 

@@ -17,9 +17,9 @@ use Rattle.text.proofs.Tests.{T-false, by-test, T-true, every-append}
 use Rattle.text.proofs.Types.{plain, plain-without, hex-length}
 use Rattle.text.proofs.Hexadecimal.{check-hex}
 use Rattle.format.specs.Kinds.{Kind, name, mark}
-use Rattle.format.specs.Build.{joined, withCheck, recordOf}
+use Rattle.format.specs.Build.{joined, WithoutAll, withCheck, recordOf}
 use Rattle.format.specs.Read.{isMark, title, markAfter, body, check, lastOr, onFirst, cut, fieldsIn}
-use Rattle.format.proofs.Table.{All, mark-is-mark, mark-no-character, name-markless, name-plain}
+use Rattle.format.proofs.Table.{mark-is-mark, mark-no-character, name-markless, name-plain}
 
 -- ---- joined after cut
 
@@ -56,9 +56,6 @@ cut-through m [] r h = rw (T-true (eqb m m) (eqb-refl m))
 cut-through m (c ∷ f) r h =
     let h′ = and-yes (not (eqb c m)) (without m f) h in
     rw (T-false (eqb c m) (h′ .0), cut-through m f r (h′ .1))
-
-abbrev pub WithoutAll : ℕ → List Bytes → Type 0
-WithoutAll m fs = All (λ f. T (without m f)) fs
 
 cut-joined : (m : ℕ) (fs : List Bytes) → WithoutAll m fs → cut m (joined m fs) ≡ fs
 cut-joined m [] h = refl

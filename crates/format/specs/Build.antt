@@ -9,7 +9,7 @@ use mathlib.Core.List.{List, [], _∷_, _++_}
 use lib.ListN.{getD}
 use lib.Dec.{T}
 use Rattle.crc16.specs.Crc.{crcOf}
-use Rattle.text.specs.Text.{Bytes, isOf}
+use Rattle.text.specs.Text.{Bytes, without, isOf}
 use Rattle.text.specs.Base16.{checkText}
 use Rattle.format.specs.Kinds.{Kind, Field, Text, Identity, OrEmpty, name, mark, fieldsOf, identityKinds, pubkeyKinds, among}
 
@@ -19,6 +19,11 @@ use Rattle.format.specs.Kinds.{Kind, Field, Text, Identity, OrEmpty, nam
 abbrev pub joined : ℕ → List Bytes → Bytes
 joined m [] = []
 joined m (f ∷ fs) = f ++ m ∷ joined m fs
+
+-- no part has the byte m in it, so that what is joined can be cut again
+abbrev pub WithoutAll : ℕ → List Bytes → Type 0
+WithoutAll m [] = Unit {0}
+WithoutAll m (f ∷ fs) = T (without m f) × WithoutAll m fs
 
 -- R and then BASE16 of its check
 unfoldable pub withCheck : Bytes → Bytes

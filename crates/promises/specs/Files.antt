@@ -8,10 +8,9 @@ use lib.ListN.{length, replicate}
 use lib.Dec.{T}
 use denote.Ref.{RefT, now}
 use Rattle.text.specs.Text.{Bytes, without}
-use Rattle.format.specs.Build.{joined}
+use Rattle.format.specs.Build.{joined, WithoutAll}
 use Rattle.format.specs.Files as format
 use Rattle.format.specs.Files.{lineFeed, read, lineAt, walk, linesFrom, acceptedLines}
-use Rattle.format.proofs.Parts.{WithoutAll}
 use Rattle.files.specs.Walk.{lineSaid, startOf, lengthOf, nextOf}
 use Rattle.files.specs.Steps.{Begins, Stepped, Steps}
 use Rattle.files.specs.declared.Line.{Line}
