@@ -8,7 +8,9 @@ use native.Mathlib.Omega.{arith}
 use lib.Dec.{T}
 use Rattle.text.specs.Text.{Bytes}
 use Rattle.text.proofs.Tests.{by-test, cond-yes, cond-no}
+use Rattle.text.specs.Later.{after, later}
 use Rattle.text.proofs.Types.{timestamp-looks}
+use Rattle.text.proofs.Later.{later-by-bytes}
 use Rattle.format.specs.Numbers.{notAlike}
 use Rattle.format.specs.Kinds.{pubkeyKinds}
 use Rattle.format.specs.Build.{Built}
@@ -18,12 +20,13 @@ use Rattle.format.proofs.Exactly.{read-says, read-honest}
 use Rattle.reading.specs.Reading.{answerOf}
 use Rattle.reading.specs.declared.Answer.{Answer}
 use Rattle.reading.proofs.Answers.{told, taken, untaken}
-use Rattle.newer.specs.Newer.{alike, after, later, Decision, theFirst, theSecond, denied, byRecords, newer, choiceNo, choiceWhich, choiceSaid, choicePart, Chosen}
+use Rattle.subjects.specs.Subjects.{gnt, alike, identityPart, areAlike}
+use Rattle.subjects.proofs.Subjects.{identity-field, identity-gnt, alike-identities}
+use Rattle.newer.specs.Newer.{Decision, theFirst, theSecond, denied, byRecords, newer, choiceNo, choiceWhich, choiceSaid, choicePart, Chosen}
 use Rattle.newer.specs.declared.Choice.{Choice}
 use Rattle.newer.specs.Keys.{Key, gntOf}
-use Rattle.newer.specs.Steps.{inTurn, subjectIn, gntIn, alikeTexts, Numbered}
-use Rattle.newer.proofs.Later.{later-by-bytes}
-use Rattle.newer.proofs.Keys.{key, its-title, its-name, its-gnt}
+use Rattle.newer.specs.Steps.{inTurn, subjectIn, gntIn, Numbered}
+use Rattle.newer.proofs.Keys.{key, its-subject}
 
 -- ---- one record after the other
 
@@ -73,21 +76,25 @@ module _ (a b : Bytes) where
     unfolding newer
     newer-keys = rw (p .is, q .is, p .known, q .known)
 
-    alike-keys : alikeTexts (subjectIn a) (subjectIn b) ≡ agree
-    unfolding alikeTexts
-    alike-keys = rw (its-title a p, its-title b q, its-name a p 0, its-name b q 0, its-name a p 1, its-name b q 1)
+    alike-keys : areAlike (subjectIn a) (subjectIn b) ≡ agree
+    alike-keys = ap₂ areAlike (its-subject a p) (its-subject b q) ∙ alike-identities _ _ (p .known) (q .known)
 
     later-keys : after (gntIn b) (gntIn a) ≡ later (gntOf q) (gntOf p)
-    later-keys = ap₂ after (its-name b q 2) (its-name a p 2) ∙ later-by-bytes _ _ (timestamp-looks _ (its-gnt b q)) (timestamp-looks _ (its-gnt a p))
+    later-keys =
+        ap₂ after (its-gnt b q) (its-gnt a p)
+        ∙ later-by-bytes _ _ (timestamp-looks _ (identity-gnt _ (q .known))) (timestamp-looks _ (identity-gnt _ (p .known)))
+      where
+        its-gnt : (s : Bytes) (k : Key s) → gntIn s ≡ gntOf k
+        its-gnt s k = ap (λ (t : Bytes). identityPart t 3) (its-subject s k) ∙ identity-field _ (k .known) 2
 
-    alike-numbered : alikeTexts (subjectIn a) (subjectIn b) ≡ true → Numbered (newer a b) 0 0
+    alike-numbered : areAlike (subjectIn a) (subjectIn b) ≡ true → Numbered (newer a b) 0 0
     alike-numbered t = rw (newer-keys, sym alike-keys ∙ t) (go (later (gntOf q) (gntOf p)))
       where
         go : (l : Bool) → Numbered (cond l theSecond theFirst) 0 0
         go true = record { its-no = refl; its-field = refl }
         go false = record { its-no = refl; its-field = refl }
 
-    unlike-numbered : alikeTexts (subjectIn a) (subjectIn b) ≡ false → Numbered (newer a b) notAlike 0
+    unlike-numbered : areAlike (subjectIn a) (subjectIn b) ≡ false → Numbered (newer a b) notAlike 0
     unlike-numbered t = rw (newer-keys, sym alike-keys ∙ t) record { its-no = refl; its-field = refl }
 
   -- ---- the numbers, by the answer to the two records
@@ -100,10 +107,10 @@ module _ (a b : Bytes) where
       keys : Key a × Key b
       keys = both-keys (sym (told both r e .0) ∙ z)
 
-      pub judged-alike : alikeTexts (subjectIn a) (subjectIn b) ≡ true → Numbered (newer a b) (r .no) (r .field)
+      pub judged-alike : areAlike (subjectIn a) (subjectIn b) ≡ true → Numbered (newer a b) (r .no) (r .field)
       judged-alike t = rw (z, told both r e .1 ∙ ap place (both-read (keys .0) (keys .1))) (alike-numbered (keys .0) (keys .1) t)
 
-      pub judged-unlike : alikeTexts (subjectIn a) (subjectIn b) ≡ false → Numbered (newer a b) notAlike 0
+      pub judged-unlike : areAlike (subjectIn a) (subjectIn b) ≡ false → Numbered (newer a b) notAlike 0
       judged-unlike = unlike-numbered (keys .0) (keys .1)
 
   -- ---- a choice with no number

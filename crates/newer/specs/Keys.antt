@@ -5,7 +5,8 @@ use mathlib.Core.List.{List}
 use Rattle.text.specs.Text.{Bytes}
 use Rattle.format.specs.Kinds.{Kind, pubkeyKinds}
 use Rattle.format.specs.Read.{accepted, readIdentity, readOf}
-use Rattle.newer.specs.Newer.{subject, manufacturer, mid, gnt}
+use Rattle.subjects.specs.Subjects.{manufacturer, mid, gnt}
+use Rattle.newer.specs.Newer.{subject}
 
 -- s is accepted as a public key, and the Subject in it is an identity of kind `who` with the fields `names`
 pub record Key (s : Bytes) : Type 0 where

@@ -3,48 +3,20 @@
 -- Assumes nothing.
 use Prim.Native.Nat.{ℕ}
 use mathlib.Core.Path.{_≡_}
-use mathlib.Core.Bool.{Bool, true, false, cond, _&&_, _||_}
-use mathlib.Core.List.{List, [], _∷_}
+use mathlib.Core.Bool.{cond}
+use mathlib.Core.List.{List, []}
 use lib.ListN.{getD}
-use lib.Dec.{ltb, eqb}
-use Rattle.text.specs.Text.{Bytes, same, year, month, day, hour, minute, second}
+use Rattle.text.specs.Text.{Bytes}
+use Rattle.text.specs.Later.{later}
 use Rattle.format.specs.Numbers.{notAlike}
-use Rattle.format.specs.Kinds.{Kind, name, pubkeyKinds}
+use Rattle.format.specs.Kinds.{pubkeyKinds}
 use Rattle.format.specs.Read.{Outcome, accepted, refused, readIdentity, readOf}
+use Rattle.subjects.specs.Subjects.{gnt, alike}
 use Rattle.newer.specs.declared.Choice.{Choice}
 
--- ---- the Subject of a public key, and what is compared of it
-
+-- the Subject of a public key
 abbrev pub subject : List Bytes → Bytes
 subject fs = getD fs 0 []
-
-abbrev pub manufacturer : List Bytes → Bytes
-manufacturer fs = getD fs 0 []
-
-abbrev pub mid : List Bytes → Bytes
-mid fs = getD fs 1 []
-
-abbrev pub gnt : List Bytes → Bytes
-gnt fs = getD fs 2 []
-
--- the two Subjects agree in kind, Manufacturer and MID (no two kinds have one name)
-abbrev pub alike : Kind → List Bytes → Kind → List Bytes → Bool
-alike j fs k gs = same (name j) (name k) && (same (manufacturer fs) (manufacturer gs) && same (mid fs) (mid gs))
-
--- ---- later as an instant: by the parts of the date, the greatest first
-
-abbrev pub instant : Bytes → List ℕ
-instant s = year s ∷ month s ∷ day s ∷ hour s ∷ minute s ∷ second s ∷ []
-
--- the first part that differs decides
-abbrev pub after : List ℕ → List ℕ → Bool
-after [] ys = false
-after (x ∷ xs) [] = true
-after (x ∷ xs) (y ∷ ys) = ltb y x || (eqb x y && after xs ys)
-
--- s is later than t
-unfoldable pub later : Bytes → Bytes → Bool
-later s t = after (instant s) (instant t)
 
 -- ---- the choice
 

@@ -1,22 +1,18 @@
 // The newer of two public keys: document 01, "Files of records and the newer key", number 13. The calls take any bytes
 // and have no `requires`.
 ghost use mathlib.Core.Path.{_≡_};
-ghost use Rattle.text.specs.Text.{same};
 ghost use Rattle.format.specs.Kinds.{pubkeyKinds};
 ghost use Rattle.format.specs.Read.{readOf};
 ghost use Rattle.reading.specs.Reading.{answerOf};
-ghost use Rattle.newer.specs.Newer.{after, newer, choiceSaid, Chosen};
-ghost use Rattle.newer.specs.Steps.{inTurn, subjectIn, identityPart, gntIn, alikeTexts, Numbered};
+ghost use Rattle.newer.specs.Newer.{newer, choiceSaid, Chosen};
+ghost use Rattle.newer.specs.Steps.{inTurn, subjectIn, gntIn, Numbered};
 
 const NOT_ALIKE: u8 = 13;
 
-// ---- the fields compared: the Subject of a public key, and what stands in an identity
+// ---- what is compared
 
+// The Subject's number in a public key, and GNT's in an identity.
 const SUBJECT: usize = 1;
-
-const MANUFACTURER: usize = 1;
-
-const MID: usize = 2;
 
 const GNT: usize = 3;
 
@@ -26,56 +22,10 @@ fn subject_of<'a>(key: &'a [u8]) -> &'a [u8]
     frame::part(b'|', frame::body_of(key), SUBJECT)
 }
 
-fn field_in<'a>(identity: &'a [u8], n: usize) -> &'a [u8]
-    ensures { λ r. ⌜ now r ≡ identityPart (now (identity .entry)) n ⌝ }
-{
-    frame::part(b':', frame::body_of(identity), n)
-}
-
 fn gnt_of<'a>(key: &'a [u8]) -> &'a [u8]
     ensures { λ r. ⌜ now r ≡ gntIn (now (key .entry)) ⌝ }
 {
-    field_in(subject_of(key), GNT)
-}
-
-// ---- comparing
-
-// The two identities have the same field n.
-fn do_agree(s: &[u8], t: &[u8], n: usize) -> bool
-    ensures { λ r. ⌜ r ≡ same (identityPart (now (s .entry)) n) (identityPart (now (t .entry)) n) ⌝ }
-{
-    text::are_same(field_in(s, n), field_in(t, n))
-}
-
-// The two identities agree in kind, Manufacturer and MID.
-fn are_alike(s: &[u8], t: &[u8]) -> bool
-    ensures { λ r. ⌜ r ≡ alikeTexts (now (s .entry)) (now (t .entry)) ⌝ }
-{
-    if !text::are_same(frame::title_of(s), frame::title_of(t)) {
-        return false;
-    }
-    if !do_agree(s, t, MANUFACTURER) {
-        return false;
-    }
-    do_agree(s, t, MID)
-}
-
-// The first byte that differs decides. Two TIMESTAMPs have digits and letters in the same places, the greatest part
-// of the date first, so this is their order in time.
-fn is_later(s: &[u8], t: &[u8]) -> bool
-    ensures { λ r. ⌜ r ≡ after (now (s .entry)) (now (t .entry)) ⌝ }
-{
-    let mut i = 0;
-    while i < s.len() {
-        if t.len() <= i {
-            return true;
-        }
-        if s[i] != t[i] {
-            return t[i] < s[i];
-        }
-        i += 1;
-    }
-    false
+    frame::part(b':', frame::body_of(subject_of(key)), GNT)
 }
 
 // ---- the refusals
@@ -106,7 +56,7 @@ fn judge(first: &[u8], second: &[u8]) -> reading::Answer
     if answer.no != reading::ACCEPTED {
         return answer;
     }
-    if are_alike(subject_of(first), subject_of(second)) {
+    if subjects::are_alike(subject_of(first), subject_of(second)) {
         return answer;
     }
     reading::Answer {
@@ -145,7 +95,7 @@ pub fn newer_of(first: &[u8], second: &[u8]) -> Choice
             which: NEITHER,
         };
     }
-    if is_later(gnt_of(second), gnt_of(first)) {
+    if text::is_later(gnt_of(second), gnt_of(first)) {
         return Choice {
             no,
             field,

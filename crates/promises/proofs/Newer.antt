@@ -2,9 +2,10 @@
 -- Assumes nothing.
 use Prim.Native.Nat.{ℕ}
 use Rattle.text.specs.Text.{Bytes}
+use Rattle.text.proofs.Later.{later-neither}
 use Rattle.newer.specs.Newer as newer
 use Rattle.newer.specs.Newer.{Chosen}
-use Rattle.newer.proofs.Chosen.{chosen-exactly, refused-empty, not-earlier, first-when-equal, later-neither}
+use Rattle.newer.proofs.Chosen.{chosen-exactly, refused-empty, not-earlier, first-when-equal}
 use Rattle.promises.specs.Newer.{NewerSaid, Newer}
 
 newer-said : (a b part : Bytes) (n i : ℕ) → Chosen (newer.newer a b) a b part n i → NewerSaid a b part n

@@ -11,6 +11,7 @@ use Rattle.crc16.proofs.crc_of.Reads as crc-of
 use Rattle.text.proofs.are_same.Reads as are-same
 use Rattle.text.proofs.is_ident.Reads as is-ident
 use Rattle.text.proofs.is_timestamp.Reads as is-timestamp
+use Rattle.text.proofs.is_later.Reads as is-later
 use Rattle.text.proofs.is_hex.Reads as is-hex
 use Rattle.text.proofs.is_point.Reads as is-point
 use Rattle.text.proofs.is_sig.Reads as is-sig
@@ -64,6 +65,7 @@ use Rattle.files.proofs.step_from.Reads as step-from
 use Rattle.listing.proofs.line_text.Reads as line-text
 use Rattle.listing.proofs.end_text.Reads as end-text
 use Rattle.printing.proofs.print_list.Reads as print-list
+use Rattle.subjects.proofs.are_alike.Reads as are-alike
 use Rattle.newer.proofs.newer_of.Reads as newer-of
 use Rattle.newer.proofs.newer.Reads as newer
 
@@ -90,6 +92,7 @@ pub record Determined : Type 0 where
   pub are-same : OneAnswer are-same.Post
   pub is-ident : OneAnswer is-ident.Post
   pub is-timestamp : OneAnswer is-timestamp.Post
+  pub is-later : OneAnswer is-later.Post
   pub is-hex : OneAnswer is-hex.Post
   pub is-point : OneAnswer is-point.Post
   pub is-sig : OneAnswer is-sig.Post
@@ -168,6 +171,8 @@ pub record Determined : Type 0 where
   pub end-text-out : OneLeft end-text.Post (λ κs s. now (s .1 .1 .0))
   -- printing
   pub print-list : OneAnswer print-list.Post
+  -- subjects
+  pub are-alike : OneAnswer are-alike.Post
   -- newer
   pub newer-of : OneAnswer newer-of.Post
   pub newer-part : OnePart newer.Post

@@ -8,7 +8,7 @@ use mathlib.Core.List.{[]}
 use lib.Dec.{T}
 use denote.Ref.{now}
 use Rattle.text.specs.Text.{Bytes, isTimestamp}
-use Rattle.newer.specs.Newer.{later}
+use Rattle.text.specs.Later.{later}
 use Rattle.newer.specs.Keys.{Key, gntOf, Agreed}
 use Rattle.newer.proofs.newer.Reads as call
 use Rattle.promises.specs.Calls.{Holds}

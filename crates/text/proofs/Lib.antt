@@ -2,3 +2,5 @@ pub mod Tests
 pub mod Loops
 pub mod Hexadecimal
 pub mod Types
+pub mod Order
+pub mod Later

@@ -1,3 +1,4 @@
 pub mod Text
 pub mod Base16
+pub mod Later
 pub mod Steps

@@ -3,6 +3,7 @@ ghost use mathlib.Core.Path.{_≡_};
 ghost use Prim.Native.Nat.{_+_, _-_, _≤_, _<_};
 ghost use lib.ListN.{length};
 ghost use Rattle.text.specs.Text.{between, fits, looks, number, part, year, isTimestamp};
+ghost use Rattle.text.specs.Later.{after};
 
 // The byte c stands where a pattern has p: T and Z for themselves, any other letter for a digit.
 fn does_fit(p: u8, c: u8) -> bool
@@ -89,4 +90,22 @@ pub fn is_timestamp(s: &[u8]) -> bool
         return false;
     }
     is_two_between(0, 59, s, 13)
+}
+
+// Whether s is later than t: the first byte that differs decides. Two TIMESTAMPs have digits and letters in the same
+// places, the greatest part of the date first, so this is their order in time.
+pub fn is_later(s: &[u8], t: &[u8]) -> bool
+    ensures { λ r. ⌜ r ≡ after (now (s .entry)) (now (t .entry)) ⌝ }
+{
+    let mut i = 0;
+    while i < s.len() {
+        if t.len() <= i {
+            return true;
+        }
+        if s[i] != t[i] {
+            return t[i] < s[i];
+        }
+        i += 1;
+    }
+    false
 }

@@ -7,6 +7,7 @@ mod date;
 pub use base16::check_text;
 pub use base16::hex_digit;
 pub use base16::hex_value;
+pub use date::is_later;
 pub use date::is_timestamp;
 ghost use mathlib.Core.Path.{_≡_};
 ghost use Rattle.text.specs.Text.{same, isIdent, isHex, isPoint, isSig, isMac, isPrint};

@@ -2,7 +2,7 @@
 -- Assumes nothing.
 use denote.Ref.{now}
 use mathlib.Core.Path.{sym, ap₂, _∙_}
-use Rattle.newer.specs.Steps.{alikeTexts}
+use Rattle.subjects.specs.Subjects.{areAlike}
 use Rattle.newer.proofs.Choosing.{judged-refused, judged-alike, judged-unlike}
 use borrow.Author.Needs.{needs}
 use Rattle.newer.proofs.judge.Statement.{statement}
@@ -26,12 +26,12 @@ are-alike-requires c κs = search needs
 returns-2 : tie.Need-returns-2
 returns-2 c =
     judged-alike (now (c .before .before .before .before .before .before .before .before .before .args .first)) (now (c .before .before .before .before .before .before .before .before .before .args .second)) _ (c .before .before .before .before .before .before .read-both .ensures) (c .before .before .before .before .if1 .left)
-    (sym (c .before .are-alike .ensures ∙ ap₂ alikeTexts (c .before .before .before .subject-of .ensures) (c .before .before .subject-of2 .ensures)) ∙ c .if2 .taken)
+    (sym (c .before .are-alike .ensures ∙ ap₂ areAlike (c .before .before .before .subject-of .ensures) (c .before .before .subject-of2 .ensures)) ∙ c .if2 .taken)
 
 returns-3 : tie.Need-returns-3
 returns-3 c =
     judged-unlike (now (c .before .before .before .before .before .before .before .before .before .args .first)) (now (c .before .before .before .before .before .before .before .before .before .args .second)) _ (c .before .before .before .before .before .before .read-both .ensures) (c .before .before .before .before .if1 .left)
-    (sym (c .before .are-alike .ensures ∙ ap₂ alikeTexts (c .before .before .before .subject-of .ensures) (c .before .before .subject-of2 .ensures)) ∙ c .if2 .left)
+    (sym (c .before .are-alike .ensures ∙ ap₂ areAlike (c .before .before .before .subject-of .ensures) (c .before .before .subject-of2 .ensures)) ∙ c .if2 .left)
 
 pub judge-spec : {M : Type 1} → statement M
 judge-spec =

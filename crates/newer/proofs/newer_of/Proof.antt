@@ -3,7 +3,7 @@
 use denote.Ref.{now}
 use mathlib.Core.Path.{sym, ap₂, _∙_}
 use mathlib.Core.Bool.{true, false}
-use Rattle.newer.specs.Newer.{after}
+use Rattle.text.specs.Later.{after}
 use Rattle.newer.proofs.Choosing.{said-neither, said-one}
 use borrow.Author.Needs.{needs}
 use Rattle.newer.proofs.newer_of.Statement.{statement}

@@ -1,21 +1,21 @@
--- Of two texts with the pattern of a TIMESTAMP the one that is later byte by byte is later by the parts of its date. The pattern
--- alone counts, and not the ranges of the parts.
+-- Of two texts with the pattern of a TIMESTAMP the one that is later byte by byte is later by the parts of its date: the pattern
+-- alone counts, and not the ranges of the parts. And later is an order of TIMESTAMPs.
 -- Assumes nothing.
 use Prim.Native.Nat.{ℕ, zero, suc, _+_, _-_, _*_, _<_}
 use mathlib.Core.Path.{_≡_, refl, sym, ap, ap₂, _∙_}
-use mathlib.Core.Bool.{Bool, not}
+use mathlib.Core.Bool.{Bool, true, false, not}
 use mathlib.Core.List.{List, [], _∷_, _++_}
 use native.Mathlib.Omega.{arith}
 use lib.ListN.{length, take, drop, take-append-drop}
 use lib.Seq.{drop-drop}
 use lib.Dec.{T, eqb, eqb→eq}
 use mir.Facts.{and-yes, yes-and}
-use Rattle.text.specs.Text.{Bytes, ascii, oneOf, every, part, decimal, fits, looks, numberFrom, number}
+use Rattle.text.specs.Text.{Bytes, ascii, oneOf, every, part, decimal, fits, looks, numberFrom, number, isTimestamp}
 use Rattle.text.proofs.Tests.{cond-yes, cond-no, between-low, between-high}
 use Rattle.text.proofs.Loops.{looks-pairwise, pairwise-length}
-use Rattle.text.proofs.Types.{stamp}
-use Rattle.newer.specs.Newer.{instant, after, later}
-use Rattle.newer.proofs.Order.{by-order, after-less, after-equal, after-more}
+use Rattle.text.proofs.Types.{stamp, timestamp-looks}
+use Rattle.text.specs.Later.{instant, after, later}
+use Rattle.text.proofs.Order.{by-order, after-less, after-equal, after-more, after-itself, after-one-way, after-neither}
 
 -- ---- digits: two numbers of as many digits compare as their digits do
 
@@ -151,3 +151,19 @@ later-by-bytes s t hs ht =
     (number 11 2 tt (drop 5 xs) (drop 5 ys)
     (number 13 2 tt [] []
     (letters 15 1 tt ∙ ap₂ after (stamp-end s hs) (stamp-end t ht)))))))
+
+-- ---- later is an order of TIMESTAMPs
+
+pub later-itself : (s : Bytes) → later s s ≡ false
+unfolding later
+later-itself s = after-itself (instant s)
+
+pub later-one-way : (s t : Bytes) → later s t ≡ true → later t s ≡ false
+unfolding later
+later-one-way s t = after-one-way (instant s) (instant t)
+
+pub later-neither : (s t : Bytes) → T (isTimestamp s) → T (isTimestamp t) → later s t ≡ false → later t s ≡ false → s ≡ t
+later-neither s t hs ht e f =
+    let ps = timestamp-looks s hs in
+    let pt = timestamp-looks t ht in
+    after-neither s t (later-by-bytes s t ps pt ∙ e) (later-by-bytes t s pt ps ∙ f)

@@ -1,13 +1,13 @@
--- `newer::is_later` meets its contract. The loop's invariant: what is left decides.
+-- `text::date::is_later` meets its contract. The loop's invariant: what is left decides.
 -- Assumes nothing.
 use Prim.Native.Nat.{_-_}
 use mathlib.Core.Path.{_≡_, refl, sym, _∙_}
 use lib.ListN.{length, drop}
-use Rattle.newer.specs.Newer.{after}
-use Rattle.newer.proofs.Order.{turn-longer, turn-apart, turn-on, turn-end}
+use Rattle.text.specs.Later.{after}
+use Rattle.text.proofs.Order.{turn-longer, turn-apart, turn-on, turn-end}
 use borrow.Author.Needs.{needs}
-use Rattle.newer.proofs.is_later.Statement.{statement}
-use Rattle.newer.proofs.is_later.Tie as tie
+use Rattle.text.proofs.date.is_later.Statement.{statement}
+use Rattle.text.proofs.date.is_later.Tie as tie
 
 abbrev Inv-loop : tie.InvT-loop
 Inv-loop s t i₀ i = after (drop i s) (drop i t) ≡ after s t

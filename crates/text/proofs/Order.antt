@@ -11,9 +11,9 @@ use lib.ListN.{length, drop, getD, drop-of-length-le}
 use lib.Seq.{drop-cons}
 use lib.Dec.{ltb, ltb→lt, nltb→le}
 use borrow.Author.Tests.{lt-ltb, le-ltb, eq-eqb, ne-eqb}
 use Rattle.text.specs.Text.{Bytes}
 use Rattle.text.proofs.Tests.{by-test}
-use Rattle.newer.specs.Newer.{after}
+use Rattle.text.specs.Later.{after}
 
 pub by-order {ℓ} : {X : Type ℓ} (x y : ℕ) → (x < y → X) → (x ≡ y → X) → (y < x → X) → X
 by-order x y f g h =

@@ -1,11 +1,11 @@
--- `newer::field_in` meets its contract.
+-- `subjects::field_in` meets its contract.
 -- Assumes nothing.
 use mathlib.Core.Path.{ap, _∙_}
 use Rattle.text.specs.Text.{Bytes}
 use Rattle.frame.specs.Frame.{partOf}
 use borrow.Author.Needs.{needs}
-use Rattle.newer.proofs.field_in.Statement.{statement}
-use Rattle.newer.proofs.field_in.Tie as tie
+use Rattle.subjects.proofs.field_in.Statement.{statement}
+use Rattle.subjects.proofs.field_in.Tie as tie
 
 body-of-requires : tie.Need-body-of-requires
 body-of-requires c κs = search needs

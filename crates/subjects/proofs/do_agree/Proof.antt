@@ -1,10 +1,10 @@
--- `newer::do_agree` meets its contract.
+-- `subjects::do_agree` meets its contract.
 -- Assumes nothing.
 use mathlib.Core.Path.{ap₂, _∙_}
 use Rattle.text.specs.Text.{same}
 use borrow.Author.Needs.{needs}
-use Rattle.newer.proofs.do_agree.Statement.{statement}
-use Rattle.newer.proofs.do_agree.Tie as tie
+use Rattle.subjects.proofs.do_agree.Statement.{statement}
+use Rattle.subjects.proofs.do_agree.Tie as tie
 
 field-in-requires : tie.Need-field-in-requires
 field-in-requires c κs = search needs

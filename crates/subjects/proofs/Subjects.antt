@@ -1,0 +1,65 @@
+-- Of accepted identities: their fields stand where the code looks for them, and comparing their bytes is comparing kind,
+-- Manufacturer and MID.
+-- Assumes nothing.
+use Prim.Native.Nat.{ℕ, suc}
+use mathlib.Core.Path.{_≡_, ap, _∙_}
+use mathlib.Core.Logic.{_↔_}
+use mathlib.Core.Bool.{true}
+use mathlib.Core.List.{List, []}
+use lib.ListN.{getD}
+use lib.Dec.{T, lit<}
+use mir.Facts.{and-yes}
+use Rattle.text.specs.Text.{Bytes, same, isTimestamp}
+use Rattle.text.proofs.Tests.{same→eq, same-refl, T-true}
+use Rattle.format.specs.Kinds.{Kind, name, identityKinds}
+use Rattle.format.specs.Build.{Fits, IsIdentity, Built}
+use Rattle.format.specs.Read.{accepted, title, readIdentity}
+use Rattle.format.proofs.Table.{name-inj, identity-row}
+use Rattle.format.proofs.Parts.{built-title}
+use Rattle.format.proofs.Fields.{fit-at}
+use Rattle.format.proofs.Exactly.{identity-exact, its-fields}
+use Rattle.frame.proofs.Parts.{field-part}
+use Rattle.subjects.specs.Subjects.{manufacturer, mid, gnt, alike, identityPart, areAlike}
+
+-- ---- an accepted identity
+
+module _ (i : Bytes) {k : Kind} {fs : List Bytes} (e : readIdentity i ≡ accepted k fs) where
+  built : Built identityKinds i k fs
+  built = identity-exact i k fs .0 e
+
+  identity-title : title i ≡ name k
+  identity-title = ap title (built .built) ∙ built-title k fs .0
+
+  pub identity-field : (j : ℕ) → identityPart i (suc j) ≡ getD fs j []
+  identity-field j =
+      rw (← (identity-row k (built .of-kind) .0)) (field-part k i j ∙ ap (λ (l : List Bytes). getD l j []) (its-fields built))
+
+  pub identity-gnt : T (isTimestamp (gnt fs))
+  unfolding Fits
+  identity-gnt = fit-at IsIdentity _ fs (rw (identity-row k (built .of-kind) .1) at (built .permitted .fit)) 2 (lit< tt)
+
+-- ---- two of them
+
+pub alike-identities : (i j : Bytes) {k l : Kind} {fs gs : List Bytes} → readIdentity i ≡ accepted k fs → readIdentity j ≡ accepted l gs
+    → areAlike i j ≡ alike k fs l gs
+unfolding alike areAlike
+alike-identities i j e f =
+    rw (identity-title i e, identity-title j f, identity-field i e 0, identity-field j f 0, identity-field i e 1, identity-field j f 1)
+
+same-self : (s : Bytes) → same s s ≡ true
+same-self s = T-true (same s s) (same-refl s)
+
+module _ (j k : Kind) (fs gs : List Bytes) where
+  abbrev Agree : Type 0
+  Agree = (j ≡ k) × (manufacturer fs ≡ manufacturer gs) × (mid fs ≡ mid gs)
+
+  -- alike exactly where kind, Manufacturer and MID are equal
+  pub alike-exactly : T (alike j fs k gs) ↔ Agree
+  unfolding alike
+  alike-exactly = (
+    λ t.
+        let t₁ = and-yes (same (name j) (name k)) _ t in
+        let t₂ = and-yes (same (manufacturer fs) (manufacturer gs)) _ (t₁ .1) in
+        (name-inj j k (same→eq _ _ (t₁ .0)), same→eq _ _ (t₂ .0), same→eq _ _ (t₂ .1)),
+    λ (kinds, manufacturers, mids). rw (kinds, manufacturers, mids) (simp same-self tt),
+  )
