@@ -14,7 +14,7 @@ use Rattle.text.proofs.Types.{lengths, point-hex}
 use Rattle.format.specs.Kinds.{REQ, Field, Text, Identity, OrEmpty, fieldsOf}
 use Rattle.format.specs.Build.{Fits, FitAll, IsIdentity, Permitted, Built}
 use Rattle.format.specs.Read.{Outcome, accepted, fieldsIn, readOf}
-use Rattle.format.proofs.Table.{all-among, longestOf}
+use Rattle.format.proofs.Table.{among-one, longestOf}
 use Rattle.format.proofs.Fields.{fit-length}
 use Rattle.format.proofs.Exactly.{identity-tame, read-exact, read-says, its-fields}
 use Rattle.reading.specs.Reading.{answerOf}
@@ -27,7 +27,7 @@ use Rattle.agreement.specs.Steps.{Suited}
 pub request-read : (s : Bytes) (a : Answer) → a ≡ answerOf (readOf (REQ ∷ []) s) → a .no ≡ 0 → readOf (REQ ∷ []) s ≡ accepted REQ (fieldsIn REQ s)
 request-read s a e z =
     let t = taken (Built (REQ ∷ []) s) (readOf (REQ ∷ []) s) a (read-says (REQ ∷ []) s) e z in
-    let k = all-among (λ j. j ≡ REQ) (REQ ∷ []) (refl, tt) (t .kind) (t .holds .of-kind) in
+    let k = among-one (t .kind) REQ (t .holds .of-kind) in
     t .is ∙ ap₂ {C = Outcome} accepted k (sym (its-fields (t .holds)) ∙ ap (λ j. fieldsIn j s) k)
 
 -- ---- its fields go into a text

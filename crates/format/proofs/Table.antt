@@ -12,7 +12,7 @@ use lib.Dec.{T, eqb, leb, lit≤, eqb→eq, leb→le}
 use lib.ListN.{length, getD}
 use mir.Facts.{and-yes, or-yes, yes-eqb}
 use Rattle.text.specs.Text.{Bytes, same, every, allOf, identCharacter, longest}
-use Rattle.text.proofs.Tests.{by-test, T-true, T-false, or-left, or-right, same→eq, same-refl}
+use Rattle.text.proofs.Tests.{by-test, T-true, T-false, or-left, or-right, same→eq, same-refl, at-every}
 use Rattle.format.specs.Kinds.{Kind, SMMAN, SMID, KMCID, ECDSA, ECDH, REQ, RESP, Field, Text, Identity, OrEmpty, name, mark, fieldsOf, identityFields, pubkeyFields, identityKinds, pubkeyKinds, allKinds, among}
 use Rattle.format.specs.Read.{isMark, kindIn}
 
@@ -37,14 +37,9 @@ name-inj j k e = sym (at-index j) ∙ ap (λ (t : Bytes). getD allKinds (index a
 
 -- ---- what holds of every kind, and of those in a list
 
-every-at : (p : Kind → Bool) (d : Kind) → T (p d) → (ks : List Kind) → T (allOf (map p ks)) → (i : ℕ) → T (p (getD ks i d))
-every-at p d u [] t i = u
-every-at p d u (k ∷ ks) t zero = and-yes (p k) (allOf (map p ks)) t .0
-every-at p d u (k ∷ ks) t (suc i) = every-at p d u ks (and-yes (p k) (allOf (map p ks)) t .1) i
-
 pub every-kind : (p : Kind → Bool) → T (allOf (map p allKinds)) → (k : Kind) → T (p k)
 every-kind p t k =
-    subst (λ (j : Kind). T (p j)) (at-index k) (every-at p SMMAN (and-yes (p SMMAN) _ t .0) allKinds t (index allKinds (name k)))
+    subst (λ (j : Kind). T (p j)) (at-index k) (at-every p SMMAN (and-yes (p SMMAN) _ t .0) allKinds t (index allKinds (name k)))
 
 abbrev pub All : {A : Type 0} → (A → Type 0) → List A → Type 0
 All P [] = Unit {0}
@@ -55,6 +50,9 @@ all-among P [] h k t = absurd t
 all-among P (j ∷ ks) h k t =
     ⊎-elim (λ e. subst P (sym (name-inj k j (same→eq (name k) (name j) e))) (h .0)) (all-among P ks (h .1) k)
     (or-yes (same (name k) (name j)) (among k ks) t)
+
+pub among-one : (k j : Kind) → T (among k (j ∷ [])) → k ≡ j
+among-one k j = all-among (λ i. i ≡ j) (j ∷ []) (refl, tt) k
 
 -- ---- the kind of a name and a mark
 

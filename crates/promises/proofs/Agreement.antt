@@ -14,8 +14,8 @@ use Rattle.format.specs.Numbers.{noRoom}
 use Rattle.format.specs.Kinds.{Kind, REQ}
 use Rattle.format.specs.Build.{Built}
 use Rattle.format.specs.Read.{Outcome, accepted, refused, answer, readOf}
+use Rattle.format.proofs.Table.{among-one}
 use Rattle.format.proofs.Exactly.{read-exact, read-honest}
-use Rattle.table.proofs.Rows.{among-one}
 use Rattle.put.specs.Made.{Made, made, denied, says, leaves, Writes}
 use Rattle.put.specs.declared.Written.{Written}
 use Rattle.items.specs.Items.{lvConcat, itemsOf, nthOf, textItem, partOf, numberOf, Handed}

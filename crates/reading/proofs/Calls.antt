@@ -7,14 +7,14 @@ use native.Mathlib.Omega.{arith}
 use lib.ListN.{length}
 use lib.Dec.{T, lit<}
 use Rattle.text.specs.Text.{Bytes}
-use Rattle.format.specs.Kinds.{Kind, SMMAN, SMID, KMCID, ECDSA, ECDH, REQ, RESP, identityKinds, recordKinds, among}
+use Rattle.format.specs.Kinds.{Kind, identityKinds, recordKinds, among}
 use Rattle.format.specs.Read.{Outcome, accepted, refused, passing, title, markAfter, kindIn, ofKind, body, fieldsIn, wholeAnswer, readOver, nobody, readIdentity, readOf, readRecord}
+use Rattle.format.proofs.Table.{all-among, kindIn-some}
 use Rattle.table.specs.Table.{rowOf, rowFor}
 use Rattle.table.proofs.Rows.{Found, found}
 use Rattle.reading.specs.Steps.{fieldsBy, formNo, FirstRefused}
 use Rattle.reading.proofs.Outcomes.{passing-stop, passing-on, passing-as, over-kind}
 use Rattle.reading.proofs.Form.{fromFields, of-form, form-found}
-use Rattle.format.proofs.Table.{kindIn-some}
 use Rattle.reading.proofs.Fields.{fields-by, judged-first}
 
 -- ---- past number 1: the row that was found, and the number of the form
@@ -82,28 +82,10 @@ record-is s = refl
 
 -- ---- what is known of identity kinds
 
-identity-small : (k : Kind) → T (among k identityKinds) → rowOf k < 3
-identity-small SMMAN h = lit< tt
-identity-small SMID h = lit< tt
-identity-small KMCID h = lit< tt
-identity-small ECDSA h = absurd h
-identity-small ECDH h = absurd h
-identity-small REQ h = absurd h
-identity-small RESP h = absurd h
-
-identity-whole : (k : Kind) (fs : List Bytes) → T (among k identityKinds) → wholeAnswer k fs ≡ 0
-unfolding wholeAnswer
-identity-whole SMMAN fs h = refl
-identity-whole SMID fs h = refl
-identity-whole KMCID fs h = refl
-identity-whole ECDSA fs h = absurd h
-identity-whole ECDH fs h = absurd h
-identity-whole REQ fs h = absurd h
-identity-whole RESP fs h = absurd h
-
 module _ {s : Bytes} {row no : ℕ} (b : Begun identityKinds s row no) (z : no ≡ 0) where
-  pub identity-row : row < 3
-  identity-row = omega (arith, call-kind nobody b z .at, identity-small (call-kind nobody b z .kind) (call-among nobody b z))
+  pub identity-below : row < 3
+  identity-below = rw (call-kind nobody b z .at) (all-among (λ k. rowOf k < 3) identityKinds (lit< tt, (lit< tt, (lit< tt, tt))) (call-kind nobody b z .kind) (call-among nobody b z))
 
   pub identity-plain : wholeAnswer (call-kind nobody b z .kind) (call-parts nobody b z) ≡ 0
-  identity-plain = identity-whole (call-kind nobody b z .kind) (call-parts nobody b z) (call-among nobody b z)
+  unfolding wholeAnswer
+  identity-plain = all-among (λ k. wholeAnswer k (call-parts nobody b z) ≡ 0) identityKinds (refl, (refl, (refl, tt))) (call-kind nobody b z .kind) (call-among nobody b z)

@@ -1,21 +1,23 @@
 -- One field by the code of its type: what a text is answered, and an identity.
 -- Assumes nothing.
-use Prim.Native.Nat.{ℕ, zero, suc, _≤_, _<_}
+use Prim.Native.Nat.{ℕ, _≤_, _<_}
 use mathlib.Core.Path.{_≡_, refl, ap, sym, _∙_}
-use mathlib.Core.Bool.{Bool, true, false, true≢false, false≢true, cond, _&&_, and-true, and-false}
+use mathlib.Core.Bool.{Bool, true, false, true≢false, false≢true, cond, not, _&&_, and-true, and-false}
 use mathlib.Core.List.{List, [], _∷_}
 use native.Mathlib.Omega.{arith}
 use lib.ListN.{length, getD}
 use lib.Dec.{T}
+use mir.Facts.{and-yes}
 use borrow.Author.Tests.{le-leb}
 use Rattle.text.specs.Text.{Bytes, Ident, isOf}
-use Rattle.text.proofs.Tests.{and-stop, cond-yes}
-use Rattle.format.specs.Kinds.{Kind, Field, Text, Identity, OrEmpty, identityFields}
+use Rattle.text.proofs.Tests.{and-stop, cond-yes, T-false, at-every, allBelow, below}
+use Rattle.format.specs.Kinds.{Kind, Field, Text, Identity, OrEmpty, fieldsOf, identityFields, identityKinds, among}
 use Rattle.format.specs.Build.{empty}
 use Rattle.format.specs.Read.{Outcome, fieldAnswer, identityAnswer}
+use Rattle.format.proofs.Table.{identity-row}
 use Rattle.format.proofs.Outcomes.{Honest}
-use Rattle.table.specs.Table.{ofRow, fieldsAt, fieldType, TypeOf, isIdentity, mayBeEmpty, permitted, rowAmong}
-use Rattle.table.proofs.Rows.{less-or, among-row}
+use Rattle.table.specs.Table.{fieldsAt, fieldType, TypeOf, isIdentity, mayBeEmpty, permitted, rowAmong}
+use Rattle.table.proofs.Rows.{less-or, kindAt, in-row, among-row}
 use Rattle.table.proofs.Codes.{noCode, past-codes, identity-codes}
 use Rattle.reading.specs.Reading.{answerOf}
 use Rattle.reading.specs.Steps.{textIn}
@@ -55,26 +57,16 @@ module _ (ask : Bytes → Outcome) (f : Bytes) where
 
 -- ---- the fields of an identity are texts
 
-plain-field : (j : ℕ) → (isIdentity (getD identityFields j (Text Ident)) ≡ false) × (mayBeEmpty (getD identityFields j (Text Ident)) ≡ false)
-plain-field zero = (refl, refl)
-plain-field (suc zero) = (refl, refl)
-plain-field (suc (suc zero)) = (refl, refl)
-plain-field (suc (suc (suc zero))) = (refl, refl)
-plain-field (suc (suc (suc (suc j)))) = (refl, refl)
-
-identity-row : (row : ℕ) → row < 3 → fieldsAt row ≡ identityFields
-unfolding ofRow
-identity-row zero h = refl
-identity-row (suc zero) h = refl
-identity-row (suc (suc zero)) h = refl
-identity-row (suc (suc (suc row))) h = absurd (omega arith)
+fields-below : (row : ℕ) → row < 3 → fieldsAt row ≡ identityFields
+unfolding allBelow
+fields-below row h = in-row fieldsOf [] row (omega arith) ∙ identity-row (kindAt row) (below 3 (λ n. among (kindAt n) identityKinds) tt row h) .1
 
 pub plain-answer : (ask : Bytes → Outcome) (row j code : ℕ) (f : Bytes) → row < 3 → TypeOf row j code → fieldAnswer ask (fieldType code) f ≡ cond (isOf (textIn (fieldType code)) f) 0 6
 plain-answer ask row j code f h t =
-    let e : fieldType code ≡ getD identityFields j (Text Ident) = t .means ∙ ap (λ (l : List Field). getD l j (Text Ident)) (identity-row row h) in
-    answer-text ask f (fieldType code)
-    (rw (ap mayBeEmpty e ∙ plain-field j .1) (and-false (empty f)))
-    (ap isIdentity e ∙ plain-field j .0)
+    let e : fieldType code ≡ getD identityFields j (Text Ident) = t .means ∙ ap (λ (l : List Field). getD l j (Text Ident)) (fields-below row h) in
+    let u = and-yes (not (isIdentity (fieldType code))) (not (mayBeEmpty (fieldType code)))
+    (rw e (at-every (λ s. not (isIdentity s) && not (mayBeEmpty s)) (Text Ident) tt identityFields tt j)) in
+    answer-text ask f (fieldType code) (rw (T-false (mayBeEmpty (fieldType code)) (u .1)) (and-false (empty f))) (T-false (isIdentity (fieldType code)) (u .0))
 
 -- ---- a code that is none of TIMESTAMP to SIG_OR_EMPTY is as IDENT where a text is asked for
 

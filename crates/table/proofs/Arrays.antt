@@ -1,16 +1,15 @@
 -- The arrays: the names and the types of all rows, each row after the other.
 -- Assumes nothing.
-use Prim.Native.Nat.{ℕ, zero, suc, _+_, _≤_, _<_}
+use Prim.Native.Nat.{ℕ, suc, _+_, _≤_, _<_}
 use mathlib.Core.Path.{_≡_, refl, sym, ap, _∙_}
 use mathlib.Core.List.{List, [], _∷_, map, flatten}
 use native.Mathlib.Omega.{arith}
 use native.Mathlib.Numerals.{add-one}
 use lib.ListN.{length, take, getD, List·getD-eq-default, List·getD-map}
 use lib.Seq.{getD-take}
-use lib.Dec.{T, ltb, ltb→lt, lit<}
-use mir.Facts.{and-yes}
-use Rattle.text.specs.Text.{every, Ident}
-use Rattle.text.proofs.Tests.{allBelow, below}
+use lib.Dec.{ltb, ltb→lt, lit<}
+use Rattle.text.specs.Text.{Ident}
+use Rattle.text.proofs.Tests.{at-every, allBelow, below}
 use Rattle.format.specs.Kinds.{Field, Text, name, fieldsOf, allKinds}
 use Rattle.table.specs.Table.{noRow, ofRow, nameOf, fieldsAt, countOf, fieldType, TypeOf}
 use Rattle.table.proofs.Rows.{less-or, in-row, past-rows}
@@ -42,11 +41,6 @@ count-few row =
     (λ h. ltb→lt (countOf row) 8 (below noRow (λ n. ltb (countOf n) 8) tt row h))
     (λ h. omega (arith, past-rows (λ k. length (fieldsOf k)) 0 row h))
 
-small-entry : (codes : List ℕ) → T (every (λ c. ltb c noCode) codes) → (i : ℕ) → getD codes i 0 < noCode
-small-entry [] t i = lit< tt
-small-entry (c ∷ cs) t zero = ltb→lt c noCode (and-yes (ltb c noCode) (every (λ d. ltb d noCode) cs) t .0)
-small-entry (c ∷ cs) t (suc i) = small-entry cs (and-yes (ltb c noCode) (every (λ d. ltb d noCode) cs) t .1) i
-
 -- the types of all rows, where those of each row start, and their codes
 abbrev pub allTypes : List Field
 allTypes = flatten (map fieldsOf allKinds)
@@ -62,9 +56,9 @@ codes-types : map fieldType codes ≡ allTypes
 unfolding flatten fieldType codeOf
 codes-types = refl
 
-codes-small : T (every (λ c. ltb c noCode) codes)
+codes-small : (i : ℕ) → getD codes i 0 < noCode
 unfolding flatten codeOf
-codes-small = tt
+codes-small i = ltb→lt (getD codes i 0) noCode (at-every (λ c. ltb c noCode) 0 tt codes tt i)
 
 module _ (row j : ℕ) (h : j < countOf row) where
   pub row-there : row < noRow
@@ -86,7 +80,7 @@ module _ (row j : ℕ) (h : j < countOf row) where
             sym (List·getD-map fieldType codes (getD firsts row 0 + j) 0)
             ∙ ap (λ (l : List Field). getD l (getD firsts row 0 + j) (Text Ident)) codes-types
             ∙ piece-entry types j (Text Ident) (omega (arith, count-fields row));
-        listed = small-entry codes codes-small (getD firsts row 0 + j);
+        listed = codes-small (getD firsts row 0 + j);
       }
 
 pub type-past : (row j : ℕ) → countOf row ≤ j → TypeOf row j 0

@@ -2,16 +2,18 @@
 -- Assumes nothing.
 use Prim.Native.Nat.{ℕ, _≤_, _<_}
 use mathlib.Core.Path.{_≡_, refl, sym, ap, ap₂, _∙_}
-use mathlib.Core.Bool.{Bool, true, false, _||_, Bool·beq, or-false}
+use mathlib.Core.Bool.{Bool, true, false, _||_, Bool·beq}
 use mathlib.Core.Option.{Option, none, some}
 use mathlib.Core.List.{List, [], _∷_, map}
 use native.Mathlib.Omega.{arith}
-use lib.ListN.{getD, List·getD-eq-default}
-use lib.Dec.{T, eqb, ltb, eqb→eq, ltb→lt, nltb→le, lit<}
+use lib.ListN.{getD, List·getD-eq-default, List·getD-map}
+use lib.Seq.{drop-cons}
+use lib.Dec.{T, eqb, ltb, eqb→eq, ltb→lt, nltb→le}
 use borrow.Author.Tests.{ne-eqb}
-use Rattle.text.specs.Text.{same}
-use Rattle.text.proofs.Tests.{allBelow, below, by-test}
-use Rattle.format.specs.Kinds.{Kind, SMMAN, SMID, KMCID, ECDSA, ECDH, REQ, RESP, name, allKinds, pubkeyKinds, among}
+use Rattle.text.specs.Text.{same, allOf}
+use Rattle.text.proofs.Tests.{allBelow, below, by-test, same→eq}
+use Rattle.format.specs.Kinds.{Kind, SMMAN, name, allKinds, pubkeyKinds, among}
+use Rattle.format.proofs.Table.{name-inj, every-kind}
 use Rattle.table.specs.Table.{rowOf, noRow, rowFor, ofRow, isPubkey, rowAmong}
 
 pub less-or {ℓ} : {X : Type ℓ} (a b : ℕ) → (a < b → X) → (b ≤ a → X) → X
@@ -23,22 +25,10 @@ abbrev pub kindAt : ℕ → Kind
 kindAt row = getD allKinds row SMMAN
 
 pub at-row : (k : Kind) → kindAt (rowOf k) ≡ k
-at-row SMMAN = refl
-at-row SMID = refl
-at-row KMCID = refl
-at-row ECDSA = refl
-at-row ECDH = refl
-at-row REQ = refl
-at-row RESP = refl
+at-row k = name-inj (kindAt (rowOf k)) k (same→eq _ _ (every-kind (λ j. same (name (kindAt (rowOf j))) (name j)) tt k))
 
 pub row-small : (k : Kind) → rowOf k < noRow
-row-small SMMAN = lit< tt
-row-small SMID = lit< tt
-row-small KMCID = lit< tt
-row-small ECDSA = lit< tt
-row-small ECDH = lit< tt
-row-small REQ = lit< tt
-row-small RESP = lit< tt
+row-small k = ltb→lt (rowOf k) noRow (every-kind (λ j. ltb (rowOf j) noRow) tt k)
 
 pub row-at : (row : ℕ) → row < noRow → rowOf (kindAt row) ≡ row
 unfolding allBelow
@@ -50,18 +40,15 @@ row-inj k j e = sym (at-row k) ∙ ap kindAt e ∙ at-row j
 -- ---- what is said of a row
 
 module _ {ℓ} {A : Type ℓ} (f : Kind → A) (z : A) where
-  pub of-kind : (k : Kind) → ofRow f z (rowOf k) ≡ f k
-  unfolding ofRow
-  of-kind SMMAN = refl
-  of-kind SMID = refl
-  of-kind KMCID = refl
-  of-kind ECDSA = refl
-  of-kind ECDH = refl
-  of-kind REQ = refl
-  of-kind RESP = refl
-
+  -- an entry that is there is the same whatever stands for one that is not
   pub in-row : (row : ℕ) → row < noRow → ofRow f z row ≡ f (kindAt row)
-  in-row row h = ap (ofRow f z) (sym (row-at row h)) ∙ of-kind (kindAt row)
+  unfolding ofRow
+  in-row row h =
+      ap (λ (l : List A). getD l 0 z) (sym (drop-cons (map f allKinds) row z h) ∙ drop-cons (map f allKinds) row (f SMMAN) h)
+      ∙ List·getD-map f allKinds row SMMAN
+
+  pub of-kind : (k : Kind) → ofRow f z (rowOf k) ≡ f k
+  of-kind k = in-row (rowOf k) (row-small k) ∙ ap f (at-row k)
 
   pub past-rows : (row : ℕ) → noRow ≤ row → ofRow f z row ≡ z
   unfolding ofRow
@@ -100,18 +87,12 @@ pubkey-rows row =
     past : (n : ℕ) → noRow ≤ n → (eqb n 3 || eqb n 4) ≡ isPubkey n
     past n l = rw (ne-eqb n 3 (λ z. omega arith), ne-eqb n 4 (λ z. omega arith), past-rows (λ k. among k pubkeyKinds) false n l)
 
--- no two kinds have one name: a test of each row against each
+-- no two kinds have one name: a test of each kind against each
 same-names : (k j : Kind) → same (name k) (name j) ≡ eqb (rowOf k) (rowOf j)
-unfolding allBelow
-same-names k j =
-    ap₂ (λ (x y : Kind). same (name x) (name y)) (sym (at-row k)) (sym (at-row j))
-    ∙ same-bools _ _ (below noRow (alike (rowOf k)) (below noRow (λ a. allBelow noRow (alike a)) tt (rowOf k) (row-small k)) (rowOf j) (row-small j))
+same-names k j = same-bools _ _ (every-kind (alike k) (every-kind (λ x. allOf (map (alike x) allKinds)) tt k) j)
   where
-    alike : ℕ → ℕ → Bool
-    alike a b = Bool·beq (same (name (kindAt a)) (name (kindAt b))) (eqb a b)
-
-pub among-one : (k j : Kind) → T (among k (j ∷ [])) → k ≡ j
-among-one k j t = row-inj k j (eqb→eq (rowOf k) (rowOf j) (rw (or-false, same-names k j) at t))
+    alike : Kind → Kind → Bool
+    alike x y = Bool·beq (same (name x) (name y)) (eqb (rowOf x) (rowOf y))
 
 pub among-row : (k : Kind) (ks : List Kind) → rowAmong (rowOf k) ks ≡ among k ks
 among-row k [] = refl

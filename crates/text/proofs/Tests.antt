@@ -4,11 +4,12 @@ use Prim.Native.Nat.{ℕ, zero, suc, _+_, _≤_, _<_}
 use mathlib.Core.Path.{_≡_, refl, sym, ap₂, subst}
 use mathlib.Core.Logic.{⊎-elim}
 use mathlib.Core.Bool.{Bool, true, false, not, cond, _&&_, _||_}
-use mathlib.Core.List.{[], _∷_, _++_}
+use mathlib.Core.List.{List, [], _∷_, _++_, map}
 use native.Mathlib.Nat.{le-of-suc-le-suc, not-suc-le-zero}
+use lib.ListN.{getD}
 use lib.Dec.{T, leb, eqb, leb→le, eqb→eq, eqb-refl}
 use mir.Facts.{and-yes, yes-and, or-yes}
-use Rattle.text.specs.Text.{Bytes, every, same, between, oneOf}
+use Rattle.text.specs.Text.{Bytes, every, allOf, same, between, oneOf}
 
 pub or-stop : (a b : Bool) → a ≡ true → (a || b) ≡ true
 or-stop a b e = rw e
@@ -90,6 +91,13 @@ same→eq (c ∷ s) (d ∷ t) h =
 pub same-refl : (s : Bytes) → T (same s s)
 same-refl [] = tt
 same-refl (c ∷ s) = yes-and (eqb c c) (same s s) (eqb-refl c) (same-refl s)
+
+-- ---- a test of every entry of a list, computed, and of what stands for an entry that is not there
+
+pub at-every : {A : Type 0} (p : A → Bool) (d : A) → T (p d) → (xs : List A) → T (allOf (map p xs)) → (i : ℕ) → T (p (getD xs i d))
+at-every p d u [] t i = u
+at-every p d u (x ∷ xs) t zero = and-yes (p x) (allOf (map p xs)) t .0
+at-every p d u (x ∷ xs) t (suc i) = at-every p d u xs (and-yes (p x) (allOf (map p xs)) t .1) i
 
 -- ---- a test of all numbers below k, computed
 

@@ -7,7 +7,7 @@ use Rattle.reading.specs.Reading.{answerOf}
 use Rattle.format.specs.Read.{nobody}
 use Rattle.reading.proofs.Outcomes.{over-long}
 use Rattle.reading.proofs.Form.{form-counted}
-use Rattle.reading.proofs.Calls.{Begun, begun, call-form, call-kind, call-parts, call-plain, identity-is, identity-row, identity-plain}
+use Rattle.reading.proofs.Calls.{Begun, begun, call-form, call-kind, call-parts, call-plain, identity-is, identity-below, identity-plain}
 use borrow.Author.Needs.{needs}
 use Rattle.reading.proofs.read_identity.Statement.{statement}
 use Rattle.reading.proofs.read_identity.Tie as tie
@@ -44,7 +44,7 @@ body-of-requires : tie.Need-body-of-requires
 body-of-requires c κs = search needs
 
 identity-fields-requires : tie.Need-identity-fields-requires
-identity-fields-requires c κs = (identity-row (start (c .before .before)) (c .before .if2 .left), form-counted _ (now (c .before .before .before .before .before .before .before .before .args .identity)) _ (c .body-of .ensures) (sym (c .before .before .form-no .ensures) ∙ c .before .if2 .left))
+identity-fields-requires c κs = (identity-below (start (c .before .before)) (c .before .if2 .left), form-counted _ (now (c .before .before .before .before .before .before .before .before .args .identity)) _ (c .body-of .ensures) (sym (c .before .before .form-no .ensures) ∙ c .before .if2 .left))
 
 answered-requires : tie.Need-answered-requires
 answered-requires c κs = search needs
