@@ -1,21 +1,20 @@
 -- What is known of an accepted request: its kind, its fields, and that they go into a text.
 -- Assumes nothing.
-use Prim.Native.Nat.{ℕ, zero, suc, _≤_, _<_}
+use Prim.Native.Nat.{ℕ, _≤_}
 use mathlib.Core.Path.{_≡_, refl, sym, ap, ap₂, _∙_}
-use mathlib.Core.Logic.{inl, inr}
 use mathlib.Core.List.{List, [], _∷_}
 use native.Mathlib.Omega.{arith}
 use native.Mathlib.Nat.{le-trans}
 use lib.ListN.{length, getD, List·getD-eq-default}
 use lib.Dec.{leb, ltb, leb→le, ltb→lt, nltb→le}
-use Rattle.text.specs.Text.{Bytes, Ident, shortest, longest}
-use Rattle.text.proofs.Tests.{by-test, between-high, allBelow, below}
-use Rattle.text.proofs.Types.{lengths, point-hex}
-use Rattle.format.specs.Kinds.{REQ, Field, Text, Identity, OrEmpty, fieldsOf}
-use Rattle.format.specs.Build.{Fits, FitAll, IsIdentity, Permitted, Built}
+use Rattle.text.specs.Text.{Bytes, Ident}
+use Rattle.text.proofs.Tests.{by-test, allBelow, below}
+use Rattle.text.proofs.Types.{point-hex}
+use Rattle.format.specs.Kinds.{REQ, Field, Text, fieldsOf}
+use Rattle.format.specs.Build.{Fits, IsIdentity, Permitted, Built}
 use Rattle.format.specs.Read.{Outcome, accepted, fieldsIn, readOf}
-use Rattle.format.proofs.Table.{among-one, longestOf}
-use Rattle.format.proofs.Fields.{fit-length}
+use Rattle.format.proofs.Table.{among-one, absent, longestOf}
+use Rattle.format.proofs.Fields.{fit-length, fit-at, field-held}
 use Rattle.format.proofs.Exactly.{identity-tame, read-exact, read-says, its-fields}
 use Rattle.reading.specs.Reading.{answerOf}
 use Rattle.reading.specs.declared.Answer.{Answer}
@@ -32,32 +31,18 @@ request-read s a e z =
 
 -- ---- its fields go into a text
 
-field-short : (t : Field) (f : Bytes) → Fits IsIdentity t f → length f ≤ longestOf t
-unfolding Fits
-field-short (Text t) f h = between-high (shortest t) (longest t) (length f) (lengths t f h)
-field-short (Identity ks) f h = identity-tame 0 tt (h .0) f (h .2) .1
-field-short (OrEmpty t) [] h = omega arith
-field-short (OrEmpty t) (c ∷ f) (inl h) = absurd h
-field-short (OrEmpty t) (c ∷ f) (inr h) = field-short t (c ∷ f) h
-
-fit-at : (ts : List Field) (fs : List Bytes) → FitAll IsIdentity ts fs → (n : ℕ) → n < length ts → Fits IsIdentity (getD ts n (Text Ident)) (getD fs n [])
-unfolding FitAll
-fit-at [] fs h n l = absurd (omega arith)
-fit-at (t ∷ ts) [] h n l = absurd h
-fit-at (t ∷ ts) (f ∷ fs) h zero l = h .0
-fit-at (t ∷ ts) (f ∷ fs) h (suc n) l = fit-at ts fs (h .1) n (omega arith)
-
 pub permitted-suited : (fs : List Bytes) → Permitted REQ fs → Suited fs
 unfolding allBelow Fits
 permitted-suited fs p =
-    let fit = fit-at (fieldsOf REQ) fs (p .fit) in
+    let fit = fit-at IsIdentity (fieldsOf REQ) fs (p .fit) in
     let t : ℕ → Field = λ n. getD (fieldsOf REQ) n (Text Ident) in
     record {
       short = λ n.
           by-test (ltb n 7)
           (λ l.
           let h = ltb→lt n 7 l in
-          le-trans (field-short (t n) (getD fs n []) (fit n h)) (leb→le (longestOf (t n)) 255 (below 7 (λ m. leb (longestOf (t m)) 255) tt n h)))
+          le-trans (field-held IsIdentity identity-tame 0 (t n) (getD fs n []) (below 7 (λ m. absent 0 (t m)) tt n h) (fit n h) .1)
+          (leb→le (longestOf (t n)) 255 (below 7 (λ m. leb (longestOf (t m)) 255) tt n h)))
           (λ l. rw (List·getD-eq-default fs [] {n = n} (omega (arith, nltb→le n 7 l, fit-length IsIdentity (fieldsOf REQ) fs (p .fit)))) (omega arith));
       point = point-hex (getD fs 5 []) (fit 5 (omega arith));
     }

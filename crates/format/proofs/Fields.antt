@@ -107,7 +107,7 @@ abbrev pub Tame : (Kind → Bytes → Type 0) → Type 0
 Tame I = (m : ℕ) → T (alien m) → (k : Kind) (f : Bytes) → I k f → T (without m f) × (length f ≤ longestIdentity)
 
 module _ (I : Kind → Bytes → Type 0) (tame : Tame I) where
-  field-held : (m : ℕ) (t : Field) (f : Bytes) → T (absent m t) → Fits I t f → T (without m f) × (length f ≤ longestOf t)
+  pub field-held : (m : ℕ) (t : Field) (f : Bytes) → T (absent m t) → Fits I t f → T (without m f) × (length f ≤ longestOf t)
   unfolding Fits
   field-held m (Text t) f u h = (plain-without m u f (plain t f h), between-high (shortest t) (longest t) (length f) (lengths t f h))
   field-held m (Identity ks) f u h = tame m u (h .0) f (h .2)
