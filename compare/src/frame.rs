@@ -4,6 +4,9 @@ use crate::crc::crc16;
 use crate::refusal::Refusal;
 use crate::text;
 
+/// The characters of a check.
+pub const CHECK_LENGTH: usize = 4;
+
 /// The place of the first mark of either sort.
 fn first_mark(bytes: &[u8]) -> Option<usize> {
     bytes.iter().position(|byte| b":|".contains(byte))
@@ -54,13 +57,13 @@ pub fn part(mark: u8, body: &[u8], n: u64) -> &[u8] {
 
 /// All but the last four bytes, and nothing if there are fewer.
 pub fn body_of(bytes: &[u8]) -> &[u8] {
-    bytes.split_last_chunk::<4>().map_or(&[], |(body, _)| body)
+    bytes.split_last_chunk::<CHECK_LENGTH>().map_or(&[], |(body, _)| body)
 }
 
 /// Numbers 3 and 4 of a record with this mark.
 pub fn check_no(mark: u8, bytes: &[u8]) -> Result<(), Refusal> {
-    let (body, check) = bytes.split_last_chunk::<4>().ok_or(Refusal::NoCheck)?;
-    if !text::is_hex(check, 4) || body.last() != Some(&mark) {
+    let (body, check) = bytes.split_last_chunk::<CHECK_LENGTH>().ok_or(Refusal::NoCheck)?;
+    if !text::is_hex(check, CHECK_LENGTH as u64) || body.last() != Some(&mark) {
         return Err(Refusal::NoCheck);
     }
     if check != text::check_text(crc16(body)).as_bytes() {

@@ -2,6 +2,8 @@
 
 use self::FieldType::{Ident, Identity, Mac, Point, Print, Sig, Timestamp};
 use self::Kind::{Kmcid, PkEcdh, PkEcdsa, Smid, Smman, VkloadReq, VkloadResp};
+use crate::frame::CHECK_LENGTH;
+use crate::text;
 
 /// A kind of record.
 #[derive(Clone, Copy, Debug, PartialEq, Eq)]
@@ -91,6 +93,21 @@ const VKLOAD_RESP_FIELDS: &[Field] = &[
     full("MacTag", Mac),
 ];
 
+impl FieldType {
+    /// The most bytes of a field of this type.
+    pub fn longest(self) -> usize {
+        match self {
+            Ident => text::LONGEST_IDENT,
+            Timestamp => text::TIMESTAMP_LENGTH,
+            Print => text::PRINT_DIGITS,
+            Point => text::POINT_DIGITS,
+            Sig => text::SIG_DIGITS,
+            Mac => text::MAC_DIGITS,
+            Identity(kinds) => Kind::longest_of(kinds),
+        }
+    }
+}
+
 impl Kind {
     /// All kinds, in the order of their numbers.
     pub const ALL: [Kind; 7] = [Smman, Smid, Kmcid, PkEcdsa, PkEcdh, VkloadReq, VkloadResp];
@@ -136,5 +153,16 @@ impl Kind {
             VkloadReq => VKLOAD_REQ_FIELDS,
             VkloadResp => VKLOAD_RESP_FIELDS,
         }
+    }
+    /// The most bytes of a record of this kind: its name and its longest fields, each with its mark,
+    /// and the check.
+    pub fn longest(self) -> usize {
+        let fields = self.fields().iter().map(|entry| entry.field_type.longest());
+        fields.fold(self.name().len() + 1, |length, field| length + field + 1) + CHECK_LENGTH
+    }
+
+    /// The most bytes of a record of one of these kinds.
+    pub fn longest_of(kinds: &[Kind]) -> usize {
+        kinds.iter().map(|kind| kind.longest()).max().unwrap_or_default()
     }
 }

@@ -22,6 +22,7 @@
 //! | [`mod@file`] | files of records and the lister |
 //! | [`newer`] | the chooser |
 //! | [`random`] | the numbers that inputs are drawn by |
+//! | [`sample`] | inputs: permitted records, faults, damage |
 //! | [`worked`] | the worked values of the documents |
 
 pub mod agreement;
@@ -35,5 +36,6 @@ pub mod random;
 pub mod record;
 pub mod refusal;
 pub mod rows;
+pub mod sample;
 pub mod text;
 pub mod worked;

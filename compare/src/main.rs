@@ -6,7 +6,6 @@
 mod calls;
 mod cases;
 mod plan;
-mod sample;
 
 use calls::{Op, CALLS};
 use cases::Case;

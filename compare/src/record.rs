@@ -6,7 +6,7 @@ use crate::refusal::Refusal;
 use crate::text;
 
 /// The longest record or identity that is read.
-pub const LONGEST: usize = 1024;
+pub const LONGEST_READ: usize = 1024;
 
 /// An accepted record or identity; its fields are parts of the bytes it was read from.
 #[derive(Clone, Debug, PartialEq, Eq)]
@@ -45,7 +45,7 @@ pub fn record_field(bytes: &[u8], number: u64) -> Result<&[u8], Refusal> {
 
 /// Reads a record of one of the wanted kinds; all other kinds are unknown here.
 pub fn read<'a>(bytes: &'a [u8], wanted: &[Kind]) -> Result<Record<'a>, Refusal> {
-    if bytes.len() > LONGEST {
+    if bytes.len() > LONGEST_READ {
         return Err(Refusal::TooLong);
     }
 

@@ -1,12 +1,27 @@
 //! The text types, and Base 16.
 
+/// The most characters of an IDENT. Every other length here and in the table's records that depends
+/// on it is computed from it.
+pub const LONGEST_IDENT: usize = 32;
+/// The characters of a TIMESTAMP.
+pub const TIMESTAMP_LENGTH: usize = 16;
+/// The digits of a POINT.
+pub const POINT_DIGITS: usize = 194;
+/// The digits of a SIG.
+pub const SIG_DIGITS: usize = 192;
+/// The digits of a MAC.
+pub const MAC_DIGITS: usize = 48;
+/// The digits of a PRINT.
+pub const PRINT_DIGITS: usize = 16;
+
 const HEX_DIGITS: &[u8; 16] = b"0123456789ABCDEF";
 
-/// IDENT: one letter or digit, then up to 31 letters, digits, `_`, `-`, `.` or `,`.
+/// IDENT: one letter or digit, then letters, digits, `_`, `-`, `.` or `,`; at most [`LONGEST_IDENT`]
+/// characters.
 pub fn is_ident(text: &[u8]) -> bool {
     match text.split_first() {
         Some((first, rest)) => {
-            rest.len() < 32
+            text.len() <= LONGEST_IDENT
                 && first.is_ascii_alphanumeric()
                 && rest.iter().all(|byte| byte.is_ascii_alphanumeric() || b"_-.,".contains(byte))
         }
@@ -44,22 +59,22 @@ pub fn is_hex(text: &[u8], length: u64) -> bool {
 
 /// POINT: HEX(194) that begins with `04`.
 pub fn is_point(text: &[u8]) -> bool {
-    is_hex(text, 194) && text.starts_with(b"04")
+    is_hex(text, POINT_DIGITS as u64) && text.starts_with(b"04")
 }
 
 /// SIG: HEX(192).
 pub fn is_sig(text: &[u8]) -> bool {
-    is_hex(text, 192)
+    is_hex(text, SIG_DIGITS as u64)
 }
 
 /// MAC: HEX(48).
 pub fn is_mac(text: &[u8]) -> bool {
-    is_hex(text, 48)
+    is_hex(text, MAC_DIGITS as u64)
 }
 
 /// PRINT: HEX(16).
 pub fn is_print(text: &[u8]) -> bool {
-    is_hex(text, 16)
+    is_hex(text, PRINT_DIGITS as u64)
 }
 
 /// The hexadecimal character of a value below 16.

@@ -4,30 +4,34 @@
 use compare::agreement::{item, join, split};
 use compare::build::build;
 use compare::crc::crc16;
-use compare::file::{count, line_at, list, Line, Step};
+use compare::file::{count, line_at, list, Line, Step, LONGEST_LISTED};
 use compare::kind::Kind;
 use compare::newer::newer;
-use compare::record::{read_identity, read_record};
+use compare::record::{read_identity, read_record, LONGEST_READ};
 use compare::refusal::Refusal;
+use compare::sample;
 use compare::text::{
     base16, base16_decode, check_text, hex_digit, hex_value, is_hex, is_ident, is_mac, is_point,
-    is_print, is_sig, is_timestamp,
+    is_print, is_sig, is_timestamp, LONGEST_IDENT,
 };
 use compare::worked::worked;
 
-/// A record of these parts: each ended by the mark, then the check.
+/// A record of these parts, its name first.
 fn sealed(mark: u8, parts: &[&[u8]]) -> Vec<u8> {
-    let mut record = Vec::new();
-    for part in parts {
-        record.extend_from_slice(part);
-        record.push(mark);
-    }
-    let check = check_text(crc16(&record));
-    [record, check.into_bytes()].concat()
+    sample::join(parts[0], mark, &parts[1..])
 }
 
 fn record_number(bytes: &[u8]) -> u8 {
     read_record(bytes).map_or_else(Refusal::number, |_| 0)
+}
+
+/// The figures that document 01 states. Everything else takes them from the constants held here.
+#[test]
+fn limits_are_the_figures_of_document_01() {
+    assert_eq!(LONGEST_IDENT, 32, "IDENT: 1 to 32 characters");
+    assert_eq!(Kind::longest_of(&Kind::ALL), 646, "no built record is longer than 646 bytes");
+    assert_eq!(LONGEST_READ, 1024, "1: the record or identity to read is longer than 1,024 bytes");
+    assert_eq!(LONGEST_LISTED, 65_536, "the lister reads at most 65,536 bytes");
 }
 
 #[test]
@@ -116,9 +120,9 @@ fn hexadecimal() {
 }
 
 #[test]
-fn ident_of_32_and_33() {
-    assert!(is_ident(&[b'a'; 32]));
-    assert!(!is_ident(&[b'a'; 33]));
+fn idents() {
+    assert!(is_ident(&[b'a'; LONGEST_IDENT]));
+    assert!(!is_ident(&[b'a'; LONGEST_IDENT + 1]));
     assert!(!is_ident(b""));
     assert!(is_ident(b"sts-KeyAgreement-1.2"));
     assert!(is_ident(b"A_-.,"));
@@ -197,7 +201,7 @@ fn identities_inside_a_record() {
 }
 
 #[test]
-fn no_record_is_longer_than_646_bytes() {
+fn lengths_of_the_longest_records() {
     let built = |kind: &str, fields: &[&[u8]]| {
         let lengths: Vec<u64> = fields.iter().map(|field| field.len() as u64).collect();
         let mut output = vec![0; 1024];
@@ -205,16 +209,17 @@ fn no_record_is_longer_than_646_bytes() {
         output.truncate(length);
         output
     };
-    let (long, time) = ([b'M'; 32], b"20180101T000000Z");
+    let (long, time) = ([b'M'; LONGEST_IDENT], b"20180101T000000Z");
     let identity = built("SMMAN.1", &[&long, &long, time, &[b'0'; 16]]);
-    assert_eq!(identity.len(), "SMMAN.1".len() + 32 + 32 + 41);
+    assert_eq!(identity.len(), "SMMAN.1".len() + long.len() + long.len() + 41);
+    assert_eq!(identity.len(), Kind::longest_of(&Kind::IDENTITIES));
 
     let q = worked("Q_MAN");
     let unsigned = built("PK.ECDSA.1", &[&identity, &q, time, b"", b""]);
     assert_eq!(unsigned.len(), "PK.ECDSA.1".len() + identity.len() + 220);
     let signed = built("PK.ECDSA.1", &[&identity, &q, time, &identity, &[b'0'; 192]]);
     assert_eq!(signed.len(), unsigned.len() + identity.len() + 192);
-    assert_eq!(signed.len(), 646);
+    assert_eq!(signed.len(), Kind::longest_of(&Kind::RECORDS));
 }
 
 #[test]

@@ -2,10 +2,11 @@
 
 use super::Plan;
 use crate::calls::Op;
-use crate::sample::{self, Fault, Place, Signed};
 use compare::agreement::join;
 use compare::kind::Kind;
-use compare::record::read_record;
+use compare::record::{read_record, LONGEST_READ};
+use compare::sample::{self, Fault, Place, Signed};
+use compare::text::{LONGEST_IDENT, POINT_DIGITS};
 use compare::worked::{worked, IDENTITIES, RECORDS};
 
 const TEXTS: [Op; 3] = [Op::SharedInfo, Op::ModuleText, Op::CentreText];
@@ -28,7 +29,7 @@ fn needed(op: Op, request: &[u8]) -> u64 {
     let fields = read_record(request).expect("an accepted request").fields;
     let length = |number: usize| fields[number - 1].len() + 1;
     let ids_and_time = length(1) + length(2) + length(3);
-    let point = 98;
+    let point = POINT_DIGITS / 2 + 1;
     (1 + ids_and_time
         + match op {
             Op::SharedInfo => 10,
@@ -63,17 +64,13 @@ fn texts(plan: &mut Plan) {
 
 /// A request with every IDENT at its longest.
 fn longest_request(plan: &mut Plan) -> Vec<u8> {
-    let mut identity = |kind: Kind| {
-        let mut fields = sample::fields(&mut plan.random, kind, Signed::Yes);
-        fields[0] = sample::ident(&mut plan.random, 32);
-        fields[1] = sample::ident(&mut plan.random, 32);
-        sample::of_kind(kind, &fields)
-    };
+    let mut identity =
+        |kind: Kind| sample::with_idents(&mut plan.random, kind, [0, 1], [LONGEST_IDENT; 2]);
     let (module, centre) = (identity(Kind::Smid), identity(Kind::Kmcid));
     let mut fields = sample::fields(&mut plan.random, Kind::VkloadReq, Signed::Yes);
     (fields[0], fields[1]) = (module, centre);
-    fields[3] = sample::ident(&mut plan.random, 32);
-    fields[4] = sample::ident(&mut plan.random, 32);
+    fields[3] = sample::ident(&mut plan.random, LONGEST_IDENT);
+    fields[4] = sample::ident(&mut plan.random, LONGEST_IDENT);
     sample::of_kind(Kind::VkloadReq, &fields)
 }
 
@@ -109,7 +106,7 @@ fn refused_requests(plan: &mut Plan) {
             let damaged = sample::damaged(&mut plan.random, Kind::VkloadReq, &request, place, 1);
             plan.numbered(op, AMPLE, sample::resealed(&damaged));
         }
-        let long = sample::padded(&mut plan.random, Kind::VkloadReq, 5, 1025);
+        let long = sample::padded(&mut plan.random, Kind::VkloadReq, 5, LONGEST_READ + 1);
         plan.numbered(op, AMPLE, long);
     }
 }

@@ -1,13 +1,14 @@
 //! The building call.
 
 use super::Plan;
-use crate::sample::{self, Fault, Signed};
 use compare::kind::{FieldType, Kind};
-use compare::record::read;
+use compare::record::{read, LONGEST_READ};
+use compare::sample::{self, Fault, Signed};
+use compare::text::LONGEST_IDENT;
 use compare::worked::{worked, IDENTITIES, RECORDS};
 
 /// Room for any record.
-const AMPLE: usize = 1024;
+const AMPLE: usize = LONGEST_READ;
 
 pub fn add(plan: &mut Plan) {
     worked_records(plan);
@@ -62,13 +63,12 @@ fn some_rooms(plan: &mut Plan) {
         }
     }
     // The longest record there is.
-    let mut subject = sample::fields(&mut plan.random, Kind::Smman, Signed::Yes);
-    subject[0] = sample::ident(&mut plan.random, 32);
-    subject[1] = sample::ident(&mut plan.random, 32);
-    let subject = sample::of_kind(Kind::Smman, &subject);
+    let lengths = [LONGEST_IDENT; 2];
+    let subject = sample::with_idents(&mut plan.random, Kind::Smman, [0, 1], lengths);
     let mut fields = sample::fields(&mut plan.random, Kind::PkEcdsa, Signed::Yes);
     (fields[0], fields[3]) = (subject.clone(), subject);
-    for room in [645, 646, 647] {
+    let longest = Kind::PkEcdsa.longest();
+    for room in [longest - 1, longest, longest + 1] {
         plan.build(room, Kind::PkEcdsa.name(), &fields);
     }
 }
@@ -156,9 +156,9 @@ fn whole_records(plan: &mut Plan) {
     }
 }
 
-/// Fields at and over their limits, an identity of more than 1,024 bytes among them.
+/// Fields at and over their limits, an identity of more bytes than are read among them.
 fn long_fields(plan: &mut Plan) {
-    for length in [31, 32, 33, 64, 200] {
+    for length in [LONGEST_IDENT - 1, LONGEST_IDENT, LONGEST_IDENT + 1, 2 * LONGEST_IDENT, 200] {
         for (kind, index) in
             [(Kind::Smman, 0), (Kind::Kmcid, 1), (Kind::VkloadReq, 3), (Kind::VkloadReq, 4)]
         {
@@ -167,7 +167,7 @@ fn long_fields(plan: &mut Plan) {
             plan.build(AMPLE, kind.name(), &fields);
         }
     }
-    for length in [1023, 1024, 1025, 1500] {
+    for length in [LONGEST_READ - 1, LONGEST_READ, LONGEST_READ + 1, 1500] {
         let long = sample::padded(&mut plan.random, Kind::Smman, 3, length);
         for index in [0, 3] {
             let mut fields = sample::fields(&mut plan.random, Kind::PkEcdsa, Signed::Yes);

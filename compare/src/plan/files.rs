@@ -2,10 +2,10 @@
 
 use super::Plan;
 use crate::calls::Op;
-use crate::sample::{self, Fault, Place, Signed};
 use compare::file::lines;
 use compare::kind::Kind;
-use compare::random::Random;
+use compare::record::LONGEST_READ;
+use compare::sample::{self, Fault, Place, Signed};
 use compare::worked::{worked, IDENTITIES, RECORDS};
 
 pub fn add(plan: &mut Plan) {
@@ -81,10 +81,10 @@ fn single_lines(plan: &mut Plan) {
     }
 }
 
-/// Lines around 1,024 bytes, and another after them.
+/// Lines around the longest that are read, and another after them.
 fn long_lines(plan: &mut Plan) {
     let next = worked("VKLOADRESP");
-    for length in [1023, 1024, 1025] {
+    for length in [LONGEST_READ - 1, LONGEST_READ, LONGEST_READ + 1] {
         let record = sample::padded(&mut plan.random, Kind::PkEcdh, 1, length);
         let file = ended([record, next.clone()]);
         plan.walk(&file);
@@ -109,35 +109,11 @@ fn unfinished(plan: &mut Plan) {
         let place = file.len() - 1;
         plan.numbered(Op::Line, place as u64, file);
     }
-    for length in [1, 2, 4, 5, 9, 10, 100, 1024, 1025, 1100] {
+    for length in [1, 2, 4, 5, 9, 10, 100, LONGEST_READ, LONGEST_READ + 1, 1100] {
         let bytes: Vec<u8> =
             plan.random.bytes(length).into_iter().filter(|&b| b != b'\n').collect();
         plan.numbered(Op::Line, 0, bytes.clone());
         plan.call(Op::Count, bytes);
-    }
-}
-
-/// A line of any sort.
-fn any_line(random: &mut Random) -> Vec<u8> {
-    let kind = random.one_of(&Kind::RECORDS);
-    match random.below(9) {
-        0 => Vec::new(),
-        1 => {
-            let kind = random.one_of(&Kind::IDENTITIES);
-            sample::record(random, kind)
-        }
-        2 => {
-            let record = sample::record(random, kind);
-            sample::damaged(random, kind, &record, Place::Anywhere, 1)
-        }
-        3 => {
-            let record = sample::record(random, kind);
-            let damaged = sample::damaged(random, kind, &record, Place::FirstField, 1);
-            sample::resealed(&damaged)
-        }
-        4 => [sample::record(random, kind), b"\r".to_vec()].concat(),
-        5 => sample::ident(random, 20),
-        _ => sample::record(random, kind),
     }
 }
 
@@ -146,7 +122,7 @@ fn mixed(plan: &mut Plan) {
     for unfinished in [false, true] {
         let mut file = Vec::new();
         for _ in 0..5 {
-            file.extend(ended([any_line(&mut plan.random)]));
+            file.extend(ended([sample::line(&mut plan.random)]));
         }
         if unfinished {
             file.pop();
@@ -174,7 +150,7 @@ fn counts(plan: &mut Plan) {
     for _ in 0..4 {
         let mut file = Vec::new();
         for _ in 0..plan.random.between(3, 9) {
-            file.extend(any_line(&mut plan.random));
+            file.extend(sample::line(&mut plan.random));
             file.push(b'\n');
         }
         if plan.random.once_in(2) {

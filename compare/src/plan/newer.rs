@@ -2,9 +2,9 @@
 
 use super::Plan;
 use crate::calls::Op;
-use crate::sample::{self, Fault, Signed};
 use compare::kind::Kind;
-use compare::random::Random;
+use compare::sample::{self, Fault, Signed, Subject};
+use compare::text::LONGEST_IDENT;
 use compare::worked::{worked, IDENTITIES, RECORDS};
 
 pub fn add(plan: &mut Plan) {
@@ -14,40 +14,6 @@ pub fn add(plan: &mut Plan) {
     other_subjects(plan);
     refusals(plan);
     other_kinds(plan);
-}
-
-/// A Subject by its parts.
-#[derive(Clone)]
-struct Subject {
-    kind: Kind,
-    manufacturer: Vec<u8>,
-    mid: Vec<u8>,
-    gnt: Vec<u8>,
-}
-
-impl Subject {
-    fn any(random: &mut Random) -> Subject {
-        Subject {
-            kind: random.one_of(&Kind::IDENTITIES),
-            manufacturer: sample::any_ident(random),
-            mid: sample::any_ident(random),
-            gnt: sample::timestamp(random),
-        }
-    }
-
-    /// A public key of this Subject; all else in it is random.
-    fn key(&self, random: &mut Random) -> Vec<u8> {
-        let kind = match self.kind {
-            Kind::Smman => Kind::PkEcdsa,
-            _ => Kind::PkEcdh,
-        };
-        let signed = if random.once_in(8) { Signed::Yes } else { Signed::No };
-        let mut fields = sample::fields(random, kind, signed);
-        let (manufacturer, mid) = (self.manufacturer.clone(), self.mid.clone());
-        let print = sample::hex(random, 16);
-        fields[0] = sample::of_kind(self.kind, &[manufacturer, mid, self.gnt.clone(), print]);
-        sample::of_kind(kind, &fields)
-    }
 }
 
 impl Plan {
@@ -152,7 +118,7 @@ fn other_subjects(plan: &mut Plan) {
                 others.push(Subject { kind: other, ..subject.clone() });
             }
             let mut longer = subject.clone();
-            longer.manufacturer.resize(subject.manufacturer.len().min(31) + 1, b'a');
+            longer.manufacturer.resize(subject.manufacturer.len().min(LONGEST_IDENT - 1) + 1, b'a');
             others.push(longer);
             let mut changed = subject.clone();
             changed.mid[0] = if changed.mid[0] == b'x' { b'X' } else { b'x' };

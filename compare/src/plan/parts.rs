@@ -2,8 +2,8 @@
 
 use super::Plan;
 use crate::calls::Op;
-use crate::sample::{self, Place};
 use compare::kind::Kind;
+use compare::sample::{self, Place};
 use compare::worked::{worked, IDENTITIES, RECORDS};
 
 /// Short texts with marks in every position that matters.

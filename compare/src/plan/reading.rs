@@ -2,10 +2,11 @@
 
 use super::Plan;
 use crate::calls::Op;
-use crate::sample::{self, Fault, Place, Signed};
 use compare::crc::crc16;
 use compare::kind::{FieldType, Kind};
-use compare::text::check_text;
+use compare::record::LONGEST_READ;
+use compare::sample::{self, Fault, Place, Signed};
+use compare::text::{check_text, LONGEST_IDENT};
 use compare::worked::{worked, IDENTITIES, RECORDS};
 
 pub fn add(plan: &mut Plan) {
@@ -72,34 +73,38 @@ fn accepted(plan: &mut Plan) {
 }
 
 fn ident_lengths(plan: &mut Plan) {
-    let lengths = [(1, 1), (1, 32), (32, 1), (32, 32), (33, 1), (1, 33), (33, 33), (31, 99)];
-    for (first, second) in lengths {
+    const MOST: usize = LONGEST_IDENT;
+    const MORE: usize = LONGEST_IDENT + 1;
+    for lengths in [
+        [1, 1],
+        [1, MOST],
+        [MOST, 1],
+        [MOST, MOST],
+        [MORE, 1],
+        [1, MORE],
+        [MORE, MORE],
+        [MOST - 1, 3 * MORE],
+    ] {
         for kind in Kind::IDENTITIES {
-            let mut fields = sample::fields(&mut plan.random, kind, Signed::Yes);
-            fields[0] = sample::ident(&mut plan.random, first);
-            fields[1] = sample::ident(&mut plan.random, second);
-            plan.call(Op::Identity, sample::of_kind(kind, &fields));
+            let identity = sample::with_idents(&mut plan.random, kind, [0, 1], lengths);
+            plan.call(Op::Identity, identity);
         }
-        let mut fields = sample::fields(&mut plan.random, Kind::VkloadReq, Signed::Yes);
-        fields[3] = sample::ident(&mut plan.random, first);
-        fields[4] = sample::ident(&mut plan.random, second);
-        plan.call(Op::Record, sample::of_kind(Kind::VkloadReq, &fields));
+        let request = sample::with_idents(&mut plan.random, Kind::VkloadReq, [3, 4], lengths);
+        plan.call(Op::Record, request);
     }
-    // The longest record there is, and one with 33 characters deep inside.
-    for last in [32, 33] {
-        let mut subject = sample::fields(&mut plan.random, Kind::Smman, Signed::Yes);
-        subject[0] = sample::ident(&mut plan.random, 32);
-        subject[1] = sample::ident(&mut plan.random, last);
+    // The longest record there is, and one with a character too many deep inside.
+    for last in [MOST, MORE] {
+        let subject = sample::with_idents(&mut plan.random, Kind::Smman, [0, 1], [MOST, last]);
         let mut fields = sample::fields(&mut plan.random, Kind::PkEcdsa, Signed::Yes);
-        fields[0] = sample::of_kind(Kind::Smman, &subject);
-        fields[3] = sample::of_kind(Kind::Smman, &subject);
+        (fields[0], fields[3]) = (subject.clone(), subject);
         plan.call(Op::Record, sample::of_kind(Kind::PkEcdsa, &fields));
     }
 }
 
-/// Around 1,024 bytes: wrong in one field, in the number of fields, in the kind; without a mark.
+/// Around the longest bytes that are read: wrong in one field, in the number of fields, in the
+/// kind; without a mark.
 fn longest(plan: &mut Plan) {
-    for length in [1023, 1024, 1025] {
+    for length in [LONGEST_READ - 1, LONGEST_READ, LONGEST_READ + 1] {
         for kind in Kind::ALL {
             let field = plan.random.below(kind.fields().len());
             let record = sample::padded(&mut plan.random, kind, field, length);

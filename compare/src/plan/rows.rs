@@ -2,8 +2,9 @@
 
 use super::Plan;
 use crate::calls::Op;
-use crate::sample::{self, Fault, Signed};
 use compare::kind::Kind;
+use compare::sample::{self, Fault, Signed};
+use compare::text::LONGEST_IDENT;
 
 /// Ranges of rows: the calls' own, one kind each, empty ones, and ones that begin with identities.
 const RANGES: [(u64, u64); 10] =
@@ -53,7 +54,8 @@ fn refused(plan: &mut Plan) {
 
 /// Texts of every type and identities of every kind, each held against every code.
 fn fields(plan: &mut Plan) {
-    let mut texts = vec![Vec::new(), b"Prism".to_vec(), b"_A".to_vec(), vec![b'A'; 33]];
+    let mut texts =
+        vec![Vec::new(), b"Prism".to_vec(), b"_A".to_vec(), vec![b'A'; LONGEST_IDENT + 1]];
     for text in ["20180101T230000Z", "20180101T240000Z", "0123456789ABCDEF", "0123456789abcdef"] {
         texts.push(text.into());
     }

@@ -2,7 +2,8 @@
 
 use super::Plan;
 use crate::calls::Op;
-use crate::sample;
+use compare::sample;
+use compare::text::LONGEST_IDENT;
 use compare::worked::{worked, IDENTITIES, RECORDS};
 
 pub fn add(plan: &mut Plan) {
@@ -28,12 +29,12 @@ fn idents(plan: &mut Plan) {
     for name in ["HWID", "FWID", "TVP", "FINGERPRINT_SM", "ID_SM", "QE"] {
         plan.call(Op::Ident, worked(name));
     }
-    for length in (1..=40).chain([64, 98, 99, 100, 255, 256, 257, 1024]) {
+    for length in (1..=LONGEST_IDENT + 8).chain([64, 98, 99, 100, 255, 256, 257, 1024]) {
         let text = sample::ident(&mut plan.random, length);
         plan.call(Op::Ident, text);
     }
-    for index in 0..32 {
-        let mut text = sample::ident(&mut plan.random, 32);
+    for index in 0..LONGEST_IDENT {
+        let mut text = sample::ident(&mut plan.random, LONGEST_IDENT);
         text[index] = plan.random.one_of(b" :|#\n\r\0/@[`{+*;'\"\x7F\x80\xAD\xFF");
         plan.call(Op::Ident, text);
     }

@@ -2,9 +2,10 @@
 
 use super::Plan;
 use crate::calls::Op;
-use crate::sample::{self, Fault, Signed};
 use compare::file::{lines, LONGEST_LISTED};
 use compare::kind::Kind;
+use compare::record::LONGEST_READ;
+use compare::sample::{self, Fault, Signed};
 use compare::worked::worked;
 
 pub fn add(plan: &mut Plan) {
@@ -34,7 +35,7 @@ fn files(plan: &mut Plan) -> Vec<Vec<u8>> {
     let response = worked("VKLOADRESP");
     files.push([&response[..], b"\n"].concat());
     files.push(response.clone());
-    for length in [1024, 1025] {
+    for length in [LONGEST_READ, LONGEST_READ + 1] {
         files.push([&vec![b'|'; length][..], b"\n", &response, b"\n"].concat());
     }
     for kind in Kind::ALL {
