@@ -3,16 +3,17 @@
 //! `OBSCURLANE_ROUNDS` is the number of inputs for each call (3,000 where it is not set).
 
 mod held;
-mod sample;
 
-use compare::random::{self, Random};
+use compare::kind::Kind;
+use compare::random::Random;
 use compare::refusal::Refusal as Expected;
+use compare::sample::{self, Signed, Subject};
 use compare::{agreement, file, record, text};
 use held::{
     expect_share, expected, expected_at, expected_line, line_numbers, numbers, place, rounds,
     same_result, Numbers, Seen,
 };
-use obscurlane::{Kind, Refusal};
+use obscurlane::{Refusal, LONGEST_RECORD};
 
 fn row(record: record::Record<'_>) -> usize {
     record.kind as usize
@@ -38,13 +39,13 @@ fn text_types() {
             1 => sample::timestamp(&mut random),
             2 => sample::hex(&mut random, length),
             3 => {
-                let length = random.between(1, 34);
+                let length = random.between(1, text::LONGEST_IDENT + 2);
                 sample::ident(&mut random, length)
             }
             _ => random.bytes(length),
         };
         let changes = random.below(2);
-        let bytes = sample::damaged(&mut random, &whole, changes);
+        let bytes = sample::damaged_anywhere(&mut random, &whole, changes);
         for (ours, theirs) in types {
             assert_eq!(ours(&bytes), theirs(&bytes), "{bytes:?}");
             accepted += usize::from(ours(&bytes));
@@ -63,9 +64,9 @@ fn reading() {
     let mut seen = Seen::default();
     for _ in 0..rounds() {
         let bytes = sample::anything(&mut random);
-        let identity = numbers(obscurlane::read_identity(&bytes).map(Kind::row));
+        let identity = numbers(obscurlane::read_identity(&bytes).map(obscurlane::Kind::row));
         assert_eq!(identity, expected(record::read_identity(&bytes).map(row)), "{bytes:?}");
-        let read = numbers(obscurlane::read_record(&bytes).map(Kind::row));
+        let read = numbers(obscurlane::read_record(&bytes).map(obscurlane::Kind::row));
         assert_eq!(read, expected(record::read_record(&bytes).map(row)), "{bytes:?}");
         seen.add(&identity);
         seen.add(&read);
@@ -112,18 +113,18 @@ impl Order {
 
     fn any(random: &mut Random) -> Order {
         let kind = random.one_of(&Kind::ALL);
-        let signed = random.below(2) == 0;
+        let signed = random.one_of(&[Signed::Yes, Signed::No]);
         let mut fields = sample::fields(random, kind, signed);
         let index = random.below(fields.len());
         match random.below(6) {
-            0 => fields[index] = sample::damaged(random, &fields[index].clone(), 1),
+            0 => fields[index] = sample::damaged_anywhere(random, &fields[index], 1),
             1 => fields[index].clear(),
-            2 => fields[index] = sample::identity(random, Kind::Smid),
+            2 => fields[index] = sample::record(random, Kind::Smid),
             _ => {}
         }
         let mut order = Order::of(kind, &fields);
         match random.below(12) {
-            0 => order.kind = sample::damaged(random, &order.kind, 1),
+            0 => order.kind = sample::damaged_anywhere(random, &order.kind, 1),
             1 => order.lens[index] = random.one_of(&[0, 1, usize::MAX, usize::MAX / 2 + 1]),
             2 => drop(order.lens.pop()),
             3 => order.lens.push(0),
@@ -151,7 +152,7 @@ fn building() {
     let mut random = Random::with_seed(4);
     let mut seen = Seen::default();
     for _ in 0..rounds() {
-        let room = random.one_of(&[0, 60, 300, 700]);
+        let room = random.one_of(&[0, 60, 300, LONGEST_RECORD]);
         seen.add(&Order::any(&mut random).build(room));
     }
     seen.expect([0, 2, 5, 6, 7, 8, 9, 10], 9);
@@ -162,9 +163,9 @@ fn building_with_every_room() {
     let mut random = Random::with_seed(5);
     for kind in Kind::ALL {
         for _ in 0..rounds().div_ceil(300) {
-            let signed = random.below(2) == 0;
+            let signed = random.one_of(&[Signed::Yes, Signed::No]);
             let fields = sample::fields(&mut random, kind, signed);
-            let record = sample::record_of(kind, &fields);
+            let record = sample::of_kind(kind, &fields);
             let order = Order::of(kind, &fields);
             for room in 0..=record.len() + 2 {
                 let fits = if room < record.len() { Err((10, 0)) } else { Ok(record.len()) };
@@ -197,7 +198,7 @@ fn texts() {
     let mut random = Random::with_seed(6);
     for _ in 0..rounds() {
         let request = match random.below(2) {
-            0 => sample::record(&mut random, Kind::Request),
+            0 => sample::record(&mut random, Kind::VkloadReq),
             _ => sample::anything(&mut random),
         };
         for (ours, theirs, longest) in TEXTS {
@@ -211,7 +212,7 @@ fn texts() {
 fn texts_with_every_room() {
     let mut random = Random::with_seed(7);
     for _ in 0..rounds().div_ceil(300) {
-        let request = sample::record(&mut random, Kind::Request);
+        let request = sample::record(&mut random, Kind::VkloadReq);
         for (ours, theirs, longest) in TEXTS {
             let needed = same_text(ours, theirs, &request, longest).expect("room for any text");
             for room in 0..=longest {
@@ -236,7 +237,7 @@ fn items() {
         let items: Vec<&[u8]> = items.iter().map(Vec::as_slice).collect();
         let mut text = agreement::join(&items);
         match random.below(4) {
-            0 => text = sample::damaged(&mut random, &text, 1),
+            0 => text = sample::damaged_anywhere(&mut random, &text, 1),
             1 => text.truncate(random.below(text.len() + 1)),
             2 if random.below(4) == 0 => text.push(0),
             _ => {}
@@ -276,26 +277,15 @@ fn newer() {
     let mut random = Random::with_seed(10);
     let mut seen = Seen::default();
     for _ in 0..rounds() {
-        let kind = random.one_of(&[Kind::Ecdsa, Kind::Ecdh]);
-        let fields = sample::fields(&mut random, kind, false);
-        let mut others = fields.clone();
-        if random.below(4) != 0 {
-            // the same Subject with another GNT, and now and then another MID
-            let title = fields[0].iter().position(|&byte| byte == b':').expect("a mark");
-            let subject = Kind::ALL
-                .into_iter()
-                .find(|kind| kind.name().as_bytes() == &fields[0][..title])
-                .expect("a kind");
-            let mut parts: Vec<Vec<u8>> = (1..=4)
-                .map(|n| obscurlane::identity_field(&fields[0], n).expect("a field").to_vec())
-                .collect();
-            parts[2] = sample::timestamp(&mut random);
-            if random.below(4) == 0 {
-                parts[1] = sample::any_ident(&mut random);
-            }
-            others[0] = sample::record_of(subject, &parts);
+        let subject = Subject::any(&mut random);
+        let mut other = subject.clone();
+        match random.below(8) {
+            0 | 1 => {}
+            2 => other.mid = sample::any_ident(&mut random),
+            3 => other.kind = random.one_of(&Kind::IDENTITIES),
+            _ => other.gnt = sample::timestamp(&mut random),
         }
-        let mut keys = [sample::record_of(kind, &fields), sample::record_of(kind, &others)];
+        let mut keys = [subject.key(&mut random), other.key(&mut random)];
         if random.below(3) == 0 {
             keys[random.below(2)] = sample::anything(&mut random);
         }

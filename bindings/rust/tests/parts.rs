@@ -3,10 +3,9 @@
 //! `OBSCURLANE_ROUNDS` is the number of inputs for each call (3,000 where it is not set).
 
 mod held;
-mod sample;
 
-use compare::random::{self, Random};
-use compare::{build, crc, file, frame, text};
+use compare::random::Random;
+use compare::{build, crc, file, frame, sample, text};
 use held::{
     expect_share, expected, expected_at, expected_line, expected_mark, line_numbers, numbers,
     place, rounds, same_output, Seen,
@@ -55,7 +54,7 @@ fn same_bytes() {
     for _ in 0..rounds() {
         let a = any_text(&mut random);
         let changes = random.below(2);
-        let mut b = sample::damaged(&mut random, &a, changes);
+        let mut b = sample::damaged_anywhere(&mut random, &a, changes);
         match random.below(8) {
             0 => drop(b.pop()),
             1 => b.push(random.byte()),

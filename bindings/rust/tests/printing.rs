@@ -4,10 +4,10 @@
 //! `OBSCURLANE_ROUNDS` is the number of files (3,000 where it is not set).
 
 mod held;
-mod sample;
 
 use compare::file::{count, list, LONGEST_LISTED};
-use compare::random::{self, Random};
+use compare::random::Random;
+use compare::sample;
 use held::{expect_share_of, rounds};
 use std::env;
 use std::process::{Command, Stdio};

@@ -3,13 +3,13 @@
 //! `OBSCURLANE_ROUNDS` is the number of inputs for each call (3,000 where it is not set).
 
 mod held;
-mod sample;
 
-use compare::random::{self, Random};
+use compare::kind::Kind;
+use compare::random::Random;
 use compare::rows;
+use compare::sample::{self, Signed};
 use held::{expect_share, expected, expected_mark, numbers, place, rounds, Seen};
 use obscurlane::table::{self, FieldType};
-use obscurlane::Kind;
 
 /// A row or the index of a field: mostly one that is there, else a number near it, far beyond, or with the same low bits.
 fn any_index(random: &mut Random) -> usize {
@@ -39,7 +39,7 @@ fn any_rows(random: &mut Random) -> std::ops::Range<usize> {
 }
 
 /// The row of a kind as the library has it, 7 for none.
-fn row_of(kind: Option<Kind>) -> u64 {
+fn row_of(kind: Option<obscurlane::Kind>) -> u64 {
     kind.map_or(rows::NONE, |kind| kind.row() as u64)
 }
 
@@ -84,8 +84,8 @@ fn names() {
     for _ in 0..rounds() {
         let kind = random.one_of(&Kind::ALL);
         let changes = usize::from(random.once_in(4));
-        let title = sample::damaged(&mut random, kind.name().as_bytes(), changes);
-        let mark = if random.once_in(4) { random.byte() } else { sample::mark(kind) };
+        let title = sample::damaged_anywhere(&mut random, kind.name().as_bytes(), changes);
+        let mark = if random.once_in(4) { random.byte() } else { kind.mark() };
         let in_rows = any_rows(&mut random);
         let (from, to) = (in_rows.start as u64, in_rows.end as u64);
         let ours = [
@@ -147,8 +147,8 @@ fn any_record(random: &mut Random) -> Vec<u8> {
     if random.once_in(2) {
         return sample::anything(random);
     }
-    let kind = random.one_of(&sample::RECORDS);
-    sample::faulty(random, kind)
+    let kind = random.one_of(&Kind::RECORDS);
+    sample::with_a_wrong_field(random, kind)
 }
 
 #[test]
@@ -159,7 +159,7 @@ fn reading_by_rows() {
         let bytes = any_record(&mut random);
         let in_rows = any_rows(&mut random);
         let (from, to) = (in_rows.start as u64, in_rows.end as u64);
-        let read = numbers(obscurlane::read_of(in_rows.clone(), &bytes).map(Kind::row));
+        let read = numbers(obscurlane::read_of(in_rows.clone(), &bytes).map(obscurlane::Kind::row));
         let wanted = rows::read_of(from, to, &bytes).map(|record| record.kind as usize);
         assert_eq!(read, expected(wanted), "{in_rows:?} {bytes:?}");
         seen.add(&read);
@@ -189,11 +189,11 @@ fn fields_by_rows() {
 /// A field of one of the kinds: as it is, damaged, or empty.
 fn any_field(random: &mut Random) -> Vec<u8> {
     let kind = random.one_of(&Kind::ALL);
-    let fields = sample::fields(random, kind, true);
+    let fields = sample::fields(random, kind, Signed::Yes);
     let field = &fields[random.below(fields.len())];
     match random.below(8) {
         0 => Vec::new(),
-        1 => sample::damaged(random, field, 1),
+        1 => sample::damaged_anywhere(random, field, 1),
         _ => field.clone(),
     }
 }

@@ -17,7 +17,7 @@ pub fn anything(random: &mut Random) -> Vec<u8> {
 
 fn any_bytes(random: &mut Random) -> Vec<u8> {
     let kind = random.one_of(&Kind::ALL);
-    match random.below(10) {
+    match random.below(12) {
         0 => {
             let length = random.below(LONGEST_READ + LONGEST_READ / 4);
             random.bytes(length)
@@ -36,7 +36,7 @@ fn any_bytes(random: &mut Random) -> Vec<u8> {
             let record = record(random, kind);
             record[..random.below(record.len())].to_vec()
         }
-        8 => {
+        8 | 9 => {
             let fault = random.one_of(Fault::of(kind));
             faulty(random, kind, &[fault])
         }
@@ -78,7 +78,11 @@ pub fn file(random: &mut Random) -> Vec<u8> {
                 let length = random.between(LONGEST_READ - 1, LONGEST_READ + 2);
                 file.extend(random.bytes_of(b"A|:", length));
             }
-            1 | 2 => file.extend(anything(random)),
+            1 => file.extend(anything(random)),
+            2 | 3 => {
+                let kind = random.one_of(&Kind::RECORDS);
+                file.extend(record(random, kind));
+            }
             _ => file.extend(line(random)),
         }
         file.extend_from_slice(random.one_of(&[&b"\n"[..], b"\n", b"\n", b"\r\n"]));

@@ -3,17 +3,12 @@
 //! First the answers of both to every input are compared, damaged records too; a difference ends the program. Then the two
 //! take turns over the same inputs, and for each the nanoseconds per record are printed.
 
-#[path = "../../../tests/sample/mod.rs"]
-mod sample;
-
-#[allow(dead_code)] // the tests take more of them
-#[path = "../../../../../compare/src/random.rs"]
-mod random;
-
 mod plain;
 
-use obscurlane::{Kind, Refusal, LONGEST_MODULE_TEXT, LONGEST_RECORD};
-use random::Random;
+use compare::kind::Kind;
+use compare::random::Random;
+use compare::sample::{self, Signed};
+use obscurlane::{Refusal, LONGEST_MODULE_TEXT, LONGEST_RECORD};
 use std::hint::black_box;
 use std::time::Instant;
 
@@ -32,23 +27,23 @@ struct Sample {
 
 impl Sample {
     fn new(random: &mut Random, kind: Kind) -> Sample {
-        let signed = random.below(2) == 0;
+        let signed = random.one_of(&[Signed::Yes, Signed::No]);
         let fields = sample::fields(random, kind, signed);
         Sample {
             kind,
-            record: sample::record_of(kind, &fields),
+            record: sample::of_kind(kind, &fields),
             bytes: fields.concat(),
             lens: fields.iter().map(Vec::len).collect(),
         }
     }
 
     fn is_identity(&self) -> bool {
-        self.kind < Kind::Ecdsa
+        Kind::IDENTITIES.contains(&self.kind)
     }
 }
 
 struct Inputs {
-    /// Two thousand of each record kind and of identities, in no order.
+    /// As many of each record kind and of identities, in no order.
     samples: Vec<Sample>,
     /// The records of the samples, each with a line feed.
     file: Vec<u8>,
@@ -56,13 +51,13 @@ struct Inputs {
 }
 
 impl Inputs {
-    fn new() -> Inputs {
+    fn new(count: usize) -> Inputs {
         let mut random = Random::with_seed(2026);
-        let mut samples: Vec<Sample> = (0..RECORDS)
+        let mut samples: Vec<Sample> = (0..count)
             .map(|index| {
                 let kind = match index % 5 {
-                    4 => random.one_of(&[Kind::Smman, Kind::Smid, Kind::Kmcid]),
-                    record => sample::RECORDS[record],
+                    4 => random.one_of(&Kind::IDENTITIES),
+                    record => Kind::RECORDS[record],
                 };
                 Sample::new(&mut random, kind)
             })
@@ -75,7 +70,7 @@ impl Inputs {
             file.extend_from_slice(&sample.record);
             file.push(b'\n');
         }
-        let requests = (0..RECORDS).map(|_| sample::record(&mut random, Kind::Request)).collect();
+        let requests = (0..count).map(|_| sample::record(&mut random, Kind::VkloadReq)).collect();
         Inputs { samples, file, requests }
     }
 }
@@ -92,13 +87,13 @@ fn text_with(
     (answer, out)
 }
 
-fn compare_reading(bytes: &[u8]) {
+fn same_reading(bytes: &[u8]) {
     assert_eq!(obscurlane::read_record(bytes), plain::read_record(bytes), "{bytes:?}");
     assert_eq!(obscurlane::read_identity(bytes), plain::read_identity(bytes), "{bytes:?}");
     assert_eq!(obscurlane::crc_of(bytes), plain::crc_of(bytes), "{bytes:?}");
 }
 
-fn compare_texts(request: &[u8], room: usize) {
+fn same_texts(request: &[u8], room: usize) {
     let library = text_with(|r, o| obscurlane::shared_info(r, o).map(<[u8]>::len), request, room);
     assert_eq!(library, text_with(plain::shared_info, request, room), "{request:?}");
     let library = text_with(|r, o| obscurlane::module_text(r, o).map(<[u8]>::len), request, room);
@@ -107,7 +102,7 @@ fn compare_texts(request: &[u8], room: usize) {
     assert_eq!(library, text_with(plain::centre_text, request, room), "{request:?}");
 }
 
-fn compare_building(sample: &Sample, room: usize) {
+fn same_building(sample: &Sample, room: usize) {
     let (name, Sample { bytes, lens, .. }) = (sample.kind.name().as_bytes(), sample);
     let (mut ours, mut theirs) = (vec![0xA5; room], vec![0xA5; room]);
     let library = obscurlane::build(name, bytes, lens, &mut ours).map(<[u8]>::len);
@@ -115,7 +110,7 @@ fn compare_building(sample: &Sample, room: usize) {
     assert_eq!(ours, theirs, "{bytes:?}");
 }
 
-fn compare_file(file: &[u8]) -> usize {
+fn same_file(file: &[u8]) -> usize {
     let mut place = 0;
     let mut lines = 0;
     for line in obscurlane::lines(file) {
@@ -130,22 +125,22 @@ fn compare_file(file: &[u8]) -> usize {
 }
 
 /// Both sides answer the same to everything that is measured, and to as many damaged inputs.
-fn compare(inputs: &Inputs) {
+fn same_answers(inputs: &Inputs) {
     let mut random = Random::with_seed(2027);
     for sample in &inputs.samples {
-        compare_reading(&sample.record);
-        compare_building(sample, LONGEST_RECORD);
-        compare_building(sample, sample.record.len() - 1);
-        compare_reading(&sample::anything(&mut random));
+        same_reading(&sample.record);
+        same_building(sample, LONGEST_RECORD);
+        same_building(sample, sample.record.len() - 1);
+        same_reading(&sample::anything(&mut random));
     }
     for request in &inputs.requests {
-        compare_texts(request, LONGEST_MODULE_TEXT);
-        compare_texts(request, 200);
-        compare_texts(&sample::anything(&mut random), LONGEST_MODULE_TEXT);
+        same_texts(request, LONGEST_MODULE_TEXT);
+        same_texts(request, 200);
+        same_texts(&sample::anything(&mut random), LONGEST_MODULE_TEXT);
     }
-    assert_eq!(compare_file(&inputs.file), RECORDS);
-    compare_file(&sample::damaged(&mut random, &inputs.file, RECORDS));
-    println!("both sides give the same answers, whole and damaged");
+    let count = inputs.samples.len();
+    assert_eq!(same_file(&inputs.file), count);
+    same_file(&sample::damaged_anywhere(&mut random, &inputs.file, count));
 }
 
 // ---- the measurement
@@ -294,8 +289,9 @@ fn measure_check(samples: &[Sample]) {
 }
 
 fn main() {
-    let inputs = Inputs::new();
-    compare(&inputs);
+    let inputs = Inputs::new(RECORDS);
+    same_answers(&inputs);
+    println!("both sides give the same answers, whole and damaged");
     let bytes = inputs.samples.iter().map(|sample| sample.record.len()).sum::<usize>();
     println!(
         "{RECORDS} records, {} bytes each on average; {}",
@@ -310,4 +306,14 @@ fn main() {
     measure_building(&inputs.samples);
     measure_texts(&inputs.requests);
     measure_check(&inputs.samples);
+}
+
+#[cfg(test)]
+mod tests {
+    use super::*;
+
+    #[test]
+    fn both_sides_give_the_same_answers() {
+        same_answers(&Inputs::new(500));
+    }
 }
