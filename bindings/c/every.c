@@ -52,7 +52,10 @@ static void check_and_types(void)
 
 static void long_types(void)
 {
-    uint8_t digits[194];
+    uint8_t digits[194], letters[OBSCURLANE_LONGEST_IDENT + 1];
+    memset(letters, 'A', sizeof letters);
+    EXPECT(obscurlane_is_ident(letters, OBSCURLANE_LONGEST_IDENT));
+    EXPECT(!obscurlane_is_ident(letters, OBSCURLANE_LONGEST_IDENT + 1));
     memset(digits, '4', sizeof digits);
     digits[0] = '0';
     EXPECT(obscurlane_is_point(digits, 194));
@@ -111,7 +114,7 @@ static void fields(void)
 /* The longest of all records: its length is the header's, and one byte less is no room. */
 static void longest_record(const uint8_t *identity, size_t len)
 {
-    uint8_t parts[1024], out[OBSCURLANE_LONGEST_RECORD + 8], field = UNTOUCHED;
+    uint8_t parts[OBSCURLANE_LONGEST_RECORD], out[OBSCURLANE_LONGEST_RECORD + 8], field = UNTOUCHED;
     const size_t lens[] = {len, 194, 16, len, 192};
     size_t total = 0, made = UNTOUCHED;
     memcpy(parts, identity, len);
@@ -142,12 +145,13 @@ static void longest_record(const uint8_t *identity, size_t len)
 /* An identity whose Manufacturer and MID are as long as can be; its length. */
 static size_t longest_identity(const uint8_t *kind, size_t kind_len, uint8_t *out, size_t room)
 {
-    uint8_t parts[96], field = UNTOUCHED;
-    const size_t lens[] = {32, 32, 16, 16};
+    uint8_t parts[2 * OBSCURLANE_LONGEST_IDENT + 16 + 16], field = UNTOUCHED;
+    const size_t lens[] = {OBSCURLANE_LONGEST_IDENT, OBSCURLANE_LONGEST_IDENT, 16, 16};
     size_t made = UNTOUCHED;
     memset(parts, 'A', sizeof parts);
-    memcpy(parts + 64, "99991231T115959Z", 16);
-    EXPECT(obscurlane_build(kind, kind_len, parts, 96, lens, 4, out, room, &field, &made) == OBSCURLANE_ACCEPTED);
+    memcpy(parts + 2 * OBSCURLANE_LONGEST_IDENT, "99991231T115959Z", 16);
+    EXPECT(obscurlane_build(kind, kind_len, parts, sizeof parts, lens, 4, out, room, &field, &made) ==
+           OBSCURLANE_ACCEPTED);
     EXPECT(field == 0 && made <= OBSCURLANE_LONGEST_IDENTITY);
     return made;
 }
@@ -190,16 +194,17 @@ static void text_of(text_call *call, size_t expected, const char *label)
 /* The request whose texts are the longest. */
 static size_t longest_request(uint8_t *out, size_t room)
 {
-    uint8_t parts[1024], field = UNTOUCHED;
+    enum { IDENT = OBSCURLANE_LONGEST_IDENT };
+    uint8_t parts[OBSCURLANE_LONGEST_RECORD], field = UNTOUCHED;
     size_t made = UNTOUCHED;
     size_t module = longest_identity(BYTES("SMID.1"), parts, sizeof parts);
     size_t centre = longest_identity(BYTES("KMCID.1"), parts + module, sizeof parts - module);
-    const size_t lens[] = {module, centre, 16, 32, 32, 194, 48};
+    const size_t lens[] = {module, centre, 16, IDENT, IDENT, 194, 48};
     size_t total = module + centre;
     memcpy(parts + total, "20180125T150000Z", 16);
-    memset(parts + total + 16, '4', 32 + 32 + 194 + 48);
-    parts[total + 16 + 64] = '0';
-    total += 16 + 32 + 32 + 194 + 48;
+    memset(parts + total + 16, '4', IDENT + IDENT + 194 + 48);
+    parts[total + 16 + IDENT + IDENT] = '0';
+    total += 16 + IDENT + IDENT + 194 + 48;
     EXPECT(obscurlane_build(BYTES("VKLOAD.REQ.1"), parts, total, lens, 7, out, room, &field, &made) ==
            OBSCURLANE_ACCEPTED);
     return made;

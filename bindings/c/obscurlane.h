@@ -2,7 +2,8 @@
  * Obscurlane: reading, checking and building the identity, public key, load request and load response records of
  * STS 600-4-2, and the texts that a key agreement hashes.
  *
- * Link with libexports.a, which `rt staticlib exports` proves and writes to target/staticlib/ (x86-64).
+ * Link with libexports.a, which `bindings/archive` proves, compiles for the machine that it runs on and puts into
+ * target/staticlib/.
  *
  * What is proved of each function holds for every value of the bytes and numbers that it is given. What the caller owes,
  * because no proof can see it:
@@ -116,15 +117,25 @@ enum { OBSCURLANE_FIRST = 1, OBSCURLANE_SECOND = 2 };
 /* ---- lengths: the longest inputs that are taken, and outputs that are always enough */
 
 enum {
-    OBSCURLANE_LONGEST_READ = 1024,       /* the longest bytes that are read as a record or identity */
-    OBSCURLANE_LONGEST_RECORD = 646,      /* the longest record that is built or accepted */
-    OBSCURLANE_LONGEST_IDENTITY = 112,    /* the longest identity that is built or accepted */
-    OBSCURLANE_LONGEST_SHARED_INFO = 253, /* the longest of each text of a load request */
-    OBSCURLANE_LONGEST_MODULE_TEXT = 411,
-    OBSCURLANE_LONGEST_CENTRE_TEXT = 344,
-    OBSCURLANE_LONGEST_LINE_TEXT = 67, /* the longest line of a list, and its end, line feed included */
+    /* The longest bytes that are read as a record or identity. */
+    OBSCURLANE_LONGEST_READ = 1024,
+    /* The longest IDENT. What is longest by its IDENTs follows from it. */
+    OBSCURLANE_LONGEST_IDENT = 32,
+    /* The longest identity that is built or accepted: SMMAN.1 or KMCID.1, Manufacturer, MID, and 41 bytes more. */
+    OBSCURLANE_LONGEST_IDENTITY = 7 + 2 * OBSCURLANE_LONGEST_IDENT + 41,
+    /* The longest record that is built or accepted: PK.ECDSA.1, Subject and 220 bytes more, Issuer and 192 more. */
+    OBSCURLANE_LONGEST_RECORD = 10 + OBSCURLANE_LONGEST_IDENTITY + 220 + OBSCURLANE_LONGEST_IDENTITY + 192,
+    /* The longest of each text of a load request: the byte of its count, and each item with the byte of its length. ID_SM is
+     * one byte shorter than the longest identity. */
+    OBSCURLANE_LONGEST_SHARED_INFO = 1 + 10 + OBSCURLANE_LONGEST_IDENTITY + 1 + OBSCURLANE_LONGEST_IDENTITY + 17,
+    OBSCURLANE_LONGEST_MODULE_TEXT = 1 + 4 + OBSCURLANE_LONGEST_IDENTITY + 1 + OBSCURLANE_LONGEST_IDENTITY + 98 + 17 +
+                                     1 + OBSCURLANE_LONGEST_IDENT + 1 + OBSCURLANE_LONGEST_IDENT,
+    OBSCURLANE_LONGEST_CENTRE_TEXT = 1 + 3 + 1 + OBSCURLANE_LONGEST_IDENTITY + OBSCURLANE_LONGEST_IDENTITY + 17 + 98,
+    /* The longest line of a list, and its end, line feed included. */
+    OBSCURLANE_LONGEST_LINE_TEXT = 67,
     OBSCURLANE_LONGEST_END_TEXT = 46,
-    OBSCURLANE_LONGEST_LISTED = 65536 /* the longest file that is listed */
+    /* The longest file that is listed. */
+    OBSCURLANE_LONGEST_LISTED = 65536
 };
 
 /* ---- the check */
@@ -143,7 +154,7 @@ uint16_t obscurlane_crc_end(uint16_t state);
 
 /* ---- the text types, and hexadecimal characters and values */
 
-/* IDENT: 1 to 32 characters, the first alphanumeric, the others alphanumeric or one of _ - . , */
+/* IDENT: 1 to OBSCURLANE_LONGEST_IDENT characters, the first alphanumeric, the others alphanumeric or one of _ - . , */
 bool obscurlane_is_ident(const uint8_t *s, size_t s_len);
 
 /* TIMESTAMP: YYYYMMDDThhmmssZ; year from 0001, month 01 to 12, day 01 to 31, hour 00 to 23, minute and second 00 to 59. */

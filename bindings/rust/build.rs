@@ -1,74 +1,67 @@
-//! Links the archive that `rt staticlib exports` proves and writes.
+//! Links the archive that `bindings/archive` makes, and takes the lengths over from the header.
 
 use std::path::{Path, PathBuf};
-use std::time::SystemTime;
-use std::{env, fs, process};
+use std::process::{self, Command};
+use std::{env, fs};
 
 fn main() {
+    write_lengths();
     println!("cargo:rerun-if-env-changed=OBSCURLANE_LIB");
-    let named = env::var_os("OBSCURLANE_LIB").map(PathBuf::from);
-    let folder = named.clone().unwrap_or_else(usual_folder);
+    let folder = env::var_os("OBSCURLANE_LIB").map_or_else(made_folder, PathBuf::from);
     let archive = folder.join("libexports.a");
     println!("cargo:rerun-if-changed={}", archive.display());
-
-    let target = env::var("CARGO_CFG_TARGET_ARCH").unwrap_or_default();
-    if named.is_none() && target != "x86_64" {
-        fail(&format!(
-            "the archive of `rt staticlib exports` is for x86-64, and this build is for {target}"
-        ));
-    }
     if !archive.is_file() {
-        fail(&format!(
-            "{} is missing: run `rt staticlib exports` in the repository's root",
-            archive.display()
-        ));
-    }
-    if named.is_none() {
-        warn_if_older(&archive);
+        fail(&format!("there is no {}", archive.display()));
     }
     println!("cargo:rustc-link-search=native={}", folder.display());
     println!("cargo:rustc-link-lib=static=exports");
 }
 
 fn in_root(path: &str) -> PathBuf {
-    let here = env::var_os("CARGO_MANIFEST_DIR").expect("cargo names the crate's folder");
-    Path::new(&here).join("../..").join(path)
+    Path::new(&variable("CARGO_MANIFEST_DIR")).join("../..").join(path)
 }
 
-/// `target/staticlib` of the repository.
-fn usual_folder() -> PathBuf {
-    in_root("target/staticlib")
+/// One that cargo sets for every build script.
+fn variable(name: &str) -> String {
+    env::var(name).unwrap_or_else(|error| panic!("{name}: {error}"))
 }
 
-/// An old archive links as well as a new one, and answers what the sources no longer say.
-fn warn_if_older(archive: &Path) {
-    let crates = in_root("crates");
-    println!("cargo:rerun-if-changed={}", crates.display());
-    if has_newer(&crates, changed(archive)) {
-        println!("cargo:warning=libexports.a is older than crates/: run `rt staticlib exports` in the repository's root");
+/// The folder of the archive of this tree, which has to be there: an old one would link as well as a new one, and answer what
+/// the sources no longer say.
+fn made_folder() -> PathBuf {
+    for path in ["crates", "crates.txt", "bindings/archive"] {
+        println!("cargo:rerun-if-changed={}", in_root(path).display());
     }
-}
-
-/// Whether a file below the folder was changed after this time.
-fn has_newer(folder: &Path, time: SystemTime) -> bool {
-    let entries = fs::read_dir(folder).into_iter().flatten().flatten();
-    entries.map(|entry| entry.path()).any(|path| {
-        if path.is_dir() {
-            has_newer(&path, time)
-        } else {
-            changed(&path) > time
-        }
-    })
-}
-
-/// When a file was last changed.
-fn changed(file: &Path) -> SystemTime {
-    let time = fs::metadata(file).and_then(|about| about.modified());
-    time.unwrap_or(SystemTime::UNIX_EPOCH)
+    println!("cargo:rerun-if-env-changed=OBSCURLANE_NATIVE");
+    let (target, host) = (variable("CARGO_CFG_TARGET_ARCH"), env::consts::ARCH);
+    if target != host {
+        fail(&format!("bindings/archive compiles for {host}, and this build is for {target}"));
+    }
+    match Command::new(in_root("bindings/archive")).arg("--check").status() {
+        Ok(status) if status.success() => in_root("target/staticlib"),
+        Ok(_) => fail("the archive has to be made first"),
+        Err(error) => fail(&format!("bindings/archive: {error}")),
+    }
 }
 
 fn fail(why: &str) -> ! {
     eprintln!("obscurlane: {why}");
     eprintln!("obscurlane: OBSCURLANE_LIB can name another folder that has libexports.a");
     process::exit(1);
+}
+
+/// Writes the header's lengths as constants of Rust, so that they stand in one place. Both languages write sums of numbers and
+/// names alike.
+fn write_lengths() {
+    let path = in_root("bindings/c/obscurlane.h");
+    println!("cargo:rerun-if-changed={}", path.display());
+    let header = fs::read_to_string(&path).unwrap_or_else(|error| panic!("the header: {error}"));
+    let pieces = header.split("/*").map(|piece| piece.split_once("*/").map_or(piece, |cut| cut.1));
+    let code: String = pieces.collect();
+    let entries = code.split(['{', '}', ',']).filter_map(|entry| entry.trim().split_once(" = "));
+    let lengths = entries.filter(|(name, _)| name.starts_with("OBSCURLANE_LONGEST_"));
+    let constants: String =
+        lengths.map(|(name, sum)| format!("pub const {name}: usize = {sum};\n")).collect();
+    let written = Path::new(&variable("OUT_DIR")).join("lengths.rs");
+    fs::write(written, constants.replace("OBSCURLANE_", "")).expect("cargo's folder is written");
 }

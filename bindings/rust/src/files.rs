@@ -3,9 +3,6 @@
 use crate::{sys, Kind, Refusal};
 use std::iter::FusedIterator;
 
-/// The longest file that is listed.
-pub const LONGEST_LISTED: usize = 65_536;
-
 /// A line of a file.
 #[derive(Clone, Copy, Debug, PartialEq, Eq)]
 pub struct Line<'a> {
@@ -152,7 +149,7 @@ pub fn count(file: &[u8]) -> Totals {
 }
 
 /// Prints the list of a file: what [`line_text`](crate::line_text) writes of each line, and [`end_text`](crate::end_text) at
-/// the end; or `too big` alone for a file of more than [`LONGEST_LISTED`] bytes. Gives back how many lines the list has.
+/// the end; or `too big` alone for a file of more than [`LONGEST_LISTED`](crate::LONGEST_LISTED) bytes. Gives back how many lines the list has.
 /// A write that fails is not reported.
 ///
 /// The library writes to standard output itself, past [`std::io::Stdout`]: what was printed before is flushed first by the

@@ -29,6 +29,7 @@
 mod files;
 pub mod frame;
 mod kind;
+mod lengths;
 mod reading;
 mod refusal;
 mod sys;
@@ -36,13 +37,14 @@ pub mod table;
 mod text;
 mod writing;
 
-pub use files::{
-    count, line_at, lines, newer, print_list, Line, Lines, Reader, Totals, LONGEST_LISTED,
-};
+pub use files::{count, line_at, lines, newer, print_list, Line, Lines, Reader, Totals};
 pub use kind::Kind;
+pub use lengths::{
+    LONGEST_CENTRE_TEXT, LONGEST_END_TEXT, LONGEST_IDENT, LONGEST_IDENTITY, LONGEST_LINE_TEXT,
+    LONGEST_LISTED, LONGEST_MODULE_TEXT, LONGEST_READ, LONGEST_RECORD, LONGEST_SHARED_INFO,
+};
 pub use reading::{
-    field_no, field_of, identity_field, read_identity, read_of, read_record, record_field,
-    whole_no, LONGEST_READ,
+    field_no, field_of, identity_field, read_identity, read_of, read_record, record_field, whole_no,
 };
 pub use refusal::{Reason, Refusal};
 pub use text::{
@@ -51,6 +53,5 @@ pub use text::{
 };
 pub use writing::{
     build, centre_text, end_text, line_text, module_text, put, put_byte, refuse, shared_info,
-    text_item, LONGEST_CENTRE_TEXT, LONGEST_END_TEXT, LONGEST_IDENTITY, LONGEST_LINE_TEXT,
-    LONGEST_MODULE_TEXT, LONGEST_RECORD, LONGEST_SHARED_INFO,
+    text_item,
 };

@@ -3,9 +3,6 @@
 use crate::{sys, Kind, Refusal};
 use std::ops::Range;
 
-/// The longest bytes that are read as a record or identity.
-pub const LONGEST_READ: usize = 1024;
-
 #[inline]
 fn kind_of(answer: &sys::Answer) -> Result<Kind, Refusal> {
     Refusal::check(answer.no, answer.field)?;

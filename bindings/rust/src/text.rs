@@ -64,7 +64,8 @@ impl Crc {
     }
 }
 
-/// IDENT: 1 to 32 characters, the first alphanumeric, the others alphanumeric or one of `_ - . ,`.
+/// IDENT: 1 to [`LONGEST_IDENT`](crate::LONGEST_IDENT) characters, the first alphanumeric, the others alphanumeric or one of
+/// `_ - . ,`.
 ///
 /// ```
 /// assert!(obscurlane::is_ident(b"sts-KeyAgreement-1.2"));

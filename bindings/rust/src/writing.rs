@@ -4,21 +4,6 @@ use crate::reading::part;
 use crate::{sys, Reason, Refusal};
 use std::num::NonZeroU8;
 
-/// The longest record that is built or accepted.
-pub const LONGEST_RECORD: usize = 646;
-/// The longest identity that is built or accepted.
-pub const LONGEST_IDENTITY: usize = 112;
-/// The longest SharedInfo.
-pub const LONGEST_SHARED_INFO: usize = 253;
-/// The longest module text.
-pub const LONGEST_MODULE_TEXT: usize = 411;
-/// The longest centre text.
-pub const LONGEST_CENTRE_TEXT: usize = 344;
-/// The longest line of a list, its line feed included.
-pub const LONGEST_LINE_TEXT: usize = 67;
-/// The longest end of a list, its line feed included.
-pub const LONGEST_END_TEXT: usize = 46;
-
 /// The bytes written, from the front of the output.
 #[inline]
 fn made<'o>(written: &sys::Written, out: &'o mut [u8]) -> Result<&'o [u8], Refusal> {

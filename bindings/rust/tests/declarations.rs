@@ -1,7 +1,8 @@
-//! The declarations of the C interface, in the header and in `sys`, are those that the signatures in `crates/exports` ask for.
+//! The declarations of the C interface, in the header and in `sys`, are those that the signatures in `crates/exports` ask for,
+//! and the header's numbers are those of the crates.
 
 use obscurlane::table::FieldType;
-use obscurlane::Reason;
+use obscurlane::{Kind, Reason};
 use std::collections::{BTreeMap, BTreeSet};
 use std::fs;
 use std::path::{Path, PathBuf};
@@ -158,23 +159,43 @@ fn header_declarations() -> Vec<String> {
     statements.filter(|line| line.contains("obscurlane_")).map(str::to_owned).collect()
 }
 
-/// The header's numbers by their names, without `OBSCURLANE_`.
-fn header_numbers() -> BTreeMap<String, usize> {
+/// The header's names, without `OBSCURLANE_`, and what each is set to.
+fn header_names() -> Vec<(String, String)> {
     let header = flat(&without_comments(&read("bindings/c/obscurlane.h")));
     let entries = header.split(['{', '}', ',']).filter_map(|entry| entry.trim().split_once(" = "));
-    let numbers = entries.map(|(name, number)| {
+    let names = entries.map(|(name, set)| {
         let name = name.strip_prefix("OBSCURLANE_").expect("a name of the interface");
-        (name.to_owned(), number.parse().expect("a number"))
+        (name.to_owned(), set.to_owned())
     });
-    numbers.collect()
+    names.collect()
 }
 
-/// Those whose names begin so, without that beginning.
-fn header_numbers_of(group: &str) -> BTreeMap<String, usize> {
-    let numbers = header_numbers().into_iter();
-    numbers
-        .filter_map(|(name, number)| Some((name.strip_prefix(group)?.to_owned(), number)))
-        .collect()
+/// The crates that the archive is made of.
+fn linked_crates() -> Vec<String> {
+    let list = read("crates.txt");
+    let needed = list.lines().find_map(|line| line.strip_prefix("exports:")).expect("exports");
+    let crates = needed.split_whitespace().filter(|name| in_root("crates").join(name).is_dir());
+    crates.map(str::to_owned).collect()
+}
+
+/// The names and values of a crate's constants that are numbers.
+fn constants(crate_name: &str) -> Vec<(String, usize)> {
+    let sources = files(&format!("crates/{crate_name}/src"));
+    let source: String = sources.iter().map(|(_, text)| flat(text)).collect();
+    let constants = source.split("const ").skip(1).filter_map(|rest| {
+        let (name, rest) = rest.split_once(": ")?;
+        let (_, value) = rest.split_once(';')?.0.split_once(" = ")?;
+        Some((name.to_owned(), value.parse().ok()?))
+    });
+    constants.collect()
+}
+
+/// What the crates set a name of the header to, which is the name of a constant in one of them or in several.
+fn in_the_crates(name: &str) -> BTreeSet<usize> {
+    let of_table = ["KIND_", "TYPE_"].iter().find_map(|group| name.strip_prefix(group));
+    let crates = if of_table.is_some() { vec!["table".to_owned()] } else { linked_crates() };
+    let all = crates.iter().flat_map(|crate_name| constants(crate_name));
+    all.filter(|(constant, _)| constant == of_table.unwrap_or(name)).map(|(_, set)| set).collect()
 }
 
 /// The declarations in `sys`, each with its file.
@@ -229,19 +250,34 @@ fn every_function_has_its_line_in_the_page() {
     }
 }
 
+/// So that no name of the header escapes the tests below.
 #[test]
-fn rows_are_the_tables() {
-    let table = flat(&read("crates/table/src/lib.rt"));
-    let header = header_numbers_of("KIND_");
-    let names = ["SMMAN", "SMID", "KMCID", "ECDSA", "ECDH", "REQ", "RESP", "NONE"];
-    assert_eq!(header.len(), names.len());
-    for (row, name) in names.into_iter().enumerate() {
-        assert!(table.contains(&format!("pub const {name}: usize = {row};")), "{name}");
-        assert_eq!(header[name], row, "{name}");
+fn the_header_sets_every_name_once_and_in_an_enumeration() {
+    let header = read("bindings/c/obscurlane.h");
+    let defined: Vec<&str> = header.lines().filter(|line| line.starts_with("#define")).collect();
+    assert_eq!(defined, ["#define OBSCURLANE_H"]);
+
+    let names: Vec<String> = header_names().into_iter().map(|(name, _)| name).collect();
+    let set = BTreeSet::from_iter(&names);
+    assert_eq!(names.len(), set.len(), "a name is set twice");
+    let code = without_comments(&header);
+    let words = code.split(|c: char| c != '_' && !c.is_ascii_alphanumeric());
+    for name in words.filter_map(|word| word.strip_prefix("OBSCURLANE_")) {
+        assert!(set.contains(&name.to_owned()), "{name} is not set to a number");
     }
 }
 
-/// A name of the table as a name of Rust: `IdSmid` for `ID_SMID`.
+#[test]
+fn numbers_are_the_crates() {
+    for (name, set) in header_names() {
+        if !name.starts_with("LONGEST_") {
+            let number = set.parse().expect("a number");
+            assert_eq!(in_the_crates(&name), BTreeSet::from([number]), "{name}");
+        }
+    }
+}
+
+/// A name of the header as a name of Rust: `IdSmid` for `ID_SMID`.
 fn in_rust(name: &str) -> String {
     let words = name.split('_').map(|word| {
         let (first, rest) = word.split_at(1);
@@ -250,74 +286,44 @@ fn in_rust(name: &str) -> String {
     words.collect()
 }
 
+/// The numbers of a group of the header's names by these names, as Rust writes them.
+fn header_numbers(group: &str) -> BTreeMap<String, usize> {
+    let names = header_names().into_iter();
+    let of_group = names.filter_map(|(name, set)| {
+        let rest = name.strip_prefix(group)?;
+        Some((in_rust(rest), set.parse().ok()?))
+    });
+    of_group.collect()
+}
+
 #[test]
-fn codes_are_the_tables() {
-    let table = flat(&read("crates/table/src/lib.rt"));
-    let header = header_numbers_of("TYPE_");
-    let constants = table.split("pub const ").skip(1);
-    let codes: Vec<(&str, &str)> =
-        constants.filter_map(|rest| rest.split(';').next()?.split_once(": u8 = ")).collect();
-    assert_eq!(codes.len(), FieldType::ALL.len());
-    assert_eq!(header.len(), FieldType::ALL.len());
-    for (name, code) in codes {
-        let code: u8 = code.parse().expect("a number");
-        assert_eq!(header[name], usize::from(code), "{name}");
-        let field_type = FieldType::from_code(code);
-        assert_eq!(format!("{:?}", field_type.expect("a type")), in_rust(name));
+fn the_crate_has_the_headers_numbers() {
+    let types = FieldType::ALL.map(|of| (format!("{of:?}"), usize::from(of.code())));
+    assert_eq!(header_numbers("TYPE_"), BTreeMap::from(types));
+
+    let kinds = header_numbers("KIND_");
+    assert_eq!(kinds.len(), Kind::ALL.len() + 1);
+    for (name, row) in kinds.into_iter().filter(|(name, _)| name != "None") {
+        let kind = Kind::from_row(row).expect("a row").name();
+        assert!(kind.contains(&name.to_uppercase()), "{kind} is no {name}");
     }
+
+    let mut others = header_numbers("");
+    others.retain(|name, _| !["Type", "Kind", "Longest"].iter().any(|of| name.starts_with(of)));
+    let reasons = Reason::ALL.map(|of| (format!("{of:?}"), usize::from(of.number())));
+    let and = [("Accepted", 0), ("First", 1), ("Second", 2)];
+    let and = and.map(|(name, number)| (name.to_owned(), number));
+    assert_eq!(others, reasons.into_iter().chain(and).collect());
 }
 
+/// What each is the length of is tried in the tests that are read here.
 #[test]
-fn the_longest_list_is_the_printers() {
-    let longest = obscurlane::LONGEST_LISTED;
-    let printing = flat(&read("crates/printing/src/lib.rt"));
-    assert!(printing.contains(&format!("pub const MOST: usize = {longest};")));
-}
-
-/// What each is the length of is tried in `longest.rs`.
-#[test]
-fn lengths_are_the_headers() {
-    let lengths = [
-        ("READ", obscurlane::LONGEST_READ),
-        ("RECORD", obscurlane::LONGEST_RECORD),
-        ("IDENTITY", obscurlane::LONGEST_IDENTITY),
-        ("SHARED_INFO", obscurlane::LONGEST_SHARED_INFO),
-        ("MODULE_TEXT", obscurlane::LONGEST_MODULE_TEXT),
-        ("CENTRE_TEXT", obscurlane::LONGEST_CENTRE_TEXT),
-        ("LINE_TEXT", obscurlane::LONGEST_LINE_TEXT),
-        ("END_TEXT", obscurlane::LONGEST_END_TEXT),
-        ("LISTED", obscurlane::LONGEST_LISTED),
-    ];
-    let lengths = lengths.map(|(name, length)| (name.to_owned(), length));
-    assert_eq!(header_numbers_of("LONGEST_"), BTreeMap::from(lengths));
-}
-
-#[test]
-fn numbers_are_the_crates() {
-    let crates = ["reading", "frame", "building", "files", "items", "newer"];
-    let source: String =
-        crates.map(|name| flat(&read(&format!("crates/{name}/src/lib.rt")))).concat();
-    let header = header_numbers();
-    let names = [
-        "ACCEPTED",
-        "TOO_LONG",
-        "NO_KIND",
-        "NO_CHECK",
-        "WRONG_CHECK",
-        "WRONG_COUNT",
-        "WRONG_TEXT",
-        "NO_IDENTITY",
-        "UNPAIRED",
-        "WRONG_KIND",
-        "NO_ROOM",
-        "UNFINISHED",
-        "NO_ITEM",
-        "NOT_ALIKE",
-    ];
-    for (number, name) in (0..).zip(names) {
-        assert!(source.contains(&format!("const {name}: u8 = {number};")), "{name}");
-        assert_eq!(header[name], usize::from(number), "{name}");
-        let reason = Reason::from_number(number).map(|reason| format!("{reason:?}"));
-        assert_eq!(reason.unwrap_or("Accepted".to_owned()), in_rust(name));
+fn every_length_is_taken_over_and_tried() {
+    let taken = read("bindings/rust/src/lengths.rs");
+    let tests = ["longest", "printing"].map(|name| read(&format!("bindings/rust/tests/{name}.rs")));
+    for (name, _) in header_names().iter().filter(|(name, _)| name.starts_with("LONGEST_")) {
+        let constant = format!("pub const {name}: usize = header::{name};");
+        assert!(taken.contains(&constant), "lengths.rs does not take over {name}");
+        assert!(tests.concat().contains(name.as_str()), "{name} is not tried");
     }
 }

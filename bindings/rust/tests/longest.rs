@@ -1,37 +1,14 @@
 //! Each `LONGEST_` constant is the length of the longest thing of its name: it is made, and one byte less is no room for it.
+//! What the table of kinds allows is computed by `compare/`.
 
-use obscurlane::table::{self, FieldType};
-use obscurlane::{Kind, Reason, Refusal};
-
-/// More than anything takes.
-const AMPLE: usize = 2000;
-
-/// The longest field of a type; of two permitted kinds the one with the longer name.
-fn longest_field(field_type: FieldType) -> Vec<u8> {
-    match field_type {
-        FieldType::Ident => vec![b'A'; 32],
-        FieldType::Timestamp => b"99991231T235959Z".to_vec(),
-        FieldType::Print => vec![b'F'; 16],
-        FieldType::Point => [&b"04"[..], &[b'F'; 192]].concat(),
-        FieldType::Mac => vec![b'F'; 48],
-        FieldType::SigOrEmpty => vec![b'F'; 192],
-        FieldType::IdSmman | FieldType::IdSmmanOrEmpty => longest_record(Kind::Smman),
-        FieldType::IdSmid => longest_record(Kind::Smid),
-        FieldType::IdKmcid | FieldType::IdSmidOrKmcid => longest_record(Kind::Kmcid),
-    }
-}
-
-/// The record or identity of a kind with the longest fields.
-fn longest_record(kind: Kind) -> Vec<u8> {
-    let types = (0..table::count_of(kind.row())).map(|j| table::type_of(kind.row(), j));
-    let fields: Vec<Vec<u8>> = types.map(longest_field).collect();
-    let lens: Vec<usize> = fields.iter().map(Vec::len).collect();
-    made(|out| obscurlane::build(kind.name().as_bytes(), &fields.concat(), &lens, out))
-}
+use compare::kind::Kind;
+use compare::random::Random;
+use compare::{rows, sample};
+use obscurlane::{Reason, Refusal, LONGEST_READ};
 
 /// What a call writes with as much room as it takes; one byte less is no room.
 fn made(call: impl Fn(&mut [u8]) -> Result<&[u8], Refusal>) -> Vec<u8> {
-    let mut out = [0; AMPLE];
+    let mut out = [0; LONGEST_READ];
     let made = call(&mut out).expect("ample room").to_vec();
     assert_eq!(call(&mut out[..made.len()]), Ok(&made[..]));
     let refusal = call(&mut out[..made.len() - 1]).expect_err("one byte less");
@@ -39,27 +16,49 @@ fn made(call: impl Fn(&mut [u8]) -> Result<&[u8], Refusal>) -> Vec<u8> {
     made
 }
 
+/// The longest record of a kind, built by the library.
+fn longest_record(kind: Kind) -> Vec<u8> {
+    let fields = sample::longest_fields(&mut Random::with_seed(51), kind);
+    let lens: Vec<usize> = fields.iter().map(Vec::len).collect();
+    let built = made(|out| obscurlane::build(kind.name().as_bytes(), &fields.concat(), &lens, out));
+    assert_eq!(built, sample::of_kind(kind, &fields), "{kind:?}");
+    built
+}
+
+#[test]
+fn idents() {
+    let letters = [b'A'; obscurlane::LONGEST_IDENT + 1];
+    assert!(obscurlane::is_ident(&letters[1..]));
+    assert!(!obscurlane::is_ident(&letters));
+    assert_eq!(obscurlane::LONGEST_IDENT, compare::text::LONGEST_IDENT);
+}
+
 #[test]
 fn no_field_is_longer() {
-    for field_type in FieldType::ALL {
-        let mut field = longest_field(field_type);
-        assert_eq!(obscurlane::field_no(field_type.code(), &field), Ok(()), "{field_type:?}");
-        field.push(b'A');
-        assert!(obscurlane::field_no(field_type.code(), &field).is_err(), "{field_type:?}");
+    let mut random = Random::with_seed(52);
+    for kind in Kind::ALL {
+        for (index, entry) in (0..).zip(kind.fields()) {
+            let code = rows::type_of(kind as u64, index) as u8;
+            let mut field = sample::longest_of_type(&mut random, entry.field_type);
+            assert_eq!(obscurlane::field_no(code, &field), Ok(()), "{kind:?} {}", entry.name);
+            field.push(b'A');
+            assert!(obscurlane::field_no(code, &field).is_err(), "{kind:?} {}", entry.name);
+        }
     }
 }
 
 #[test]
 fn records_and_identities() {
-    let (identities, records) = Kind::ALL.split_at(3);
-    let longest = |kinds: &[Kind]| kinds.iter().map(|&kind| longest_record(kind).len()).max();
-    assert_eq!(longest(identities), Some(obscurlane::LONGEST_IDENTITY));
-    assert_eq!(longest(records), Some(obscurlane::LONGEST_RECORD));
+    for kind in Kind::ALL {
+        assert_eq!(longest_record(kind).len(), kind.longest(), "{kind:?}");
+    }
+    assert_eq!(obscurlane::LONGEST_IDENTITY, Kind::longest_of(&Kind::IDENTITIES));
+    assert_eq!(obscurlane::LONGEST_RECORD, Kind::longest_of(&Kind::ALL));
 }
 
 #[test]
 fn texts_of_a_request() {
-    let request = longest_record(Kind::Request);
+    let request = longest_record(Kind::VkloadReq);
     let shared_info = made(|out| obscurlane::shared_info(&request, out));
     assert_eq!(shared_info.len(), obscurlane::LONGEST_SHARED_INFO);
     let module_text = made(|out| obscurlane::module_text(&request, out));
@@ -79,10 +78,10 @@ fn lines_of_a_list() {
 
 #[test]
 fn bytes_that_are_read() {
-    let longer = [b'A'; obscurlane::LONGEST_READ + 1];
+    let longer = [b'A'; LONGEST_READ + 1];
     for read in [obscurlane::read_identity, obscurlane::read_record] {
         let reason = |bytes| read(bytes).expect_err("no record").reason;
-        assert_eq!(reason(&longer[..obscurlane::LONGEST_READ]), Reason::NoKind);
+        assert_eq!(reason(&longer[1..]), Reason::NoKind);
         assert_eq!(reason(&longer), Reason::TooLong);
     }
 }

@@ -26,7 +26,7 @@ fn the_request_has_its_parts_and_its_texts() {
     for (wanted, name) in (1..).zip(names) {
         assert_eq!(obscurlane::record_field(&request, wanted), Ok(&worked(name)[..]), "{name}");
     }
-    let mut out = [0; 512];
+    let mut out = [0; obscurlane::LONGEST_MODULE_TEXT];
     assert_eq!(obscurlane::shared_info(&request, &mut out), Ok(&worked("SHAREDINFO")[..]));
     assert_eq!(obscurlane::module_text(&request, &mut out), Ok(&worked("MACDATA_SM")[..]));
     assert_eq!(obscurlane::centre_text(&request, &mut out), Ok(&worked("MACDATA_KMC")[..]));

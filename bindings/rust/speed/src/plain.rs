@@ -3,10 +3,9 @@
 //! The check is taken bit by bit in the form of the library's: nested calls of one step. As a loop LLVM would take it for a
 //! CRC and put a table of 512 bytes in its place, and the two sides would not do the same work.
 
-use obscurlane::{Kind, Reason, Refusal};
+use obscurlane::{Kind, Reason, Refusal, LONGEST_IDENT, LONGEST_READ};
 use std::num::NonZeroU8;
 
-const LONGEST: usize = 1024;
 const CHECK_LENGTH: usize = 4;
 const MOST_FIELDS: usize = 7;
 const POINT_BYTES: u8 = 97;
@@ -127,7 +126,7 @@ fn is_hex(length: usize, text: &[u8]) -> bool {
 fn is_ident(text: &[u8]) -> bool {
     match text {
         [first, rest @ ..] => {
-            rest.len() < 32
+            text.len() <= LONGEST_IDENT
                 && first.is_ascii_alphanumeric()
                 && rest.iter().all(|&byte| {
                     byte.is_ascii_alphanumeric() || matches!(byte, b'_' | b'-' | b'.' | b',')
@@ -220,7 +219,7 @@ fn check_identity(permitted: &[Kind], field: &[u8]) -> Result<(), Reason> {
 
 /// The kind and the fields of a record of one of the wanted kinds.
 fn read<'a>(bytes: &'a [u8], wanted: &[Kind]) -> Result<(Kind, Fields<'a>), Refusal> {
-    if bytes.len() > LONGEST {
+    if bytes.len() > LONGEST_READ {
         return Err(refusal(Reason::TooLong));
     }
     let title = bytes.iter().position(|&byte| matches!(byte, b':' | b'|'));

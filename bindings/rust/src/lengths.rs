@@ -1,0 +1,27 @@
+//! Lengths: the longest inputs that are taken, and outputs that are always enough.
+
+/// The header's own numbers, which the build script takes over.
+mod header {
+    include!(concat!(env!("OUT_DIR"), "/lengths.rs"));
+}
+
+/// The longest bytes that are read as a record or identity.
+pub const LONGEST_READ: usize = header::LONGEST_READ;
+/// The longest IDENT.
+pub const LONGEST_IDENT: usize = header::LONGEST_IDENT;
+/// The longest identity that is built or accepted.
+pub const LONGEST_IDENTITY: usize = header::LONGEST_IDENTITY;
+/// The longest record that is built or accepted.
+pub const LONGEST_RECORD: usize = header::LONGEST_RECORD;
+/// The longest SharedInfo.
+pub const LONGEST_SHARED_INFO: usize = header::LONGEST_SHARED_INFO;
+/// The longest module text.
+pub const LONGEST_MODULE_TEXT: usize = header::LONGEST_MODULE_TEXT;
+/// The longest centre text.
+pub const LONGEST_CENTRE_TEXT: usize = header::LONGEST_CENTRE_TEXT;
+/// The longest line of a list, its line feed included.
+pub const LONGEST_LINE_TEXT: usize = header::LONGEST_LINE_TEXT;
+/// The longest end of a list, its line feed included.
+pub const LONGEST_END_TEXT: usize = header::LONGEST_END_TEXT;
+/// The longest file that is listed.
+pub const LONGEST_LISTED: usize = header::LONGEST_LISTED;
