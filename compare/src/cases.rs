@@ -7,6 +7,7 @@ use compare::file::{self, Line, Step};
 use compare::kind::Kind;
 use compare::record::Record;
 use compare::refusal::Refusal;
+use compare::rows::NONE;
 use compare::text::{base16, check_text};
 
 /// Added to the call of a case that has no bytes of its own.
@@ -217,8 +218,8 @@ fn line_number(step: Step) -> Option<u8> {
     }
 }
 
-fn row(answer: Result<Kind, Refusal>) -> u8 {
-    answer.map_or(7, |kind| kind as u8)
+fn row(answer: Result<Kind, Refusal>) -> u64 {
+    answer.map_or(NONE, |kind| kind as u64)
 }
 
 /// The line with a space and a part after it, or alone when the part is empty.

@@ -1,6 +1,6 @@
 //! Reading of identities and records, and of single fields.
 
-use crate::frame::{body_of, check_no};
+use crate::frame::{body_of, check_no, mark_after, title_of};
 use crate::kind::{FieldType, Kind};
 use crate::refusal::Refusal;
 use crate::text;
@@ -49,10 +49,9 @@ pub fn read<'a>(bytes: &'a [u8], wanted: &[Kind]) -> Result<Record<'a>, Refusal>
         return Err(Refusal::TooLong);
     }
 
-    let first_mark =
-        bytes.iter().position(|byte| b":|".contains(byte)).ok_or(Refusal::UnknownKind)?;
-    let kind = Kind::from_name(&bytes[..first_mark])
-        .filter(|kind| wanted.contains(kind) && kind.mark() == bytes[first_mark])
+    let title = title_of(bytes);
+    let kind = Kind::from_name(title)
+        .filter(|kind| wanted.contains(kind) && kind.mark() == mark_after(bytes))
         .ok_or(Refusal::UnknownKind)?;
 
     check_no(kind.mark(), bytes)?;
@@ -60,7 +59,7 @@ pub fn read<'a>(bytes: &'a [u8], wanted: &[Kind]) -> Result<Record<'a>, Refusal>
 
     // Each field is ended by the mark, so nothing may stand behind the last one.
     let mut fields: Vec<&[u8]> =
-        body[first_mark + 1..].split(|&byte| byte == kind.mark()).collect();
+        body[title.len() + 1..].split(|&byte| byte == kind.mark()).collect();
     fields.pop();
     if fields.len() != kind.fields().len() {
         return Err(Refusal::FieldCount);

@@ -151,7 +151,13 @@ fn the_three_texts_come_out_byte_for_byte() {
             assert_eq!(call(&worked(other), &mut output), Err(Refusal::UnknownKind), "{other}");
             assert_eq!(output, vec![0x55; 1024], "{other}");
         }
+    }
+}
 
+#[test]
+fn the_texts_have_their_items() {
+    for name in ["SHAREDINFO", "MACDATA_SM", "MACDATA_KMC"] {
+        let text = worked(name);
         let items = split(&text).unwrap();
         assert_eq!(join(&items), text, "{name}");
     }

@@ -214,7 +214,8 @@ fn changed_lengths(right: &[u64]) -> Vec<Vec<u64>> {
     lists
 }
 
-/// Too few lengths and too many: the sum is still right in the first three lists, and wrong in the others.
+/// Too few lengths and too many: the sum is still right in the first three lists, and wrong in the
+/// others.
 fn other_numbers(right: &[u64]) -> [Vec<u64>; 5] {
     let last = right.len() - 1;
     let mut fewer = right[..last].to_vec();

@@ -6,7 +6,7 @@ use compare::crc::crc16;
 use compare::kind::{FieldType, Kind};
 use compare::record::LONGEST_READ;
 use compare::sample::{self, Fault, Place, Signed};
-use compare::text::{check_text, LONGEST_IDENT};
+use compare::text::{check_text, LONGEST_IDENT, SIG_DIGITS};
 use compare::worked::{worked, IDENTITIES, RECORDS};
 
 pub fn add(plan: &mut Plan) {
@@ -150,7 +150,8 @@ fn few_bytes(plan: &mut Plan) {
     }
 }
 
-/// A kind's name with its own mark and the other one, with nothing or little after it, and names that are nearly its own.
+/// A kind's name with its own mark and the other one, with nothing or little after it, and names
+/// that are nearly its own.
 fn names_and_marks(plan: &mut Plan, kind: Kind) {
     let name = kind.name();
     let (own, other) = match kind.mark() {
@@ -264,7 +265,7 @@ fn half_signed(plan: &mut Plan) {
             fields[3] = sample::record(&mut plan.random, issuer);
             plan.call(Op::Record, sample::of_kind(kind, &fields));
         }
-        for length in [191, 192, 193] {
+        for length in [SIG_DIGITS - 1, SIG_DIGITS, SIG_DIGITS + 1] {
             let mut fields = sample::fields(&mut plan.random, kind, Signed::No);
             fields[4] = sample::hex(&mut plan.random, length);
             plan.call(Op::Record, sample::of_kind(kind, &fields));

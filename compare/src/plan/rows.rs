@@ -4,7 +4,7 @@ use super::Plan;
 use crate::calls::Op;
 use compare::kind::Kind;
 use compare::sample::{self, Fault, Signed};
-use compare::text::LONGEST_IDENT;
+use compare::text::{LONGEST_IDENT, MAC_DIGITS, SIG_DIGITS};
 
 /// Ranges of rows: the calls' own, one kind each, empty ones, and ones that begin with identities.
 const RANGES: [(u64, u64); 10] =
@@ -60,7 +60,7 @@ fn fields(plan: &mut Plan) {
         texts.push(text.into());
     }
     texts.push(sample::point(&mut plan.random));
-    texts.extend([48, 192].map(|length| sample::hex(&mut plan.random, length)));
+    texts.extend([MAC_DIGITS, SIG_DIGITS].map(|length| sample::hex(&mut plan.random, length)));
     texts.extend(Kind::IDENTITIES.map(|kind| sample::record(&mut plan.random, kind)));
     texts.push(sample::faulty(&mut plan.random, Kind::Smid, &[Fault::Check]));
     for text in texts {

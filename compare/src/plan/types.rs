@@ -3,7 +3,7 @@
 use super::Plan;
 use crate::calls::Op;
 use compare::sample;
-use compare::text::LONGEST_IDENT;
+use compare::text::{LONGEST_IDENT, MAC_DIGITS, POINT_DIGITS, PRINT_DIGITS, SIG_DIGITS};
 use compare::worked::{worked, IDENTITIES, RECORDS};
 
 pub fn add(plan: &mut Plan) {
@@ -189,8 +189,16 @@ fn hexadecimal(plan: &mut Plan) {
     }
 }
 
+/// The types whose length is fixed.
+const LENGTHS: [(Op, usize); 4] = [
+    (Op::Point, POINT_DIGITS),
+    (Op::Sig, SIG_DIGITS),
+    (Op::Mac, MAC_DIGITS),
+    (Op::Print, PRINT_DIGITS),
+];
+
 fn fixed_lengths(plan: &mut Plan) {
-    for (op, length) in [(Op::Point, 194), (Op::Sig, 192), (Op::Mac, 48), (Op::Print, 16)] {
+    for (op, length) in LENGTHS {
         for name in ["Q_KMC", "Q_MAN", "QE", "SIG_MAN", "SIG_SM", "MACTAG_SM", "FINGERPRINT_MAN"] {
             plan.call(op, worked(name));
         }
@@ -218,7 +226,7 @@ fn fixed_lengths(plan: &mut Plan) {
         }
     }
     for start in ["02", "03", "00", "05", "40", "44", "4", "0", "14", " 4", "0\u{14}", "04"] {
-        let rest = sample::hex(&mut plan.random, 194 - start.len());
+        let rest = sample::hex(&mut plan.random, POINT_DIGITS - start.len());
         plan.call(Op::Point, [start.as_bytes(), &rest].concat());
     }
 }
