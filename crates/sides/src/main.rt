@@ -4,8 +4,6 @@
 // (number, field number, row of the kind), and the fields that the field calls hand back.
 use libc::STDIN_FILENO;
 use libc::STDOUT_FILENO;
-ghost use Prim.Native.Nat.{_≤_};
-ghost use lib.ListN.{length};
 
 fn print(text: &[u8]) {
     io::write_all(STDOUT_FILENO, text);
@@ -93,31 +91,16 @@ fn show(label: &[u8], s: &[u8]) {
     print_fields(8, s);
 }
 
-// Where the line that begins at a place ends.
-fn line_end(input: &[u8], at: usize) -> usize
-    requires { ⌜ at ≤ length (now input) ⌝ }
-    ensures { λ r. ⌜ (at ≤ r) × (r ≤ length (now (input .entry))) ⌝ }
-{
-    let end = frame::next_mark(b'\n', input, at);
-    if end < at {
-        return at;
-    }
-    if input.len() < end {
-        return input.len();
-    }
-    end
-}
-
 // A label without its record, and a record without its line feed, end the list.
 fn show_all(input: &[u8]) {
     let mut at: usize = 0;
     while at < input.len() {
-        let end = line_end(input, at);
+        let end = frame::next_mark(b'\n', input, at);
         if input.len() <= end {
             return;
         }
         let from = end + 1;
-        let to = line_end(input, from);
+        let to = frame::next_mark(b'\n', input, from);
         if input.len() <= to {
             return;
         }

@@ -7,8 +7,6 @@ mod value;
 
 use libc::STDIN_FILENO;
 use libc::STDOUT_FILENO;
-ghost use Prim.Native.Nat.{_≤_};
-ghost use lib.ListN.{length};
 
 struct Tally {
     same: u32,
@@ -61,37 +59,22 @@ fn tallied(tally: Tally, same: bool) -> Tally {
     next
 }
 
-// Where the line that begins at a place ends.
-fn line_end(input: &[u8], at: usize) -> usize
-    requires { ⌜ at ≤ length (now input) ⌝ }
-    ensures { λ r. ⌜ (at ≤ r) × (r ≤ length (now (input .entry))) ⌝ }
-{
-    let end = frame::next_mark(b'\n', input, at);
-    if end < at {
-        return at;
-    }
-    if input.len() < end {
-        return input.len();
-    }
-    end
-}
-
 // A step that lacks a line ends the list.
 fn run_all(input: &[u8]) -> Tally {
     let mut tally = Tally { same: 0, differ: 0 };
     let mut at: usize = 0;
     while at < input.len() {
-        let title_end = line_end(input, at);
+        let title_end = frame::next_mark(b'\n', input, at);
         if input.len() <= title_end {
             return tally;
         }
         let from = title_end + 1;
-        let step_end = line_end(input, from);
+        let step_end = frame::next_mark(b'\n', input, from);
         if input.len() <= step_end {
             return tally;
         }
         let known = step_end + 1;
-        let end = line_end(input, known);
+        let end = frame::next_mark(b'\n', input, known);
         if input.len() <= end {
             return tally;
         }

@@ -1,22 +1,34 @@
 -- `sides::show_all` ends: each pair of lines takes a byte at least.
 -- Assumes nothing.
-use Prim.Native.Nat.{_-_, _≤_}
+use denote.Ref.{now}
+use Prim.Native.Nat.{_+_, _-_, _≤_}
+use Prim.Native.Char.{code}
+use native.Mathlib.Omega.{arith}
 use lib.ListN.{length}
+use Rattle.frame.proofs.Parts.{next-from}
 use borrow.Author.Needs.{needs}
 use Rattle.sides.proofs.show_all.Statement.{statement}
 use Rattle.sides.proofs.show_all.Tie as tie
 
 abbrev Inv-loop : tie.InvT-loop
-Inv-loop input at₀ at = at ≤ length input
+Inv-loop input at₀ at = Unit {0}
 
 abbrev μ-loop : tie.MeasureT-loop
 μ-loop input at₀ at = length input - at
 
+-- neither line ends before it begins
+first : (c : tie.After-next-mark Inv-loop μ-loop) → c .before .before .loop .at ≤ c .next-mark .result
+first c = omega (arith, c .next-mark .ensures, next-from (code "\n") (now (c .before .before .before .before .args .input)) (c .before .before .loop .at))
+
+second : (c : tie.After-next-mark2 Inv-loop μ-loop) → c .before .before .next-mark .result + 1 ≤ c .next-mark2 .result
+second c =
+    omega (arith, c .next-mark2 .ensures, next-from (code "\n") (now (c .before .before .before .before .before .before .args .input)) (c .before .before .next-mark .result + 1))
+
 loop-holds : tie.Need-loop-holds Inv-loop μ-loop
 loop-holds c = search needs
 
-line-end-requires : tie.Need-line-end-requires Inv-loop μ-loop
-line-end-requires c κs = search needs
+next-mark-requires : tie.Need-next-mark-requires Inv-loop μ-loop
+next-mark-requires c κs = search needs
 
 returns : tie.Need-returns Inv-loop μ-loop
 returns c = search needs
@@ -24,26 +36,26 @@ returns c = search needs
 add-from : tie.Need-add-from Inv-loop μ-loop
 add-from c = search needs
 
-line-end-requires-2 : tie.Need-line-end-requires-2 Inv-loop μ-loop
-line-end-requires-2 c κs = search needs
+next-mark-requires-2 : tie.Need-next-mark-requires-2 Inv-loop μ-loop
+next-mark-requires-2 c κs = search needs
 
 returns-2 : tie.Need-returns-2 Inv-loop μ-loop
 returns-2 c = search needs
 
 sub-show : tie.Need-sub-show Inv-loop μ-loop
-sub-show c = search needs
+sub-show c = omega (arith, first (c .before .before .before))
 
 part-show-start : tie.Need-part-show-start Inv-loop μ-loop
-part-show-start c = search needs
+part-show-start c = first (c .before .before .before)
 
 part-show-end : tie.Need-part-show-end Inv-loop μ-loop
 part-show-end c = search needs
 
 sub-show-2 : tie.Need-sub-show-2 Inv-loop μ-loop
-sub-show-2 c = search needs
+sub-show-2 c = omega (arith, second (c .before .before))
 
 part-show-start-2 : tie.Need-part-show-start-2 Inv-loop μ-loop
-part-show-start-2 c = search needs
+part-show-start-2 c = omega (arith, second (c .before .before))
 
 part-show-end-2 : tie.Need-part-show-end-2 Inv-loop μ-loop
 part-show-end-2 c = search needs
@@ -55,7 +67,7 @@ add-at : tie.Need-add-at Inv-loop μ-loop
 add-at c = search needs
 
 loop-less : tie.Need-loop-less Inv-loop μ-loop
-loop-less c = search needs
+loop-less c = omega (arith, first (c .before .before .before .before .before .before), second (c .before .before .before .before))
 
 loop-again : tie.Need-loop-again Inv-loop μ-loop
 loop-again c = search needs
@@ -70,10 +82,10 @@ show-all-spec =
     Inv-loop
     μ-loop
     loop-holds
-    line-end-requires
+    next-mark-requires
     returns
     add-from
-    line-end-requires-2
+    next-mark-requires-2
     returns-2
     sub-show
     part-show-start
