@@ -75,7 +75,7 @@ static void reading(void)
     size_t kind = UNTOUCHED;
     EXPECT(obscurlane_read_identity(BYTES(WORKED_ID_SM), &field, &kind) == OBSCURLANE_ACCEPTED);
     EXPECT(field == 0 && kind == OBSCURLANE_KIND_SMID);
-    EXPECT(obscurlane_read_identity(BYTES(WORKED_REQUEST), &field, &kind) == OBSCURLANE_NO_KIND);
+    EXPECT(obscurlane_read_identity(BYTES(WORKED_REQUEST), &field, &kind) == OBSCURLANE_UNKNOWN_KIND);
     EXPECT(field == 0 && kind == OBSCURLANE_KIND_NONE);
     EXPECT(obscurlane_read_record(BYTES(WORKED_KEY_MAKER), &field, &kind) == OBSCURLANE_ACCEPTED);
     EXPECT(field == 0 && kind == OBSCURLANE_KIND_ECDSA);
@@ -85,14 +85,14 @@ static void reading(void)
     EXPECT(field == 0 && kind == OBSCURLANE_KIND_REQ);
     EXPECT(obscurlane_read_record(BYTES(WORKED_RESPONSE), &field, &kind) == OBSCURLANE_ACCEPTED);
     EXPECT(field == 0 && kind == OBSCURLANE_KIND_RESP);
-    EXPECT(obscurlane_read_record(BYTES(WORKED_ID_SM), &field, &kind) == OBSCURLANE_NO_KIND);
-    EXPECT(obscurlane_read_record(BYTES("PK.ECDH.1|x"), &field, &kind) == OBSCURLANE_NO_CHECK);
+    EXPECT(obscurlane_read_record(BYTES(WORKED_ID_SM), &field, &kind) == OBSCURLANE_UNKNOWN_KIND);
+    EXPECT(obscurlane_read_record(BYTES("PK.ECDH.1|x"), &field, &kind) == OBSCURLANE_MISSING_CHECK);
     EXPECT(field == 0 && kind == OBSCURLANE_KIND_NONE);
 
     uint8_t big[OBSCURLANE_LONGEST_READ + 1];
     memset(big, 'A', sizeof big);
     EXPECT(obscurlane_read_record(big, sizeof big, &field, &kind) == OBSCURLANE_TOO_LONG);
-    EXPECT(obscurlane_read_record(big, sizeof big - 1, &field, &kind) == OBSCURLANE_NO_KIND);
+    EXPECT(obscurlane_read_record(big, sizeof big - 1, &field, &kind) == OBSCURLANE_UNKNOWN_KIND);
 }
 
 static void fields(void)
@@ -101,11 +101,11 @@ static void fields(void)
     size_t start = UNTOUCHED, len = UNTOUCHED;
     EXPECT(obscurlane_identity_field(BYTES(WORKED_ID_SM), 2, &field, &start, &len) == OBSCURLANE_ACCEPTED);
     EXPECT(field == 0 && len == 8 && memcmp(&WORKED_ID_SM[start], "06000001", 8) == 0);
-    EXPECT(obscurlane_identity_field(BYTES(WORKED_ID_SM), 5, &field, &start, &len) == OBSCURLANE_NO_ITEM);
+    EXPECT(obscurlane_identity_field(BYTES(WORKED_ID_SM), 5, &field, &start, &len) == OBSCURLANE_MISSING_ITEM);
     EXPECT(field == 0 && start == 0 && len == 0);
     EXPECT(obscurlane_record_field(BYTES(WORKED_REQUEST), 4, &field, &start, &len) == OBSCURLANE_ACCEPTED);
     EXPECT(field == 0 && len == 11 && memcmp(&WORKED_REQUEST[start], "Prism-VSM-1", 11) == 0);
-    EXPECT(obscurlane_record_field(BYTES(WORKED_REQUEST), 0, &field, &start, &len) == OBSCURLANE_NO_ITEM);
+    EXPECT(obscurlane_record_field(BYTES(WORKED_REQUEST), 0, &field, &start, &len) == OBSCURLANE_MISSING_ITEM);
     EXPECT(field == 0 && start == 0 && len == 0);
     EXPECT(obscurlane_record_field(BYTES(WORKED_KEY_CENTRE), 4, &field, &start, &len) == OBSCURLANE_ACCEPTED);
     EXPECT(field == 0 && len == 0 && WORKED_KEY_CENTRE[start] == '|');
@@ -131,7 +131,7 @@ static void longest_record(const uint8_t *identity, size_t len)
 
     memset(out, UNTOUCHED, sizeof out);
     EXPECT(obscurlane_build(BYTES("PK.ECDSA.1"), parts, total, lens, 5, out, OBSCURLANE_LONGEST_RECORD - 1, &field,
-                            &made) == OBSCURLANE_NO_ROOM);
+                            &made) == OBSCURLANE_SHORT_OUTPUT);
     EXPECT(field == 0 && made == 0 && untouched(out, 0, sizeof out));
     EXPECT(obscurlane_build(BYTES("PK.ECDSA.1"), parts, total, lens, 5, out, OBSCURLANE_LONGEST_RECORD, &field,
                             &made) == OBSCURLANE_ACCEPTED);
@@ -164,7 +164,7 @@ static void building(void)
     size_t made = UNTOUCHED;
     memset(out, UNTOUCHED, sizeof out);
     EXPECT(obscurlane_build(BYTES("SMMAN.2"), BYTES(""), lens, 4, out, sizeof out, &field, &made) ==
-           OBSCURLANE_NO_KIND);
+           OBSCURLANE_UNKNOWN_KIND);
     EXPECT(obscurlane_build(BYTES("SMMAN.1"), BYTES("A"), lens, 4, out, sizeof out, &field, &made) ==
            OBSCURLANE_WRONG_COUNT);
     EXPECT(field == 0 && made == 0 && untouched(out, 0, sizeof out));
@@ -180,14 +180,14 @@ static void text_of(text_call *call, size_t expected, const char *label)
     uint8_t out[OBSCURLANE_LONGEST_MODULE_TEXT], field = UNTOUCHED;
     size_t len = UNTOUCHED, start = UNTOUCHED, item = UNTOUCHED;
     memset(out, UNTOUCHED, sizeof out);
-    EXPECT(call(BYTES(WORKED_RESPONSE), out, sizeof out, &field, &len) == OBSCURLANE_NO_KIND);
-    EXPECT(call(BYTES(WORKED_REQUEST), out, expected - 1, &field, &len) == OBSCURLANE_NO_ROOM);
+    EXPECT(call(BYTES(WORKED_RESPONSE), out, sizeof out, &field, &len) == OBSCURLANE_UNKNOWN_KIND);
+    EXPECT(call(BYTES(WORKED_REQUEST), out, expected - 1, &field, &len) == OBSCURLANE_SHORT_OUTPUT);
     EXPECT(field == 0 && len == 0 && untouched(out, 0, sizeof out));
     EXPECT(call(BYTES(WORKED_REQUEST), out, expected, &field, &len) == OBSCURLANE_ACCEPTED);
     EXPECT(field == 0 && len == expected && untouched(out, len, sizeof out));
     EXPECT(obscurlane_text_item(out, len, 1, &start, &item) == OBSCURLANE_ACCEPTED);
     EXPECT(start == 2 && item == strlen(label) && memcmp(out + start, label, item) == 0);
-    EXPECT(obscurlane_text_item(out, len - 1, 1, &start, &item) == OBSCURLANE_NO_ITEM);
+    EXPECT(obscurlane_text_item(out, len - 1, 1, &start, &item) == OBSCURLANE_MISSING_ITEM);
     EXPECT(start == 0 && item == 0);
 }
 
@@ -251,7 +251,7 @@ static void newer(void)
     EXPECT(field == 0 && which == OBSCURLANE_FIRST);
     EXPECT(obscurlane_newer(BYTES(WORKED_KEY_MAKER), BYTES(WORKED_KEY_CENTRE), &field, &which) == OBSCURLANE_NOT_ALIKE);
     EXPECT(field == 0 && which == 0);
-    EXPECT(obscurlane_newer(BYTES(WORKED_KEY_MAKER), BYTES(WORKED_REQUEST), &field, &which) == OBSCURLANE_NO_KIND);
+    EXPECT(obscurlane_newer(BYTES(WORKED_KEY_MAKER), BYTES(WORKED_REQUEST), &field, &which) == OBSCURLANE_UNKNOWN_KIND);
     EXPECT(field == 0 && which == 0);
 }
 
@@ -260,13 +260,13 @@ static void listing(void)
     uint8_t out[OBSCURLANE_LONGEST_LINE_TEXT + 1], field = UNTOUCHED;
     size_t len = UNTOUCHED;
     memset(out, UNTOUCHED, sizeof out);
-    EXPECT(obscurlane_line_text(3, 13, 3, 11, out, 9, &field, &len) == OBSCURLANE_NO_ROOM);
+    EXPECT(obscurlane_line_text(3, 13, 3, 11, out, 9, &field, &len) == OBSCURLANE_SHORT_OUTPUT);
     EXPECT(field == 0 && len == 0 && untouched(out, 0, sizeof out));
     EXPECT(obscurlane_line_text(3, 13, 3, 11, out, 10, &field, &len) == OBSCURLANE_ACCEPTED);
     EXPECT(field == 0 && len == 10 && memcmp(out, "3 13 3 11\n", 10) == 0 && untouched(out, 10, sizeof out));
     EXPECT(obscurlane_line_text(SIZE_MAX, SIZE_MAX, SIZE_MAX, UINT8_MAX, out, sizeof out, &field, &len) == 0);
     EXPECT(field == 0 && len == OBSCURLANE_LONGEST_LINE_TEXT);
-    EXPECT(obscurlane_end_text(3, 0, out, 7, &field, &len) == OBSCURLANE_NO_ROOM);
+    EXPECT(obscurlane_end_text(3, 0, out, 7, &field, &len) == OBSCURLANE_SHORT_OUTPUT);
     EXPECT(obscurlane_end_text(3, 0, out, 8, &field, &len) == OBSCURLANE_ACCEPTED);
     EXPECT(field == 0 && len == 8 && memcmp(out, "end 3 0\n", 8) == 0);
     EXPECT(obscurlane_end_text(SIZE_MAX, SIZE_MAX, out, sizeof out, &field, &len) == OBSCURLANE_ACCEPTED);

@@ -103,7 +103,7 @@ static void build_again(struct bytes request)
     printf("built again from its fields, the same %zu bytes:\n  %.*s\n", len, (int)len, (const char *)out);
 
     no = obscurlane_build(kind.at, kind.len, fields, total, lens, 7, out, len - 1, &field, &len);
-    expect(no == OBSCURLANE_NO_ROOM && len == 0, "one byte less is no room");
+    expect(no == OBSCURLANE_SHORT_OUTPUT && len == 0, "one byte less is no room");
 }
 
 static void show_text(const char *name, text_call *call, struct bytes request, size_t items, size_t expected)
@@ -120,14 +120,14 @@ static void show_text(const char *name, text_call *call, struct bytes request, s
         printf(" %zu", item_len);
     }
     no = obscurlane_text_item(text, len, items + 1, &start, &item_len);
-    expect(no == OBSCURLANE_NO_ITEM && start == 0 && item_len == 0, "it has no more items");
+    expect(no == OBSCURLANE_MISSING_ITEM && start == 0 && item_len == 0, "it has no more items");
     printf(" bytes\n");
 }
 
 /* An accepted key, an empty line, a damaged request, and a last line without line feed. */
 static void read_file(void)
 {
-    static const uint8_t expected[] = {OBSCURLANE_ACCEPTED, OBSCURLANE_NO_KIND, OBSCURLANE_WRONG_CHECK,
+    static const uint8_t expected[] = {OBSCURLANE_ACCEPTED, OBSCURLANE_UNKNOWN_KIND, OBSCURLANE_WRONG_CHECK,
                                        OBSCURLANE_UNFINISHED};
     char text[] = WORKED_KEY_CENTRE "\n\n" WORKED_REQUEST "\n" WORKED_RESPONSE;
     struct bytes file = bytes_of(text);

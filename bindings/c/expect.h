@@ -14,7 +14,7 @@
 
 /* Of each of the three lines: where it begins, its length, where the next begins, and its answer. */
 static const size_t three_starts[] = {0, 1, 13}, three_sizes[] = {0, 11, 3}, three_nexts[] = {1, 13, 16};
-static const uint8_t three_numbers[] = {OBSCURLANE_NO_KIND, OBSCURLANE_NO_KIND, OBSCURLANE_UNFINISHED};
+static const uint8_t three_numbers[] = {OBSCURLANE_UNKNOWN_KIND, OBSCURLANE_UNKNOWN_KIND, OBSCURLANE_UNFINISHED};
 
 /* What stands in a lent output, or in a number, before a call. */
 #define UNTOUCHED 0xA5

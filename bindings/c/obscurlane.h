@@ -56,9 +56,9 @@ enum {
     OBSCURLANE_TOO_LONG = 1,
     /* What stands before the first mark is no kind that this call reads, or the mark is not its kind's, or there is none.
      * Building: the kind name is not in the table. */
-    OBSCURLANE_NO_KIND = 2,
+    OBSCURLANE_UNKNOWN_KIND = 2,
     /* The last four bytes are not HEX(4), or the byte before them is not the kind's mark. */
-    OBSCURLANE_NO_CHECK = 3,
+    OBSCURLANE_MISSING_CHECK = 3,
     /* The check differs. */
     OBSCURLANE_WRONG_CHECK = 4,
     /* The number of fields is wrong. Building: or the lengths do not add up to the bytes lent. */
@@ -66,17 +66,17 @@ enum {
     /* A field is not of its text type; its number comes too. */
     OBSCURLANE_WRONG_TEXT = 6,
     /* An identity field is not an accepted identity; its number comes too. */
-    OBSCURLANE_NO_IDENTITY = 7,
+    OBSCURLANE_WRONG_IDENTITY = 7,
     /* One of Issuer and Signature is empty and the other is not. */
     OBSCURLANE_UNPAIRED = 8,
     /* An identity field is of a kind not permitted there; its number comes too. */
     OBSCURLANE_WRONG_KIND = 9,
     /* The lent output is shorter than the record or text needs. */
-    OBSCURLANE_NO_ROOM = 10,
+    OBSCURLANE_SHORT_OUTPUT = 10,
     /* The last line of a file has bytes and no line feed. */
     OBSCURLANE_UNFINISHED = 11,
     /* The bytes are no key agreement text, or it has no such item; or the record has no field of that number. */
-    OBSCURLANE_NO_ITEM = 12,
+    OBSCURLANE_MISSING_ITEM = 12,
     /* Choosing: kind, Manufacturer or MID of the two Subjects differ. */
     OBSCURLANE_NOT_ALIKE = 13
 };
@@ -252,7 +252,7 @@ void obscurlane_part(uint8_t mark, const uint8_t *s, size_t s_len, size_t n, siz
  * fewer. */
 void obscurlane_body_of(const uint8_t *s, size_t s_len, size_t *start, size_t *len);
 
-/* The check at the end. Answers OBSCURLANE_NO_CHECK where the last four bytes are not HEX(4) or the byte before them is not
+/* The check at the end. Answers OBSCURLANE_MISSING_CHECK where the last four bytes are not HEX(4) or the byte before them is not
  * the mark, OBSCURLANE_WRONG_CHECK where the check differs, else 0. */
 uint8_t obscurlane_check_no(uint8_t mark, const uint8_t *s, size_t s_len);
 
@@ -270,12 +270,12 @@ uint8_t obscurlane_read_identity(const uint8_t *identity, size_t identity_len, u
 uint8_t obscurlane_read_record(const uint8_t *record, size_t record_len, uint8_t *field, size_t *kind);
 
 /* The same, where only the kinds from row `from` to before row `to` are read, and no identities in any case. Answers
- * OBSCURLANE_NO_KIND for a record of another kind. */
+ * OBSCURLANE_UNKNOWN_KIND for a record of another kind. */
 uint8_t obscurlane_read_of(size_t from, size_t to, const uint8_t *record, size_t record_len, uint8_t *field,
                            size_t *kind);
 
 /* One field by the code of its type; a number that is no code is taken for IDENT's. Answers 0, OBSCURLANE_WRONG_TEXT, or of
- * an identity OBSCURLANE_NO_IDENTITY or OBSCURLANE_WRONG_KIND. */
+ * an identity OBSCURLANE_WRONG_IDENTITY or OBSCURLANE_WRONG_KIND. */
 uint8_t obscurlane_field_no(uint8_t code, const uint8_t *field, size_t field_len);
 
 /* The fields together: OBSCURLANE_UNPAIRED for a public key's row where one of the two is empty and the other is not, else
@@ -286,7 +286,7 @@ uint8_t obscurlane_whole_no(size_t row, const uint8_t *issuer, size_t issuer_len
 /* ---- one field of what is read */
 
 /*
- * Where field `wanted` of an identity stands. Answers what obscurlane_read_identity answers, and OBSCURLANE_NO_ITEM for an
+ * Where field `wanted` of an identity stands. Answers what obscurlane_read_identity answers, and OBSCURLANE_MISSING_ITEM for an
  * accepted identity that has no such field.
  *
  * field       is given the number of the field that the refusal is about, 0 where it is about none
@@ -334,7 +334,7 @@ uint8_t obscurlane_refuse(uint8_t no, uint8_t at, uint8_t *field, size_t *len);
 
 /*
  * Writes SharedInfo from the front of `out`: "STS.KAA.1", ID_SM, ID_KMC, TVP. Answers what obscurlane_read_record answers,
- * OBSCURLANE_NO_KIND for a record of another kind, and OBSCURLANE_NO_ROOM after every other number.
+ * OBSCURLANE_UNKNOWN_KIND for a record of another kind, and OBSCURLANE_SHORT_OUTPUT after every other number.
  *
  * out    is given the text; with a refusal it is as it was, every byte
  * field  is given the number of the request's field that the refusal is about, 0 where it is about none
@@ -355,7 +355,7 @@ uint8_t obscurlane_centre_text(const uint8_t *request, size_t request_len, uint8
 
 /*
  * Where item `wanted` of a key agreement text stands; the text may be any list of items and has no limit of length.
- * Answers 0, or OBSCURLANE_NO_ITEM where the bytes are no such text or have no such item.
+ * Answers 0, or OBSCURLANE_MISSING_ITEM where the bytes are no such text or have no such item.
  *
  * start, len  are given the place: the item is the bytes text[start] to before text[start + len];
  *             both are 0 with a refusal
@@ -396,7 +396,7 @@ void obscurlane_count(const uint8_t *file, size_t file_len, size_t *lines, size_
 
 /*
  * Which of two records of kind ECDSA or ECDH has the Subject with the later GNT, the first when equal. Answers what
- * obscurlane_read_record answers to the first, then to the second, OBSCURLANE_NO_KIND for a record of another kind, then
+ * obscurlane_read_record answers to the first, then to the second, OBSCURLANE_UNKNOWN_KIND for a record of another kind, then
  * OBSCURLANE_NOT_ALIKE.
  *
  * field  is given the number of the field that the refusal is about, 0 where it is about none
@@ -409,7 +409,7 @@ uint8_t obscurlane_newer(const uint8_t *first, size_t first_len, const uint8_t *
 
 /*
  * Writes number, start, size and no in decimal, with single spaces and a line feed, from the front of `out`. Answers 0 or
- * OBSCURLANE_NO_ROOM. out and len are as in obscurlane_build; field is given 0.
+ * OBSCURLANE_SHORT_OUTPUT. out and len are as in obscurlane_build; field is given 0.
  */
 uint8_t obscurlane_line_text(size_t number, size_t start, size_t size, uint8_t no, uint8_t *out, size_t out_len,
                              uint8_t *field, size_t *len);

@@ -147,8 +147,8 @@ static void checks(void)
     EXPECT(start == 0 && len == 0);
     EXPECT(obscurlane_check_no(':', BYTES(WORKED_ID_SM)) == OBSCURLANE_ACCEPTED);
     EXPECT(obscurlane_check_no('|', BYTES(WORKED_REQUEST)) == OBSCURLANE_ACCEPTED);
-    EXPECT(obscurlane_check_no('|', BYTES(WORKED_ID_SM)) == OBSCURLANE_NO_CHECK);
-    EXPECT(obscurlane_check_no('|', BYTES("A|8eff")) == OBSCURLANE_NO_CHECK);
+    EXPECT(obscurlane_check_no('|', BYTES(WORKED_ID_SM)) == OBSCURLANE_MISSING_CHECK);
+    EXPECT(obscurlane_check_no('|', BYTES("A|8eff")) == OBSCURLANE_MISSING_CHECK);
     EXPECT(obscurlane_check_no('|', BYTES("A|8EFF")) == OBSCURLANE_WRONG_CHECK);
 }
 
@@ -158,14 +158,14 @@ static void reading_by_rows(void)
     size_t kind = UNTOUCHED, start = UNTOUCHED, len = UNTOUCHED;
     EXPECT(obscurlane_read_of(5, 6, BYTES(WORKED_REQUEST), &field, &kind) == OBSCURLANE_ACCEPTED);
     EXPECT(field == 0 && kind == OBSCURLANE_KIND_REQ);
-    EXPECT(obscurlane_read_of(3, 5, BYTES(WORKED_REQUEST), &field, &kind) == OBSCURLANE_NO_KIND);
+    EXPECT(obscurlane_read_of(3, 5, BYTES(WORKED_REQUEST), &field, &kind) == OBSCURLANE_UNKNOWN_KIND);
     EXPECT(field == 0 && kind == OBSCURLANE_KIND_NONE);
-    EXPECT(obscurlane_read_of(0, SIZE_MAX, BYTES(WORKED_ID_SM), &field, &kind) == OBSCURLANE_NO_KIND);
+    EXPECT(obscurlane_read_of(0, SIZE_MAX, BYTES(WORKED_ID_SM), &field, &kind) == OBSCURLANE_UNKNOWN_KIND);
     EXPECT(obscurlane_field_of(5, 6, BYTES(WORKED_REQUEST), 5, &field, &start, &len) == OBSCURLANE_ACCEPTED);
     EXPECT(field == 0 && len == 8 && memcmp(&WORKED_REQUEST[start], "STS6-001", 8) == 0);
-    EXPECT(obscurlane_field_of(3, 5, BYTES(WORKED_REQUEST), 5, &field, &start, &len) == OBSCURLANE_NO_KIND);
+    EXPECT(obscurlane_field_of(3, 5, BYTES(WORKED_REQUEST), 5, &field, &start, &len) == OBSCURLANE_UNKNOWN_KIND);
     EXPECT(field == 0 && start == 0 && len == 0);
-    EXPECT(obscurlane_field_of(5, 6, BYTES(WORKED_REQUEST), 8, &field, &start, &len) == OBSCURLANE_NO_ITEM);
+    EXPECT(obscurlane_field_of(5, 6, BYTES(WORKED_REQUEST), 8, &field, &start, &len) == OBSCURLANE_MISSING_ITEM);
     EXPECT(field == 0 && start == 0 && len == 0);
 }
 
@@ -175,7 +175,7 @@ static void reading_by_codes(void)
     EXPECT(obscurlane_field_no(OBSCURLANE_TYPE_IDENT, BYTES("_")) == OBSCURLANE_WRONG_TEXT);
     EXPECT(obscurlane_field_no(UINT8_MAX, BYTES("Prism")) == OBSCURLANE_ACCEPTED);
     EXPECT(obscurlane_field_no(OBSCURLANE_TYPE_ID_SMID, BYTES(WORKED_ID_SM)) == OBSCURLANE_ACCEPTED);
-    EXPECT(obscurlane_field_no(OBSCURLANE_TYPE_ID_SMID, BYTES("Prism")) == OBSCURLANE_NO_IDENTITY);
+    EXPECT(obscurlane_field_no(OBSCURLANE_TYPE_ID_SMID, BYTES("Prism")) == OBSCURLANE_WRONG_IDENTITY);
     EXPECT(obscurlane_field_no(OBSCURLANE_TYPE_ID_KMCID, BYTES(WORKED_ID_SM)) == OBSCURLANE_WRONG_KIND);
     EXPECT(obscurlane_field_no(OBSCURLANE_TYPE_SIG_OR_EMPTY, BYTES("")) == OBSCURLANE_ACCEPTED);
     EXPECT(obscurlane_whole_no(OBSCURLANE_KIND_ECDH, BYTES(""), BYTES("")) == OBSCURLANE_ACCEPTED);

@@ -114,7 +114,7 @@ pub fn body_of(s: &[u8]) -> &[u8] {
 /// ```
 /// use obscurlane::{frame::check_no, Reason};
 ///
-/// assert_eq!(check_no(b'|', b"A|").unwrap_err().reason, Reason::NoCheck);
+/// assert_eq!(check_no(b'|', b"A|").unwrap_err().reason, Reason::MissingCheck);
 /// assert_eq!(check_no(b'|', b"A|8EFF").unwrap_err().reason, Reason::WrongCheck);
 /// ```
 ///

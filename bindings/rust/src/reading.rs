@@ -65,7 +65,7 @@ pub fn read_record(record: &[u8]) -> Result<Kind, Refusal> {
 /// let rows = Kind::Request.row()..Kind::Response.row() + 1;
 /// assert_eq!(read_of(rows, response), Ok(Kind::Response));
 /// let keys = Kind::Ecdsa.row()..Kind::Request.row();
-/// assert_eq!(read_of(keys, response).unwrap_err().reason, Reason::NoKind);
+/// assert_eq!(read_of(keys, response).unwrap_err().reason, Reason::UnknownKind);
 /// ```
 ///
 /// # Errors
@@ -85,7 +85,7 @@ pub fn read_of(rows: Range<usize>, record: &[u8]) -> Result<Kind, Refusal> {
 ///
 /// assert_eq!(field_no(FieldType::Ident.code(), b"Prism"), Ok(()));
 /// assert_eq!(field_no(FieldType::Print.code(), b"Prism").unwrap_err().reason, Reason::WrongText);
-/// assert_eq!(field_no(FieldType::IdSmid.code(), b"Prism").unwrap_err().reason, Reason::NoIdentity);
+/// assert_eq!(field_no(FieldType::IdSmid.code(), b"Prism").unwrap_err().reason, Reason::WrongIdentity);
 /// ```
 ///
 /// # Errors

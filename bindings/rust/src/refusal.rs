@@ -12,9 +12,9 @@ pub enum Reason {
     TooLong = 1,
     /// 2: what stands before the first mark is no kind that this call reads, or the mark is not its kind's, or there is
     /// none. Building: the kind name is not in the table.
-    NoKind = 2,
+    UnknownKind = 2,
     /// 3: the last four bytes are not HEX(4), or the byte before them is not the kind's mark.
-    NoCheck = 3,
+    MissingCheck = 3,
     /// 4: the check differs.
     WrongCheck = 4,
     /// 5: the number of fields is wrong. Building: or the lengths do not add up to the bytes lent.
@@ -22,17 +22,17 @@ pub enum Reason {
     /// 6: a field is not of its text type; its number comes too.
     WrongText = 6,
     /// 7: an identity field is not an accepted identity; its number comes too.
-    NoIdentity = 7,
+    WrongIdentity = 7,
     /// 8: one of Issuer and Signature is empty and the other is not.
     Unpaired = 8,
     /// 9: an identity field is of a kind not permitted there; its number comes too.
     WrongKind = 9,
     /// 10: the lent output is shorter than the record or text needs.
-    NoRoom = 10,
+    ShortOutput = 10,
     /// 11: the last line of a file has bytes and no line feed.
     Unfinished = 11,
     /// 12: the bytes are no key agreement text, or it has no such item; or the record has no field of that number.
-    NoItem = 12,
+    MissingItem = 12,
     /// 13: choosing: kind, Manufacturer or MID of the two Subjects differ.
     NotAlike = 13,
 }
@@ -41,17 +41,17 @@ impl Reason {
     /// All reasons, in the order of their numbers.
     pub const ALL: [Reason; 13] = [
         Reason::TooLong,
-        Reason::NoKind,
-        Reason::NoCheck,
+        Reason::UnknownKind,
+        Reason::MissingCheck,
         Reason::WrongCheck,
         Reason::WrongCount,
         Reason::WrongText,
-        Reason::NoIdentity,
+        Reason::WrongIdentity,
         Reason::Unpaired,
         Reason::WrongKind,
-        Reason::NoRoom,
+        Reason::ShortOutput,
         Reason::Unfinished,
-        Reason::NoItem,
+        Reason::MissingItem,
         Reason::NotAlike,
     ];
 
@@ -73,17 +73,17 @@ impl fmt::Display for Reason {
     fn fmt(&self, f: &mut fmt::Formatter<'_>) -> fmt::Result {
         f.write_str(match self {
             Reason::TooLong => "longer than 1,024 bytes",
-            Reason::NoKind => "no kind that is read here",
-            Reason::NoCheck => "no check at the end",
+            Reason::UnknownKind => "no kind that is read here",
+            Reason::MissingCheck => "no check at the end",
             Reason::WrongCheck => "the check differs",
             Reason::WrongCount => "wrong number of fields",
             Reason::WrongText => "a field is not of its text type",
-            Reason::NoIdentity => "a field is not an accepted identity",
+            Reason::WrongIdentity => "a field is not an accepted identity",
             Reason::Unpaired => "one of Issuer and Signature is empty",
             Reason::WrongKind => "an identity of a kind not permitted there",
-            Reason::NoRoom => "the output is too short",
+            Reason::ShortOutput => "the output is too short",
             Reason::Unfinished => "the last line has no line feed",
-            Reason::NoItem => "no such item or field",
+            Reason::MissingItem => "no such item or field",
             Reason::NotAlike => "the Subjects differ",
         })
     }
@@ -95,7 +95,7 @@ impl fmt::Display for Reason {
 /// use obscurlane::{read_record, Reason};
 ///
 /// let refusal = read_record(b"PK.ECDH.1|x").unwrap_err();
-/// assert_eq!(refusal.reason, Reason::NoCheck);
+/// assert_eq!(refusal.reason, Reason::MissingCheck);
 /// assert_eq!(refusal.reason.number(), 3);
 /// assert_eq!(refusal.to_string(), "3: no check at the end");
 /// ```

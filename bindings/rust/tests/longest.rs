@@ -12,7 +12,7 @@ fn made(call: impl Fn(&mut [u8]) -> Result<&[u8], Refusal>) -> Vec<u8> {
     let made = call(&mut out).expect("ample room").to_vec();
     assert_eq!(call(&mut out[..made.len()]), Ok(&made[..]));
     let refusal = call(&mut out[..made.len() - 1]).expect_err("one byte less");
-    assert_eq!(refusal, Refusal { reason: Reason::NoRoom, field: None });
+    assert_eq!(refusal, Refusal { reason: Reason::ShortOutput, field: None });
     made
 }
 
@@ -81,7 +81,7 @@ fn bytes_that_are_read() {
     let longer = [b'A'; LONGEST_READ + 1];
     for read in [obscurlane::read_identity, obscurlane::read_record] {
         let reason = |bytes| read(bytes).expect_err("no record").reason;
-        assert_eq!(reason(&longer[1..]), Reason::NoKind);
+        assert_eq!(reason(&longer[1..]), Reason::UnknownKind);
         assert_eq!(reason(&longer), Reason::TooLong);
     }
 }

@@ -8,7 +8,7 @@ use lib.ListN.{length, getD}
 use lib.Dec.{leb}
 use Rattle.text.specs.Text.{Bytes, ascii}
 use Rattle.text.specs.Base16.{base16Decode}
-use Rattle.format.specs.Numbers.{noRoom}
+use Rattle.format.specs.Numbers.{shortOutput}
 use Rattle.format.specs.Kinds.{REQ}
 use Rattle.format.specs.Read.{Outcome, accepted, refused, readOf}
 use Rattle.items.specs.Items.{lvConcat}
@@ -50,7 +50,7 @@ centreItems fs = ascii "V2" ∷ idKmc fs ∷ idSm fs ∷ tvp fs ∷ qe fs ∷ []
 
 abbrev pub textMade : (List Bytes → List Bytes) → ℕ → Outcome → Made
 textMade items room (accepted k fs) =
-    cond (leb (length (lvConcat (items fs))) room) (made (lvConcat (items fs))) (denied noRoom 0)
+    cond (leb (length (lvConcat (items fs))) room) (made (lvConcat (items fs))) (denied shortOutput 0)
 textMade items room (refused n i) = denied n i
 
 unfoldable pub sharedInfo : Bytes → ℕ → Made

@@ -14,7 +14,7 @@ ghost use Rattle.put.specs.Made.{Writes};
 ghost use Rattle.agreement.specs.Texts.{textMade, sharedInfo, moduleText, centreText};
 ghost use Rattle.agreement.specs.Steps.{lvItem, itemFor, itemsBy, textOf, Small, Suited, Starts};
 
-const NO_ROOM: u8 = 10;
+const SHORT_OUTPUT: u8 = 10;
 
 // ---- the fields of a request by their places in the table of kinds, from 0
 
@@ -162,7 +162,7 @@ fn put_text(
     at
 }
 
-// The request's own refusal comes first, then NO_ROOM; only then is anything written.
+// The request's own refusal comes first, then SHORT_OUTPUT; only then is anything written.
 fn write_text(label: &[u8], fields: &[u8], request: &[u8], out: &mut [u8]) -> put::Written
     requires { ⌜ Small (now label) (now fields) ⌝ }
     ensures { λ r. ⌜ Writes (textMade (itemsBy (now (label .entry)) (now (fields .entry))) (length (now (out .entry))) (readOf (REQ ∷ []) (now (request .entry)))) (now (out .entry)) (now (out .exit)) r ⌝ }
@@ -173,7 +173,7 @@ fn write_text(label: &[u8], fields: &[u8], request: &[u8], out: &mut [u8]) -> pu
     }
     let starts = starts_of(request);
     if out.len() < text_length(label, fields, request, &starts) {
-        return put::refuse(NO_ROOM, 0);
+        return put::refuse(SHORT_OUTPUT, 0);
     }
     let len = put_text(out, label, fields, request, &starts);
     put::Written {

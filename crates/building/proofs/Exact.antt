@@ -11,7 +11,7 @@ use lib.Dec.{leb, eqb, eqb→eq, leb→le, le→leb}
 use mir.Facts.{and-yes, yes-and, yes-eqb}
 use Rattle.text.specs.Text.{Bytes}
 use Rattle.text.proofs.Tests.{T-true}
-use Rattle.format.specs.Numbers.{wrongCount, noRoom}
+use Rattle.format.specs.Numbers.{wrongCount, shortOutput}
 use Rattle.format.specs.Kinds.{Kind, name, fieldsOf, allKinds}
 use Rattle.format.specs.Build.{recordOf, IsIdentity, Permitted}
 use Rattle.format.specs.Read.{Outcome, accepted, answer, readIdentity}
@@ -36,7 +36,7 @@ build-says t bytes ns room =
     let total : sum ns ≡ length bytes = eqb→eq (sum ns) (length bytes) (both .1) in
     let count : length fs ≡ length (fieldsOf k) = pieces-count ns bytes ∙ eqb→eq (length ns) (length (fieldsOf k)) (both .0) in
     judged-law readIdentity IsIdentity ask-exact P (λ n i. tt) k fs _ count
-    (λ p. provided-law P (leb (length (recordOf k fs)) room) noRoom (accepted k fs) tt
+    (λ p. provided-law P (leb (length (recordOf k fs)) room) shortOutput (accepted k fs) tt
     (λ fits. record {
       named-so = named-some allKinds t k e;
       lengths-so = sym (pieces-lengths ns bytes total);

@@ -11,7 +11,7 @@ use lib.Dec.{T, leb, eqb, eqb→eq}
 use mir.Facts.{and-yes}
 use borrow.Author.Tests.{eq-eqb, ne-eqb}
 use Rattle.text.specs.Text.{Bytes}
-use Rattle.format.specs.Numbers.{noRoom}
+use Rattle.format.specs.Numbers.{shortOutput}
 use Rattle.format.specs.Kinds.{Kind, fieldsOf}
 use Rattle.format.specs.Build.{recordOf}
 use Rattle.format.specs.Read.{Outcome, accepted, provided, passing, ofKind, judged, readIdentity}
@@ -60,7 +60,7 @@ module _ (row : ℕ) (bytes : Bytes) (ns : List ℕ) where
 
 module _ (bytes : Bytes) (ns : List ℕ) (room : ℕ) where
   abbrev pub fromRoom : Kind → Outcome
-  fromRoom k = provided (leb (length (recordOf k (pieces ns bytes))) room) noRoom (accepted k (pieces ns bytes))
+  fromRoom k = provided (leb (length (recordOf k (pieces ns bytes))) room) shortOutput (accepted k (pieces ns bytes))
 
   abbrev pub fromFields : Kind → Outcome
   fromFields k = judged readIdentity k (pieces ns bytes) (fromRoom k)

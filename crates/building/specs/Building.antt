@@ -8,7 +8,7 @@ use mathlib.Core.List.{List, [], _∷_, _++_}
 use lib.ListN.{length, take, drop}
 use lib.Dec.{leb, eqb}
 use Rattle.text.specs.Text.{Bytes}
-use Rattle.format.specs.Numbers.{wrongCount, noRoom}
+use Rattle.format.specs.Numbers.{wrongCount, shortOutput}
 use Rattle.format.specs.Kinds.{Kind, name, fieldsOf, allKinds}
 use Rattle.format.specs.Build.{recordOf, Permitted}
 use Rattle.format.specs.Read.{Outcome, accepted, refused, provided, ofKind, judged, readIdentity}
@@ -42,7 +42,7 @@ unfoldable pub buildAs : Bytes → List ℕ → ℕ → Kind → Outcome
 buildAs bytes ns room k =
     provided (eqb (length ns) (length (fieldsOf k)) && eqb (sum ns) (length bytes)) wrongCount
     (judged readIdentity k (pieces ns bytes)
-    (provided (leb (length (recordOf k (pieces ns bytes))) room) noRoom
+    (provided (leb (length (recordOf k (pieces ns bytes))) room) shortOutput
     (accepted k (pieces ns bytes))))
 
 -- the kind name t, the bytes of the fields, their lengths, and the length of the lent output

@@ -15,7 +15,7 @@ ghost use Rattle.put.specs.Made.{Writes};
 ghost use Rattle.building.specs.Building.{sum, pieces, build};
 ghost use Rattle.building.specs.Steps.{formNo};
 
-const NO_ROOM: u8 = 10;
+const SHORT_OUTPUT: u8 = 10;
 
 const CHECK_LENGTH: usize = 4;
 
@@ -52,7 +52,7 @@ fn form_no(row: usize, bytes: &[u8], lens: &[usize]) -> u8
     ensures { λ r. ⌜ r ≡ formNo row (now (bytes .entry)) (now (lens .entry)) ⌝ }
 {
     if row == table::NONE {
-        return reading::NO_KIND;
+        return reading::UNKNOWN_KIND;
     }
     if lens.len() != table::count_of(row) {
         return reading::WRONG_COUNT;
@@ -156,7 +156,7 @@ pub fn build(kind: &[u8], bytes: &[u8], lens: &[usize], out: &mut [u8]) -> put::
         return put::refuse(whole, 0);
     }
     if out.len() < kind.len() + 1 + bytes.len() + lens.len() + CHECK_LENGTH {
-        return put::refuse(NO_ROOM, 0);
+        return put::refuse(SHORT_OUTPUT, 0);
     }
     let len = put_record(out, kind, table::mark_of(row), bytes, lens);
     put::Written {

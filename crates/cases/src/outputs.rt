@@ -25,9 +25,9 @@ pub(crate) fn write(op: u8, a: &[u8], c: &[u8], out: &mut [u8]) -> u8 {
     if op == 54 {
         let len = input::number(c, 16) as usize;
         let no = (input::number(c, 24) % 256) as u8;
-        let line = listing::line_text(first, second, len, no, out);
+        let line = list_text::line_text(first, second, len, no, out);
         return calls::print_text(line, out);
     }
-    let end = listing::end_text(first, second, out);
+    let end = list_text::end_text(first, second, out);
     calls::print_text(end, out)
 }

@@ -91,7 +91,7 @@ fn walk(file: &[u8]) -> u8 {
 // The list, on lines of its own, and how many lines were printed.
 pub(crate) fn list(file: &[u8]) -> u8 {
     say::line_feed();
-    let lines = printing::print_list(file);
+    let lines = list_printing::print_list(file);
     say::text(b"printed");
     say::then(lines);
     say::line_feed();

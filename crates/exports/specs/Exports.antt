@@ -3,7 +3,7 @@
 -- Assumes nothing.
 use Prim.Native.Nat.{ℕ}
 use mathlib.Core.Bool.{true, false}
-use Rattle.table.specs.Table.{noRow}
+use Rattle.table.specs.Table.{missingRow}
 use Rattle.reading.specs.declared.Answer.{Answer}
 use Rattle.fields.specs.declared.Place as fields
 use Rattle.put.specs.declared.Written.{Written}
@@ -34,5 +34,5 @@ choice n f which = record { no = n; field = f; which = which }
 
 -- a line with its numbers and places; a finished file has none of the numbers, no kind, and document 01's values for the rest
 abbrev pub found : Line → Found
-found (Finished place) = record { line = false; no = 0; field = 0; kind = noRow; start = place; len = 0; next = place }
+found (Finished place) = record { line = false; no = 0; field = 0; kind = missingRow; start = place; len = 0; next = place }
 found (Read n f k start len next) = record { line = true; no = n; field = f; kind = k; start = start; len = len; next = next }

@@ -2,8 +2,8 @@
 ghost use mathlib.Core.Path.{_≡_};
 ghost use lib.ListN.{length};
 ghost use Rattle.put.specs.Made.{Writes};
-ghost use Rattle.listing.specs.Listing.{lineText, endText, listed};
-ghost use Rattle.printing.specs.Printing.{printList};
+ghost use Rattle.list_text.specs.Listing.{lineText, endText, listed};
+ghost use Rattle.list_printing.specs.Printing.{printList};
 ghost use Rattle.exports.specs.Exports.{written};
 
 // A line: its number from 1, its start, its length without line feed, and its answer's number.
@@ -19,7 +19,7 @@ pub extern "C" fn obscurlane_line_text(
 ) -> u8
     ensures { λ r. ⌜ Writes (listed (lineText number start size no) (length (now (out .entry)))) (now (out .entry)) (now (out .exit)) (written r (now (field .exit)) (now (len .exit))) ⌝ }
 {
-    let line = listing::line_text(number, start, size, no, out);
+    let line = list_text::line_text(number, start, size, no, out);
     *field = line.field;
     *len = line.len;
     line.no
@@ -36,7 +36,7 @@ pub extern "C" fn obscurlane_end_text(
 ) -> u8
     ensures { λ r. ⌜ Writes (listed (endText lines accepted) (length (now (out .entry)))) (now (out .entry)) (now (out .exit)) (written r (now (field .exit)) (now (len .exit))) ⌝ }
 {
-    let end = listing::end_text(lines, accepted, out);
+    let end = list_text::end_text(lines, accepted, out);
     *field = end.field;
     *len = end.len;
     end.no
@@ -47,5 +47,5 @@ pub extern "C" fn obscurlane_end_text(
 pub extern "C" fn obscurlane_print_list(file: &[u8]) -> usize
     ensures { λ r. ⌜ r ≡ printList (now (file .entry)) ⌝ }
 {
-    printing::print_list(file)
+    list_printing::print_list(file)
 }

@@ -7,7 +7,7 @@ use mathlib.Core.Bool.{cond}
 use mathlib.Core.List.{[], _∷_}
 use lib.ListN.{length, take, drop, getD}
 use Rattle.text.specs.Text.{Bytes, between}
-use Rattle.format.specs.Numbers.{noItem}
+use Rattle.format.specs.Numbers.{missingItem}
 use Rattle.format.specs.Kinds.{name, mark}
 use Rattle.format.specs.Build.{joined}
 use Rattle.format.specs.Read.{Outcome, accepted, refused, place}
@@ -20,7 +20,7 @@ wantedPart (refused n i) wanted = []
 
 -- after every other number, 12 for a field that the kind hasn't
 unfoldable pub wantedNo : Outcome → ℕ → ℕ
-wantedNo (accepted k fs) wanted = cond (between 1 (length fs) wanted) 0 noItem
+wantedNo (accepted k fs) wanted = cond (between 1 (length fs) wanted) 0 missingItem
 wantedNo (refused n i) wanted = n
 
 -- what such a call says where reading says o

@@ -10,7 +10,7 @@ ghost use Rattle.reading.specs.Reading.{answerOf};
 ghost use Rattle.fields.specs.Fields.{wantedNo, FieldSaid, Placed};
 ghost use Rattle.fields.specs.Steps.{Reads, Handed};
 
-const NO_ITEM: u8 = 12;
+const MISSING_ITEM: u8 = 12;
 
 // Where a field stands in the caller's bytes: its start and its length, both 0 with a refusal.
 pub struct Place {
@@ -28,10 +28,10 @@ fn wanted_no(answer: reading::Answer, wanted: usize) -> u8
         return answer.no;
     }
     if wanted == 0 {
-        return NO_ITEM;
+        return MISSING_ITEM;
     }
     if table::count_of(answer.kind) < wanted {
-        return NO_ITEM;
+        return MISSING_ITEM;
     }
     reading::ACCEPTED
 }

@@ -18,7 +18,7 @@ use Rattle.text.specs.Base16.{checkText}
 use Rattle.text.proofs.Tests.{T-true, same→eq, same-refl}
 use Rattle.text.proofs.Types.{hex-length, timestamp-length, point-hex}
 use Rattle.text.proofs.Hexadecimal.{check-hex}
-use Rattle.format.specs.Numbers.{tooLong, noCheck, wrongCheck, wrongCount}
+use Rattle.format.specs.Numbers.{tooLong, missingCheck, wrongCheck, wrongCount}
 use Rattle.format.specs.Kinds.{Kind, Field, name, mark, fieldsOf, identityFields, identityKinds, recordKinds, pubkeyKinds, among}
 use Rattle.format.specs.Build.{WithoutAll, recordOf, empty, Fits, FitAll, PermittedOver, BuiltOver, IsIdentity, Permitted, Built}
 use Rattle.format.specs.Read.{Outcome, accepted, answer, title, markAfter, kindIn, body, check, lastOr, cut, fieldsIn, judged, readAs, readOver, nobody, readIdentity, readOf, readRecord}
@@ -39,7 +39,7 @@ module _ (ask : Bytes → Outcome) (I : Kind → Bytes → Type 0) (x : Exact as
       (λ k e.
       let fs : List Bytes = fieldsIn k s in
       let known = kindIn-some ks (title s) (markAfter s) k e in
-      provided-law P (isHex 4 (check s) && eqb (lastOr 0 (body s)) (mark k)) noCheck _ tt
+      provided-law P (isHex 4 (check s) && eqb (lastOr 0 (body s)) (mark k)) missingCheck _ tt
       (λ ends. provided-law P (same (check s) (checkText (crcOf (body s)))) wrongCheck _ tt
       (λ right. provided-law P (eqb (length fs) (length (fieldsOf k))) wrongCount _ tt
       (λ count. judged-law ask I x P (λ n i. tt) k fs (accepted k fs) (eqb→eq (length fs) (length (fieldsOf k)) count)
@@ -84,18 +84,18 @@ module _ (ask : Bytes → Outcome) (I : Kind → Bytes → Type 0) (x : Exact as
 
 -- ---- the identity call, which asks nobody
 
-abbrev NoIdentity : Kind → Bytes → Type 0
-NoIdentity k f = ⊥
+abbrev NeverIdentity : Kind → Bytes → Type 0
+NeverIdentity k f = ⊥
 
-no-exact : Exact nobody NoIdentity
-no-exact = record { sound = λ k fs f e. never e; complete = λ k f i. absurd i }
+never-exact : Exact nobody NeverIdentity
+never-exact = record { sound = λ k fs f e. never e; complete = λ k f i. absurd i }
 
-no-tame : Tame NoIdentity
-no-tame m u k f i = absurd i
+never-tame : Tame NeverIdentity
+never-tame m u k f i = absurd i
 
-identity-over : (s : Bytes) (k : Kind) (fs : List Bytes) → (readIdentity s ≡ accepted k fs) ↔ BuiltOver NoIdentity identityKinds s k fs
+identity-over : (s : Bytes) (k : Kind) (fs : List Bytes) → (readIdentity s ≡ accepted k fs) ↔ BuiltOver NeverIdentity identityKinds s k fs
 unfolding readIdentity
-identity-over s k fs = over-exact nobody NoIdentity no-exact no-tame identityKinds s k fs
+identity-over s k fs = over-exact nobody NeverIdentity never-exact never-tame identityKinds s k fs
 
 pub ask-sound : (k : Kind) (fs : List Bytes) (f : Bytes) → readIdentity f ≡ accepted k fs → IsIdentity k f
 unfolding IsIdentity
@@ -126,12 +126,12 @@ built-over I J s k fs b =
 
 pub identity-says : (s : Bytes) → Honest (Built identityKinds s) (readIdentity s)
 unfolding readIdentity
-identity-says s = honest-map (built-over NoIdentity IsIdentity s) (readIdentity s) (over-says nobody NoIdentity no-exact identityKinds s)
+identity-says s = honest-map (built-over NeverIdentity IsIdentity s) (readIdentity s) (over-says nobody NeverIdentity never-exact identityKinds s)
 
 pub identity-exact : (s : Bytes) (k : Kind) (fs : List Bytes) → (readIdentity s ≡ accepted k fs) ↔ Built identityKinds s k fs
 identity-exact s k fs = (
-  λ e. built-over NoIdentity IsIdentity s k fs (identity-over s k fs .0 e),
-  λ b. identity-over s k fs .1 (built-over IsIdentity NoIdentity s k fs b),
+  λ e. built-over NeverIdentity IsIdentity s k fs (identity-over s k fs .0 e),
+  λ b. identity-over s k fs .1 (built-over IsIdentity NeverIdentity s k fs b),
 )
 
 -- ---- the calls that read records
@@ -142,8 +142,8 @@ identity-tame m u k f (fs, b) =
     let fit = b .permitted .fit in
     let row = identity-row k (b .of-kind) in
     let u′ = and-yes (not (identCharacter m)) (not (eqb (code ":") m)) u in
-    let clean = fields-held NoIdentity no-tame m (fieldsOf k) fs (rw (row .1, T-true (not (identCharacter m)) (u′ .0)) tt) fit .0 in
-    let short = record-held NoIdentity no-tame k fs fit .1 in
+    let clean = fields-held NeverIdentity never-tame m (fieldsOf k) fs (rw (row .1, T-true (not (identCharacter m)) (u′ .0)) tt) fit .0 in
+    let short = record-held NeverIdentity never-tame k fs fit .1 in
     rw (b .built) (record-without m (u′ .0) k fs (rw (row .0) (u′ .1)) clean, omega arith)
 
 -- whatever kinds it reads: the fields of an identity are texts

@@ -13,7 +13,7 @@ use mir.Facts.{and-yes}
 use Rattle.text.specs.Text.{Bytes, Ident, without, allOf, isOf, shortest, longest}
 use Rattle.text.proofs.Tests.{by-test, cond-yes, cond-no, between-high}
 use Rattle.text.proofs.Types.{plain, plain-without, lengths}
-use Rattle.format.specs.Numbers.{wrongText, noIdentity, wrongKind, unpaired}
+use Rattle.format.specs.Numbers.{wrongText, wrongIdentity, wrongKind, unpaired}
 use Rattle.format.specs.Kinds.{Kind, Field, Text, Identity, OrEmpty, name, mark, fieldsOf, among}
 use Rattle.format.specs.Build.{joined, WithoutAll, recordOf, empty, Fits, FitAll, paired, PermittedOver}
 use Rattle.format.specs.Read.{Outcome, accepted, refused, passing, identityAnswer, fieldAnswer, each, wholeAnswer, judged}
@@ -58,7 +58,7 @@ module _ (ask : Bytes → Outcome) (I : Kind → Bytes → Type 0) (x : Exact as
     where
       go : (o : Outcome) → ask f ≡ o → (k : Kind) × T (among k ks) × I k f
       go (accepted k fs) h = (k, zero-yes (among k ks) _ (rw h at e), x .sound k fs f h)
-      go (refused n i) h = absurd (let z : noIdentity ≡ 0 = rw h at e in omega arith)
+      go (refused n i) h = absurd (let z : wrongIdentity ≡ 0 = rw h at e in omega arith)
   field-fits (OrEmpty t) f e =
       by-test (empty f) (λ h. inl h) (λ h. inr (field-fits t f (sym (cond-no (empty f) 0 (fieldAnswer ask t f) h) ∙ e)))
 

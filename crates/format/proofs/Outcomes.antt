@@ -9,7 +9,7 @@ use mathlib.Core.List.{List}
 use native.Mathlib.Omega.{arith}
 use lib.Dec.{T}
 use Rattle.text.specs.Text.{Bytes}
-use Rattle.format.specs.Numbers.{noKind}
+use Rattle.format.specs.Numbers.{unknownKind}
 use Rattle.format.specs.Kinds.{Kind}
 use Rattle.format.specs.Read.{Outcome, accepted, refused, answer, provided, passing, ofKind}
 
@@ -27,7 +27,7 @@ module _ (S : Outcome → Type 0) where
   passing-law zero i o r f = f refl
   passing-law (suc n) i o r f = r n
 
-  pub ofKind-law : (k : Option Kind) (o : Kind → Outcome) → S (refused noKind 0) → ((j : Kind) → k ≡ some j → S (o j)) → S (ofKind k o)
+  pub ofKind-law : (k : Option Kind) (o : Kind → Outcome) → S (refused unknownKind 0) → ((j : Kind) → k ≡ some j → S (o j)) → S (ofKind k o)
   ofKind-law none o r f = r
   ofKind-law (some j) o r f = f j refl
 

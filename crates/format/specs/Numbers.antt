@@ -5,11 +5,11 @@ use Prim.Native.Nat.{ℕ}
 abbrev pub tooLong : ℕ
 tooLong = 1
 
-abbrev pub noKind : ℕ
-noKind = 2
+abbrev pub unknownKind : ℕ
+unknownKind = 2
 
-abbrev pub noCheck : ℕ
-noCheck = 3
+abbrev pub missingCheck : ℕ
+missingCheck = 3
 
 abbrev pub wrongCheck : ℕ
 wrongCheck = 4
@@ -20,8 +20,8 @@ wrongCount = 5
 abbrev pub wrongText : ℕ
 wrongText = 6
 
-abbrev pub noIdentity : ℕ
-noIdentity = 7
+abbrev pub wrongIdentity : ℕ
+wrongIdentity = 7
 
 abbrev pub unpaired : ℕ
 unpaired = 8
@@ -29,14 +29,14 @@ unpaired = 8
 abbrev pub wrongKind : ℕ
 wrongKind = 9
 
-abbrev pub noRoom : ℕ
-noRoom = 10
+abbrev pub shortOutput : ℕ
+shortOutput = 10
 
 abbrev pub unfinished : ℕ
 unfinished = 11
 
-abbrev pub noItem : ℕ
-noItem = 12
+abbrev pub missingItem : ℕ
+missingItem = 12
 
 abbrev pub notAlike : ℕ
 notAlike = 13

@@ -11,7 +11,7 @@ use lib.Dec.{leb, eqb}
 use Rattle.crc16.specs.Crc.{crcOf}
 use Rattle.text.specs.Text.{Bytes, same, oneOf, ascii, isHex, isOf}
 use Rattle.text.specs.Base16.{checkText}
-use Rattle.format.specs.Numbers.{tooLong, noKind, noCheck, wrongCheck, wrongCount, wrongText, noIdentity, unpaired, wrongKind}
+use Rattle.format.specs.Numbers.{tooLong, unknownKind, missingCheck, wrongCheck, wrongCount, wrongText, wrongIdentity, unpaired, wrongKind}
 use Rattle.format.specs.Kinds.{Kind, Field, Text, Identity, OrEmpty, name, mark, fieldsOf, identityKinds, recordKinds, among}
 use Rattle.format.specs.Build.{empty, paired}
 
@@ -60,7 +60,7 @@ kindIn [] t m = none
 kindIn (k ∷ ks) t m = cond (same t (name k) && eqb m (mark k)) (some k) (kindIn ks t m)
 
 abbrev pub ofKind : Option Kind → (Kind → Outcome) → Outcome
-ofKind none r = refused noKind 0
+ofKind none r = refused unknownKind 0
 ofKind (some k) r = r k
 
 -- ---- numbers 3, 4 and 5: the check and the fields
@@ -94,7 +94,7 @@ fieldsIn k s = drop 1 (cut (mark k) (body s))
 
 -- an identity to which the identity call says o, where the kinds ks are permitted
 unfoldable pub identityAnswer : List Kind → Outcome → ℕ
-identityAnswer ks (refused n i) = noIdentity
+identityAnswer ks (refused n i) = wrongIdentity
 identityAnswer ks (accepted k fs) = cond (among k ks) 0 wrongKind
 
 -- what a field is answered, 0 if nothing is wrong; `ask` is the identity call
@@ -122,7 +122,7 @@ judged ask k fs o = each ask 1 (fieldsOf k) fs (passing (wholeAnswer k fs) 0 o)
 -- s, which begins with the name and the mark of the kind k
 unfoldable pub readAs : (Bytes → Outcome) → Bytes → Kind → Outcome
 readAs ask s k =
-    provided (isHex 4 (check s) && eqb (lastOr 0 (body s)) (mark k)) noCheck
+    provided (isHex 4 (check s) && eqb (lastOr 0 (body s)) (mark k)) missingCheck
     (provided (same (check s) (checkText (crcOf (body s)))) wrongCheck
     (provided (eqb (length (fieldsIn k s)) (length (fieldsOf k))) wrongCount
     (judged ask k (fieldsIn k s)
@@ -136,7 +136,7 @@ readOver ask ks s =
 
 -- whom the identity call asks: an identity has no identity in it
 abbrev pub nobody : Bytes → Outcome
-nobody f = refused noKind 0
+nobody f = refused unknownKind 0
 
 -- the identity call
 unfoldable pub readIdentity : Bytes → Outcome

@@ -3,7 +3,7 @@ ghost use mathlib.Core.Path.{_≡_};
 ghost use Rattle.items.specs.Items.{textItem, Handed};
 ghost use Rattle.items.specs.Place.{nowhere, Placed};
 
-const NO_ITEM: u8 = 12;
+const MISSING_ITEM: u8 = 12;
 
 // Where an item stands in its text: number 0, its start and its length. With number 12: nowhere, both 0.
 pub struct Place {
@@ -16,7 +16,7 @@ fn missing() -> Place
     ensures { λ r. ⌜ r ≡ nowhere ⌝ }
 {
     Place {
-        no: NO_ITEM,
+        no: MISSING_ITEM,
         start: 0,
         len: 0,
     }

@@ -3,7 +3,7 @@ use libc::STDIN_FILENO;
 
 // One byte more than is taken is asked for, which tells a file that is too big.
 fn main() {
-    let mut data = [0u8; printing::MOST + 1];
+    let mut data = [0u8; list_printing::MOST + 1];
     let n = io::read_full(STDIN_FILENO, &mut data);
-    printing::print_list(&data[..n]);
+    list_printing::print_list(&data[..n]);
 }

@@ -10,7 +10,7 @@ use lib.ListN.{length}
 use lib.Dec.{leb, leb→le, le→leb}
 use Rattle.text.specs.Text.{Bytes}
 use Rattle.text.proofs.Tests.{by-test, cond-yes, cond-no}
-use Rattle.format.specs.Numbers.{noRoom}
+use Rattle.format.specs.Numbers.{shortOutput}
 use Rattle.format.specs.Kinds.{Kind, REQ}
 use Rattle.format.specs.Build.{Built}
 use Rattle.format.specs.Read.{Outcome, accepted, refused, answer, readOf}
@@ -41,16 +41,16 @@ module _ (items : List Bytes → List Bytes) (room : ℕ) where
   made-zero (accepted k fs) h z =
       by-test (leb (length (lvConcat (items fs))) room)
       (λ t. record { fs = fs; k = k; is-accepted = refl; room-so = leb→le (length (lvConcat (items fs))) room t })
-      (λ t. absurd (omega (arith, sym (ap (λ (m : Made). says m .no) (cond-no (leb (length (lvConcat (items fs))) room) (made (lvConcat (items fs))) (denied noRoom 0) t)) ∙ z)))
+      (λ t. absurd (omega (arith, sym (ap (λ (m : Made). says m .no) (cond-no (leb (length (lvConcat (items fs))) room) (made (lvConcat (items fs))) (denied shortOutput 0) t)) ∙ z)))
   made-zero (refused n i) h z = let (k, fs, e) = h z in absurd (let o : _≡_ {A = ℕ} 0 1 = cc in omega arith)
 
   made-kept : (o : Outcome) (out : Bytes) → says (textMade items room o) .no ≢ 0
       → (says (textMade items room o) .len ≡ 0) × (leaves (textMade items room o) out ≡ out)
   made-kept (accepted k fs) out n =
       by-test (leb (length (lvConcat (items fs))) room)
-      (λ t. absurd (n (ap (λ (m : Made). says m .no) (cond-yes (leb (length (lvConcat (items fs))) room) (made (lvConcat (items fs))) (denied noRoom 0) t))))
+      (λ t. absurd (n (ap (λ (m : Made). says m .no) (cond-yes (leb (length (lvConcat (items fs))) room) (made (lvConcat (items fs))) (denied shortOutput 0) t))))
       (λ t.
-      let e = cond-no (leb (length (lvConcat (items fs))) room) (made (lvConcat (items fs))) (denied noRoom 0) t in
+      let e = cond-no (leb (length (lvConcat (items fs))) room) (made (lvConcat (items fs))) (denied shortOutput 0) t in
       (ap (λ (m : Made). says m .len) e, ap (λ (m : Made). leaves m out) e))
   made-kept (refused m i) out n = (refl, refl)
 

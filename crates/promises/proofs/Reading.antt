@@ -11,7 +11,7 @@ use lib.ListN.{length, getD, List·getD-eq-default}
 use Rattle.text.specs.Text.{Bytes, between}
 use mir.Facts.{and-no}
 use Rattle.text.proofs.Tests.{by-test, cond-yes}
-use Rattle.format.specs.Numbers.{noItem}
+use Rattle.format.specs.Numbers.{missingItem}
 use Rattle.format.specs.Kinds.{Kind, identityKinds, recordKinds}
 use Rattle.format.specs.Build.{Built}
 use Rattle.format.specs.Read.{Outcome, accepted, refused, answer}
@@ -38,7 +38,7 @@ module _ (o : Outcome) (B : Kind → List Bytes → Type 0) (exact : (k : Kind) 
   says-kind r e k fs b = ap (λ (a : Answer). a .kind) (e ∙ ap answerOf (exact k fs .1 b))
 
   hands-back : (wanted : ℕ) (part : Bytes) (no field : ℕ) → FieldSaid o wanted part no field → (k : Kind) (fs : List Bytes) → B k fs
-      → (part ≡ getD ([] ∷ fs) wanted []) × (no ≡ cond (between 1 (length fs) wanted) 0 noItem)
+      → (part ≡ getD ([] ∷ fs) wanted []) × (no ≡ cond (between 1 (length fs) wanted) 0 missingItem)
   unfolding wantedPart wantedNo
   hands-back wanted part n i p k fs b =
       let h = exact k fs .1 b in
@@ -49,7 +49,7 @@ nothing : (o : Outcome) (wanted : ℕ) (part : Bytes) (no field : ℕ) → Field
 unfolding wantedPart wantedNo
 nothing (accepted k fs) zero part m i p n = p .its-part
 nothing (accepted k fs) (suc w) part m i p n =
-    by-test (between 1 (length fs) (suc w)) (λ t. absurd (n (p .its-no ∙ cond-yes (between 1 (length fs) (suc w)) 0 noItem t)))
+    by-test (between 1 (length fs) (suc w)) (λ t. absurd (n (p .its-no ∙ cond-yes (between 1 (length fs) (suc w)) 0 missingItem t)))
     (λ t. p .its-part ∙ List·getD-eq-default fs [] (past t))
   where
     past : T (not (between 1 (length fs) (suc w))) → length fs ≤ w

@@ -62,9 +62,9 @@ use Rattle.agreement.proofs.centre_text.Reads as centre-text
 use Rattle.files.proofs.line_at.Reads as line-at
 use Rattle.files.proofs.count.Reads as count
 use Rattle.files.proofs.step_from.Reads as step-from
-use Rattle.listing.proofs.line_text.Reads as line-text
-use Rattle.listing.proofs.end_text.Reads as end-text
-use Rattle.printing.proofs.print_list.Reads as print-list
+use Rattle.list_text.proofs.line_text.Reads as line-text
+use Rattle.list_text.proofs.end_text.Reads as end-text
+use Rattle.list_printing.proofs.print_list.Reads as print-list
 use Rattle.subjects.proofs.are_alike.Reads as are-alike
 use Rattle.newer.proofs.newer_of.Reads as newer-of
 use Rattle.newer.proofs.newer.Reads as newer

@@ -12,7 +12,7 @@ use lib.ListN.{length, getD}
 use lib.Dec.{T}
 use denote.Ref.{RefT, now}
 use Rattle.text.specs.Text.{Bytes, between}
-use Rattle.format.specs.Numbers.{noItem}
+use Rattle.format.specs.Numbers.{missingItem}
 use Rattle.format.specs.Kinds.{Kind, name, identityKinds, recordKinds, pubkeyKinds, among}
 use Rattle.format.specs.Build.{recordOf, empty, Permitted, Built}
 use Rattle.table.specs.Table.{rowOf}
@@ -37,7 +37,7 @@ abbrev pub HandsBack : {K : Type 0} {A S : K → Type 0} → ((κs : K) → A κ
     → ((κs : K) → A κs → Bytes) → ((κs : K) → A κs → ℕ) → ((κs : K) → S κs → ℕ) → List Kind → Type 0
 HandsBack {K} {A} {S} Q bytes wanted number ks =
     (κs : K) (a : A κs) (part : RefT Bytes) (s : S κs) → Q κs a part s → (k : Kind) (fs : List Bytes) → Built ks (bytes κs a) k fs
-    → (now part ≡ getD ([] ∷ fs) (wanted κs a) []) × (number κs s ≡ cond (between 1 (length fs) (wanted κs a)) 0 noItem)
+    → (now part ≡ getD ([] ∷ fs) (wanted κs a) []) × (number κs s ≡ cond (between 1 (length fs) (wanted κs a)) 0 missingItem)
 
 -- demand 1: with another number than 0 the part is empty
 abbrev pub NothingRefused : {K : Type 0} {A S : K → Type 0} → ((κs : K) → A κs → RefT Bytes → S κs → Type 0) → ((κs : K) → S κs → ℕ) → Type 0

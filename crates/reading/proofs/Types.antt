@@ -18,7 +18,7 @@ use Rattle.format.proofs.Table.{identity-row}
 use Rattle.format.proofs.Outcomes.{Honest}
 use Rattle.table.specs.Table.{fieldsAt, fieldType, TypeOf, isIdentity, mayBeEmpty, permitted, rowAmong}
 use Rattle.table.proofs.Rows.{less-or, kindAt, in-row, among-row}
-use Rattle.table.proofs.Codes.{noCode, past-codes, identity-codes}
+use Rattle.table.proofs.Codes.{codeCount, past-codes, identity-codes}
 use Rattle.reading.specs.Reading.{answerOf}
 use Rattle.reading.specs.Steps.{textIn}
 use Rattle.reading.specs.declared.Answer.{Answer}
@@ -77,15 +77,15 @@ identity-text (OrEmpty t) e = identity-text t e
 
 pub ident-code : (code : ℕ) → (code ≡ 1 → ⊥) → (code ≡ 2 → ⊥) → (code ≡ 3 → ⊥) → (code ≡ 4 → ⊥) → (code ≡ 5 → ⊥) → textIn (fieldType code) ≡ Ident
 unfolding fieldType
-ident-code code n₁ n₂ n₃ n₄ n₅ = less-or code 6 first (λ h. less-or code noCode (identity h) past)
+ident-code code n₁ n₂ n₃ n₄ n₅ = less-or code 6 first (λ h. less-or code codeCount (identity h) past)
   where
     first : code < 6 → textIn (fieldType code) ≡ Ident
     first h = let z : code ≡ 0 = omega arith in rw z
 
-    identity : 6 ≤ code → code < noCode → textIn (fieldType code) ≡ Ident
+    identity : 6 ≤ code → code < codeCount → textIn (fieldType code) ≡ Ident
     identity l h = identity-text (fieldType code) (sym (identity-codes code) ∙ rw (le-leb 6 code l, le-leb code 10 (omega arith)))
 
-    past : noCode ≤ code → textIn (fieldType code) ≡ Ident
+    past : codeCount ≤ code → textIn (fieldType code) ≡ Ident
     past h = ap textIn (past-codes code h)
 
 -- ---- an identity by the answer of the identity call

@@ -7,13 +7,13 @@ use Rattle.text.specs.Text.{Bytes}
 use Rattle.format.specs.Numbers.{unpaired}
 use Rattle.format.specs.Build.{empty}
 use Rattle.format.specs.Read.{Outcome, accepted, refused}
-use Rattle.table.specs.Table.{rowOf, noRow, isPubkey}
+use Rattle.table.specs.Table.{rowOf, missingRow, isPubkey}
 use Rattle.reading.specs.declared.Answer.{Answer}
 
 -- the number, the field's number, and the kind's row in the table, none with a refusal
 abbrev pub answerOf : Outcome → Answer
 answerOf (accepted k fs) = record { no = 0; field = 0; kind = rowOf k }
-answerOf (refused n i) = record { no = n; field = i; kind = noRow }
+answerOf (refused n i) = record { no = n; field = i; kind = missingRow }
 
 -- ---- the tests after the fields, by the row of the kind: number 8
 

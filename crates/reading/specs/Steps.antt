@@ -7,11 +7,11 @@ use mathlib.Core.List.{List}
 use lib.ListN.{length, drop}
 use lib.Dec.{eqb}
 use Rattle.text.specs.Text.{Bytes, TextType, Ident}
-use Rattle.format.specs.Numbers.{noKind, wrongCount}
+use Rattle.format.specs.Numbers.{unknownKind, wrongCount}
 use Rattle.format.specs.Kinds.{Field, Text, Identity, OrEmpty}
 use Rattle.format.specs.Read.{Outcome, passing, body, cut, each}
 use Rattle.frame.specs.Frame.{checkNo}
-use Rattle.table.specs.Table.{noRow, markOf, countOf, fieldsAt}
+use Rattle.table.specs.Table.{missingRow, markOf, countOf, fieldsAt}
 
 -- the fields of a body by the row of its kind
 abbrev pub fieldsBy : ℕ → Bytes → List Bytes
@@ -20,7 +20,7 @@ fieldsBy row b = drop 1 (cut (markOf row) b)
 -- numbers 2 to 5, by the row that was found
 unfoldable pub formNo : ℕ → Bytes → ℕ
 formNo row s =
-    cond (eqb row noRow) noKind
+    cond (eqb row missingRow) unknownKind
     (cond (eqb (checkNo (markOf row) s) 0)
     (cond (eqb (length (fieldsBy row (body s))) (countOf row)) 0 wrongCount)
     (checkNo (markOf row) s))

@@ -22,13 +22,13 @@ pub const ACCEPTED: u8 = 0;
 
 pub const TOO_LONG: u8 = 1;
 
-pub const NO_KIND: u8 = 2;
+pub const UNKNOWN_KIND: u8 = 2;
 
 pub const WRONG_COUNT: u8 = 5;
 
 pub const WRONG_TEXT: u8 = 6;
 
-pub const NO_IDENTITY: u8 = 7;
+pub const WRONG_IDENTITY: u8 = 7;
 
 pub const UNPAIRED: u8 = 8;
 
@@ -81,7 +81,7 @@ fn form_no(row: usize, s: &[u8]) -> u8
     ensures { λ r. ⌜ r ≡ formNo row (now (s .entry)) ⌝ }
 {
     if row == table::NONE {
-        return NO_KIND;
+        return UNKNOWN_KIND;
     }
     let mark = table::mark_of(row);
     let no = frame::check_no(mark, s);
@@ -178,7 +178,7 @@ fn identity_no(code: u8, field: &[u8]) -> u8
 {
     let inner = read_identity(field);
     if inner.no != ACCEPTED {
-        return NO_IDENTITY;
+        return WRONG_IDENTITY;
     }
     if table::does_permit(code, inner.kind) {
         return ACCEPTED;

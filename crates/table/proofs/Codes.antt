@@ -15,20 +15,20 @@ use Rattle.table.specs.Table.{rowOf, fieldTypes, fieldType, isIdentity, 
 use Rattle.table.proofs.Rows.{less-or, same-bools}
 
 -- the number of codes, which is no code
-abbrev pub noCode : ℕ
-noCode = length fieldTypes
+abbrev pub codeCount : ℕ
+codeCount = length fieldTypes
 
 -- ---- what a field type says, by its code
 
-pub past-codes : (code : ℕ) → noCode ≤ code → fieldType code ≡ Text Ident
+pub past-codes : (code : ℕ) → codeCount ≤ code → fieldType code ≡ Text Ident
 unfolding fieldType
 past-codes code h = List·getD-eq-default fieldTypes (Text Ident) h
 
 -- q says of the code what p says of its type: a test of each code, and one case for all other numbers
-by-code : (p : Field → Bool) (q : ℕ → Bool) → T (allBelow noCode (λ c. Bool·beq (q c) (p (fieldType c)))) → ((c : ℕ) → noCode ≤ c → q c ≡ p (Text Ident)) → (c : ℕ) → q c ≡ p (fieldType c)
+by-code : (p : Field → Bool) (q : ℕ → Bool) → T (allBelow codeCount (λ c. Bool·beq (q c) (p (fieldType c)))) → ((c : ℕ) → codeCount ≤ c → q c ≡ p (Text Ident)) → (c : ℕ) → q c ≡ p (fieldType c)
 by-code p q t r c =
-    less-or c noCode
-    (λ h. same-bools (q c) (p (fieldType c)) (below noCode (λ n. Bool·beq (q n) (p (fieldType n))) t c h))
+    less-or c codeCount
+    (λ h. same-bools (q c) (p (fieldType c)) (below codeCount (λ n. Bool·beq (q n) (p (fieldType n))) t c h))
     (λ h. r c h ∙ ap p (sym (past-codes c h)))
 
 pub identity-codes : (code : ℕ) → between 6 10 code ≡ isIdentity (fieldType code)
@@ -62,7 +62,7 @@ text-code Print = 2
 text-code Point = 3
 text-code Mac = 4
 text-code Sig = 5
-text-code (Hex n) = noCode
+text-code (Hex n) = codeCount
 
 abbrev pub kinds-code : List Kind → ℕ
 kinds-code [] = 6
@@ -74,10 +74,10 @@ codeOf (Text t) = text-code t
 codeOf (Identity ks) = kinds-code ks
 codeOf (OrEmpty t) = cond (isIdentity t) 10 (codeOf t)
 
-code-type : (code : ℕ) → code < noCode → codeOf (fieldType code) ≡ code
+code-type : (code : ℕ) → code < codeCount → codeOf (fieldType code) ≡ code
 unfolding allBelow fieldType codeOf
-code-type code h = eqb→eq (codeOf (fieldType code)) code (below noCode (λ n. eqb (codeOf (fieldType n)) n) tt code h)
+code-type code h = eqb→eq (codeOf (fieldType code)) code (below codeCount (λ n. eqb (codeOf (fieldType n)) n) tt code h)
 
 -- no two codes have one type, so `TypeOf` allows one answer
-pub one-code : (a b : ℕ) → a < noCode → b < noCode → fieldType a ≡ fieldType b → a ≡ b
+pub one-code : (a b : ℕ) → a < codeCount → b < codeCount → fieldType a ≡ fieldType b → a ≡ b
 one-code a b ha hb e = sym (code-type a ha) ∙ ap codeOf e ∙ code-type b hb

@@ -14,7 +14,7 @@ use Rattle.text.specs.Text.{same, allOf}
 use Rattle.text.proofs.Tests.{allBelow, below, by-test, same→eq}
 use Rattle.format.specs.Kinds.{Kind, SMMAN, name, allKinds, pubkeyKinds, among}
 use Rattle.format.proofs.Table.{name-inj, every-kind}
-use Rattle.table.specs.Table.{rowOf, noRow, rowFor, ofRow, isPubkey, rowAmong}
+use Rattle.table.specs.Table.{rowOf, missingRow, rowFor, ofRow, isPubkey, rowAmong}
 
 pub less-or {ℓ} : {X : Type ℓ} (a b : ℕ) → (a < b → X) → (b ≤ a → X) → X
 less-or a b f g = by-test (ltb a b) (λ h. f (ltb→lt a b h)) (λ h. g (nltb→le a b h))
@@ -27,12 +27,12 @@ kindAt row = getD allKinds row SMMAN
 pub at-row : (k : Kind) → kindAt (rowOf k) ≡ k
 at-row k = name-inj (kindAt (rowOf k)) k (same→eq _ _ (every-kind (λ j. same (name (kindAt (rowOf j))) (name j)) tt k))
 
-pub row-small : (k : Kind) → rowOf k < noRow
-row-small k = ltb→lt (rowOf k) noRow (every-kind (λ j. ltb (rowOf j) noRow) tt k)
+pub row-small : (k : Kind) → rowOf k < missingRow
+row-small k = ltb→lt (rowOf k) missingRow (every-kind (λ j. ltb (rowOf j) missingRow) tt k)
 
-pub row-at : (row : ℕ) → row < noRow → rowOf (kindAt row) ≡ row
+pub row-at : (row : ℕ) → row < missingRow → rowOf (kindAt row) ≡ row
 unfolding allBelow
-row-at row h = eqb→eq (rowOf (kindAt row)) row (below noRow (λ n. eqb (rowOf (kindAt n)) n) tt row h)
+row-at row h = eqb→eq (rowOf (kindAt row)) row (below missingRow (λ n. eqb (rowOf (kindAt n)) n) tt row h)
 
 pub row-inj : (k j : Kind) → rowOf k ≡ rowOf j → k ≡ j
 row-inj k j e = sym (at-row k) ∙ ap kindAt e ∙ at-row j
@@ -41,7 +41,7 @@ row-inj k j e = sym (at-row k) ∙ ap kindAt e ∙ at-row j
 
 module _ {ℓ} {A : Type ℓ} (f : Kind → A) (z : A) where
   -- an entry that is there is the same whatever stands for one that is not
-  pub in-row : (row : ℕ) → row < noRow → ofRow f z row ≡ f (kindAt row)
+  pub in-row : (row : ℕ) → row < missingRow → ofRow f z row ≡ f (kindAt row)
   unfolding ofRow
   in-row row h =
       ap (λ (l : List A). getD l 0 z) (sym (drop-cons (map f allKinds) row z h) ∙ drop-cons (map f allKinds) row (f SMMAN) h)
@@ -50,7 +50,7 @@ module _ {ℓ} {A : Type ℓ} (f : Kind → A) (z : A) where
   pub of-kind : (k : Kind) → ofRow f z (rowOf k) ≡ f k
   of-kind k = in-row (rowOf k) (row-small k) ∙ ap f (at-row k)
 
-  pub past-rows : (row : ℕ) → noRow ≤ row → ofRow f z row ≡ z
+  pub past-rows : (row : ℕ) → missingRow ≤ row → ofRow f z row ≡ z
   unfolding ofRow
   past-rows row h = List·getD-eq-default (map f allKinds) z h
 
@@ -61,11 +61,11 @@ pub record Found (o : Option Kind) (row : ℕ) : Type 0 where
   pub is : o ≡ some kind
   pub at : row ≡ rowOf kind
 
-pub found : (o : Option Kind) (row : ℕ) → row ≡ rowFor o → (row ≡ noRow → ⊥) → Found o row
+pub found : (o : Option Kind) (row : ℕ) → row ≡ rowFor o → (row ≡ missingRow → ⊥) → Found o row
 found none row e h = absurd (h e)
 found (some k) row e h = record { kind = k; is = refl; at = e }
 
-pub not-found : (o : Option Kind) (row : ℕ) → row ≡ rowFor o → row ≡ noRow → o ≡ none
+pub not-found : (o : Option Kind) (row : ℕ) → row ≡ rowFor o → row ≡ missingRow → o ≡ none
 not-found none row e h = refl
 not-found (some k) row e h = absurd (omega (arith, row-small k))
 
@@ -80,11 +80,11 @@ same-bools false false t = refl
 pub pubkey-rows : (row : ℕ) → (eqb row 3 || eqb row 4) ≡ isPubkey row
 unfolding allBelow ofRow
 pubkey-rows row =
-    less-or row noRow
-    (λ h. same-bools (eqb row 3 || eqb row 4) (isPubkey row) (below noRow (λ n. Bool·beq (eqb n 3 || eqb n 4) (isPubkey n)) tt row h))
+    less-or row missingRow
+    (λ h. same-bools (eqb row 3 || eqb row 4) (isPubkey row) (below missingRow (λ n. Bool·beq (eqb n 3 || eqb n 4) (isPubkey n)) tt row h))
     (past row)
   where
-    past : (n : ℕ) → noRow ≤ n → (eqb n 3 || eqb n 4) ≡ isPubkey n
+    past : (n : ℕ) → missingRow ≤ n → (eqb n 3 || eqb n 4) ≡ isPubkey n
     past n l = rw (ne-eqb n 3 (λ z. omega arith), ne-eqb n 4 (λ z. omega arith), past-rows (λ k. among k pubkeyKinds) false n l)
 
 -- no two kinds have one name: a test of each kind against each

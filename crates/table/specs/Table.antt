@@ -23,12 +23,12 @@ rowOf REQ = 5
 rowOf RESP = 6
 
 -- the number of rows, which is no row's number
-abbrev pub noRow : ℕ
-noRow = 7
+abbrev pub missingRow : ℕ
+missingRow = 7
 
 -- the row of the kind that was found
 abbrev pub rowFor : Option Kind → ℕ
-rowFor none = noRow
+rowFor none = missingRow
 rowFor (some k) = rowOf k
 
 -- what f says of the kind of a row, and z for a row that is not there

@@ -8,7 +8,7 @@ ghost use lib.ListN.{take, drop};
 ghost use Rattle.text.specs.Text.{same};
 ghost use Rattle.format.specs.Kinds.{name, identityKinds, allKinds};
 ghost use Rattle.format.specs.Read.{kindIn};
-ghost use Rattle.table.specs.Table.{noRow, rowFor, ofRow, markOf, countOf, isPubkey, isKind, named, kindsFrom, fieldType, TypeOf, isIdentity, mayBeEmpty, permitted, rowAmong};
+ghost use Rattle.table.specs.Table.{missingRow, rowFor, ofRow, markOf, countOf, isPubkey, isKind, named, kindsFrom, fieldType, TypeOf, isIdentity, mayBeEmpty, permitted, rowAmong};
 
 // ---- the rows
 
@@ -154,7 +154,7 @@ pub fn is_pubkey(row: usize) -> bool
 // ---- the row that has a name
 
 fn is_named(row: usize, title: &[u8]) -> bool
-    requires { ⌜ row < noRow ⌝ }
+    requires { ⌜ row < missingRow ⌝ }
     ensures { λ r. ⌜ r ≡ ofRow (λ k. same (now (title .entry)) (name k)) false row ⌝ }
 {
     let start = STARTS[row];
@@ -163,7 +163,7 @@ fn is_named(row: usize, title: &[u8]) -> bool
 }
 
 fn is_kind(row: usize, title: &[u8], mark: u8) -> bool
-    requires { ⌜ row < noRow ⌝ }
+    requires { ⌜ row < missingRow ⌝ }
     ensures { λ r. ⌜ r ≡ ofRow (isKind (now (title .entry)) mark) false row ⌝ }
 {
     if !is_named(row, title) {

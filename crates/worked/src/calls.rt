@@ -39,7 +39,7 @@ struct Gathered {
     total: usize,
 }
 
-// Field n's length, after its bytes are put at a place; NO_FIELD where there is no such field.
+// Field n's length, after its bytes are put at a place; MISSING_FIELD where there is no such field.
 fn put_field(s: &[u8], n: usize, bytes: &mut [u8], at: usize) -> usize {
     let mut no: u8 = 0;
     let mut field: u8 = 0;
@@ -53,11 +53,11 @@ fn put_field(s: &[u8], n: usize, bytes: &mut [u8], at: usize) -> usize {
     length_of(no, of_record)
 }
 
-const NO_FIELD: usize = 1025;
+const MISSING_FIELD: usize = 1025;
 
 fn length_of(no: u8, part: &[u8]) -> usize {
     if no != reading::ACCEPTED {
-        return NO_FIELD;
+        return MISSING_FIELD;
     }
     part.len()
 }
@@ -69,7 +69,7 @@ fn gather(s: &[u8], bytes: &mut [u8], lens: &mut [usize]) -> Gathered
     let mut at: usize = 0;
     while k < lens.len() {
         let len = put_field(s, k + 1, bytes, at);
-        if len >= NO_FIELD {
+        if len >= MISSING_FIELD {
             return Gathered {
                 count: k,
                 total: at,

@@ -209,7 +209,7 @@ fn check_field(field_type: Type, field: &[u8]) -> Result<(), Reason> {
 
 fn check_identity(permitted: &[Kind], field: &[u8]) -> Result<(), Reason> {
     match read_identity(field) {
-        Err(_) => Err(Reason::NoIdentity),
+        Err(_) => Err(Reason::WrongIdentity),
         Ok(kind) if permitted.contains(&kind) => Ok(()),
         Ok(_) => Err(Reason::WrongKind),
     }
@@ -223,15 +223,15 @@ fn read<'a>(bytes: &'a [u8], wanted: &[Kind]) -> Result<(Kind, Fields<'a>), Refu
         return Err(refusal(Reason::TooLong));
     }
     let title = bytes.iter().position(|&byte| matches!(byte, b':' | b'|'));
-    let title = title.ok_or(refusal(Reason::NoKind))?;
+    let title = title.ok_or(refusal(Reason::UnknownKind))?;
     let kind = kind_named(&bytes[..title])
         .filter(|kind| wanted.contains(kind) && mark(*kind) == bytes[title])
-        .ok_or(refusal(Reason::NoKind))?;
+        .ok_or(refusal(Reason::UnknownKind))?;
 
-    let end = bytes.len().checked_sub(CHECK_LENGTH).ok_or(refusal(Reason::NoCheck))?;
+    let end = bytes.len().checked_sub(CHECK_LENGTH).ok_or(refusal(Reason::MissingCheck))?;
     let (body, check) = bytes.split_at(end);
     if !is_hex(CHECK_LENGTH, check) || body.last() != Some(&mark(kind)) {
-        return Err(refusal(Reason::NoCheck));
+        return Err(refusal(Reason::MissingCheck));
     }
     if check != check_text(crc_of(body)) {
         return Err(refusal(Reason::WrongCheck));
@@ -298,7 +298,7 @@ impl Writer<'_> {
 }
 
 pub fn build(name: &[u8], bytes: &[u8], lens: &[usize], out: &mut [u8]) -> Result<usize, Refusal> {
-    let kind = kind_named(name).ok_or(refusal(Reason::NoKind))?;
+    let kind = kind_named(name).ok_or(refusal(Reason::UnknownKind))?;
     if lens.len() != types(kind).len() {
         return Err(refusal(Reason::WrongCount));
     }
@@ -319,7 +319,7 @@ pub fn build(name: &[u8], bytes: &[u8], lens: &[usize], out: &mut [u8]) -> Resul
     check_fields(kind, fields)?;
 
     let total = name.len() + 1 + bytes.len() + lens.len() + CHECK_LENGTH;
-    let out = out.get_mut(..total).ok_or(refusal(Reason::NoRoom))?;
+    let out = out.get_mut(..total).ok_or(refusal(Reason::ShortOutput))?;
     let mut writer = Writer { out, at: 0 };
     writer.put(name);
     writer.put(&[mark(kind)]);
@@ -358,7 +358,7 @@ fn hex_value(character: u8) -> u8 {
 
 fn write_text(items: &[Item<'_>], out: &mut [u8]) -> Result<usize, Refusal> {
     let total = 1 + items.iter().map(|item| 1 + item.len()).sum::<usize>();
-    let out = out.get_mut(..total).ok_or(refusal(Reason::NoRoom))?;
+    let out = out.get_mut(..total).ok_or(refusal(Reason::ShortOutput))?;
     let mut writer = Writer { out, at: 0 };
     writer.put(&[items.len() as u8]);
     for item in items {
