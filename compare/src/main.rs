@@ -105,14 +105,18 @@ mod tests {
         declared.filter_map(|rest| rest.split(['(', '<']).next()).map(str::to_owned).collect()
     }
 
+    /// Calls that are public only because another crate needs them. They are run through those that call them.
+    const BETWEEN_CRATES: &[&str] = &["are_alike", "is_later"];
+
     #[test]
-    fn every_public_call_of_the_library_has_its_cases() {
+    fn every_public_call_of_the_library_has_its_cases_or_is_between_crates() {
         let calls = public_calls();
-        assert!(!calls.is_empty());
+        assert!(BETWEEN_CRATES.iter().all(|name| calls.iter().any(|call| call == name)));
         for call in calls {
             let is_there =
                 |entry: &calls::Call| entry.call.split([':', ',']).any(|one| one == call);
-            assert!(CALLS.iter().any(is_there), "{call} has no cases");
+            let has_cases = CALLS.iter().any(is_there);
+            assert!(has_cases != BETWEEN_CRATES.contains(&call.as_str()), "{call}");
         }
     }
 
