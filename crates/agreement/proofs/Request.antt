@@ -1,14 +1,14 @@
 -- What is known of an accepted request: its kind, its fields, and that they go into a text.
 -- Assumes nothing.
-use Prim.Native.Nat.{ℕ, _≤_}
-use mathlib.Core.Path.{_≡_, refl, sym, ap, ap₂, _∙_}
+use Prim.Native.Nat.{ℕ}
+use mathlib.Core.Path.{_≡_, sym, ap, ap₂, _∙_}
 use mathlib.Core.List.{List, [], _∷_}
 use native.Mathlib.Omega.{arith}
 use native.Mathlib.Nat.{le-trans}
 use lib.ListN.{length, getD, List·getD-eq-default}
-use lib.Dec.{leb, ltb, leb→le, ltb→lt, nltb→le}
+use lib.Dec.{leb, leb→le}
 use Rattle.text.specs.Text.{Bytes, Ident}
-use Rattle.text.proofs.Tests.{by-test, allBelow, below}
+use Rattle.text.proofs.Tests.{less-or, allBelow, below}
 use Rattle.text.proofs.Types.{point-hex}
 use Rattle.format.specs.Kinds.{REQ, Field, Text, fieldsOf}
 use Rattle.format.specs.Build.{Fits, IsIdentity, Permitted, Built}
@@ -38,12 +38,11 @@ permitted-suited fs p =
     let t : ℕ → Field = λ n. getD (fieldsOf REQ) n (Text Ident) in
     record {
       short = λ n.
-          by-test (ltb n 7)
-          (λ l.
-          let h = ltb→lt n 7 l in
+          less-or n 7
+          (λ h.
           le-trans (field-held IsIdentity identity-tame 0 (t n) (getD fs n []) (below 7 (λ m. absent 0 (t m)) tt n h) (fit n h) .1)
           (leb→le (longestOf (t n)) 255 (below 7 (λ m. leb (longestOf (t m)) 255) tt n h)))
-          (λ l. rw (List·getD-eq-default fs [] {n = n} (omega (arith, nltb→le n 7 l, fit-length IsIdentity (fieldsOf REQ) fs (p .fit)))) (omega arith));
+          (λ h. rw (List·getD-eq-default fs [] {n = n} (omega (arith, fit-length IsIdentity (fieldsOf REQ) fs (p .fit)))) (omega arith));
       point = point-hex (getD fs 5 []) (fit 5 (omega arith));
     }
 

@@ -7,9 +7,8 @@ use native.Mathlib.Omega.{arith}
 use native.Mathlib.Numerals.{add-one}
 use lib.ListN.{length, take, drop, getD, set, length-set, length-drop, List·getD-eq-default}
 use lib.Seq.{length-take-le, getD-set-same, getD-set-other}
-use lib.Dec.{ltb, ltb→lt, nltb→le}
 use Rattle.text.specs.Text.{Bytes}
-use Rattle.text.proofs.Tests.{by-test}
+use Rattle.text.proofs.Tests.{less-or}
 use Rattle.format.specs.Kinds.{REQ, mark}
 use Rattle.format.specs.Read.{body, cut, fieldsIn}
 use Rattle.frame.specs.Frame.{nextMark, partStart}
@@ -49,10 +48,10 @@ module _ {b : Bytes} {places : List ℕ} {at j : ℕ} (p : Placed b places at j)
           long = length-set places j (e + 1) ∙ p .long;
           walk = w;
           known = λ i l.
-              by-test (ltb i j)
-              (λ t. getD-set-other places j i (e + 1) 0 (λ z. absurd (omega (arith, z, ltb→lt i j t))) ∙ p .known i (ltb→lt i j t))
-              (λ t.
-              let z : i ≡ j = omega (arith, nltb→le i j t) in
+              less-or i j
+              (λ k. getD-set-other places j i (e + 1) 0 (λ z. absurd (omega arith)) ∙ p .known i k)
+              (λ k.
+              let z : i ≡ j = omega arith in
               rw z (getD-set-same places j (e + 1) 0 (omega (arith, p .long)) ∙ w .start ∙ ap (partStart (mark REQ) b) (add-one j)));
         }
 

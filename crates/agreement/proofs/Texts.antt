@@ -1,7 +1,7 @@
 -- What each text is: of an accepted request, the items of its fields where there is room for them; each of these item lists
 -- can be built, and so read back.
 -- Assumes nothing.
-use Prim.Native.Nat.{ℕ, _≤_, _<_}
+use Prim.Native.Nat.{ℕ, _<_}
 use mathlib.Core.Path.{_≡_}
 use mathlib.Core.List.{List, [], _∷_}
 use native.Mathlib.Omega.{arith}
@@ -14,13 +14,13 @@ use Rattle.format.specs.Build.{Permitted}
 use Rattle.format.specs.Read.{accepted, readOf}
 use Rattle.items.specs.Items.{lvConcat, concats}
 use Rattle.put.specs.Put.{Put}
-use Rattle.put.specs.Made.{Made, made, denied, says, Writes}
+use Rattle.put.specs.Made.{Made, denied, says, Writes}
 use Rattle.put.specs.declared.Written.{Written}
 use Rattle.put.proofs.Pieces.{put-whole, put-denied}
 use Rattle.reading.specs.Reading.{answerOf}
 use Rattle.reading.specs.declared.Answer.{Answer}
 use Rattle.reading.proofs.Answers.{untaken}
-use Rattle.agreement.specs.Texts.{qe, sharedItems, moduleItems, centreItems, textMade, sharedInfo, moduleText, centreText}
+use Rattle.agreement.specs.Texts.{qe, sharedItems, moduleItems, centreItems, textMade}
 use Rattle.agreement.proofs.Request.{permitted-suited}
 use Rattle.agreement.proofs.Decoding.{point-bytes}
 use Rattle.agreement.proofs.Items.{short-items}
@@ -44,25 +44,6 @@ module _ (items : List Bytes → List Bytes) (request o : Bytes) where
     text-written p = rw (e, le-leb (length (lvConcat (items fs))) (length o) (omega (arith, p .fits))) (put-whole p)
 
 -- ---- the promises
-
-text-made : (items : List Bytes → List Bytes) (request : Bytes) (fs : List Bytes) → readOf (REQ ∷ []) request ≡ accepted REQ fs → (room : ℕ)
-    → length (lvConcat (items fs)) ≤ room → textMade items room (readOf (REQ ∷ []) request) ≡ made (lvConcat (items fs))
-text-made items request fs e room h = rw (e, le-leb (length (lvConcat (items fs))) room h)
-
-pub shared-items : (request : Bytes) (fs : List Bytes) → readOf (REQ ∷ []) request ≡ accepted REQ fs → (room : ℕ) → length (lvConcat (sharedItems fs)) ≤ room
-    → sharedInfo request room ≡ made (lvConcat (sharedItems fs))
-unfolding sharedInfo
-shared-items = text-made sharedItems
-
-pub module-items : (request : Bytes) (fs : List Bytes) → readOf (REQ ∷ []) request ≡ accepted REQ fs → (room : ℕ) → length (lvConcat (moduleItems fs)) ≤ room
-    → moduleText request room ≡ made (lvConcat (moduleItems fs))
-unfolding moduleText
-module-items = text-made moduleItems
-
-pub centre-items : (request : Bytes) (fs : List Bytes) → readOf (REQ ∷ []) request ≡ accepted REQ fs → (room : ℕ) → length (lvConcat (centreItems fs)) ≤ room
-    → centreText request room ≡ made (lvConcat (centreItems fs))
-unfolding centreText
-centre-items = text-made centreItems
 
 pub items-concat : (fs : List Bytes) → Permitted REQ fs → T (concats (sharedItems fs)) × T (concats (moduleItems fs)) × T (concats (centreItems fs))
 items-concat fs p =

@@ -11,7 +11,7 @@ use lib.Dec.{T, leb, leb→le}
 use mir.Facts.{and-yes}
 use borrow.Author.Tests.{le-leb, lt-leb}
 use Rattle.text.specs.Text.{Bytes, between}
-use Rattle.text.proofs.Tests.{by-test, T-true, T-false}
+use Rattle.text.proofs.Tests.{by-test, less-or, T-true, T-false}
 use Rattle.format.specs.Kinds.{Kind, mark, fieldsOf, identityKinds}
 use Rattle.format.specs.Build.{Built}
 use Rattle.format.specs.Read.{Outcome, accepted, refused, place, body}
@@ -20,7 +20,7 @@ use Rattle.format.proofs.Exactly.{identity-says, read-says, its-parts, its-fiel
 use Rattle.frame.specs.Frame.{nextMark, partStart, partOf}
 use Rattle.frame.proofs.Parts.{next-within, part-there, start-within, field-part, body-bytes}
 use Rattle.table.specs.Table.{markOf, countOf}
-use Rattle.table.proofs.Rows.{less-or, of-kind}
+use Rattle.table.proofs.Rows.{of-kind}
 use Rattle.reading.specs.Reading.{answerOf}
 use Rattle.fields.specs.Fields.{wantedPart, wantedNo, wantedStart, Placed, FieldSaid}
 use Rattle.fields.specs.Steps.{Reads, identity, records, Handed}

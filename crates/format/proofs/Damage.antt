@@ -8,7 +8,7 @@ use mathlib.Core.Logic.{_≢_, ⊎-elim}
 use mathlib.Core.List.{[], _∷_, List·Memᴰ, List·Memᴰ·head, List·Memᴰ·tail}
 use native.Mathlib.Omega.{arith}
 use native.Mathlib.Nat.{zero-add}
-use lib.Dec.{eqb, ltb, eqb→eq, ltb→lt, nltb→le}
+use lib.Dec.{eqb, eqb→eq}
 use lib.ListN.{length, take, drop, getD, length-take, length-drop, take-append-drop, List·getD-eq-default}
 use lib.Seq.{getD-take, getD-drop, ext-getD}
 use mir.Facts.{eqb-no}
@@ -19,7 +19,7 @@ use Rattle.crc16.proofs.Steps.{crc-lt}
 use Rattle.crc16.proofs.Burst.{neighbours-caught}
 use Rattle.text.specs.Text.{Bytes, part}
 use Rattle.text.specs.Base16.{checkText}
-use Rattle.text.proofs.Tests.{by-test, T-true, T-false}
+use Rattle.text.proofs.Tests.{by-test, less-or, T-true, T-false}
 use Rattle.text.proofs.Hexadecimal.{check-inj}
 use Rattle.format.specs.Numbers.{unfinished}
 use Rattle.format.specs.Kinds.{mark, recordKinds}
@@ -41,9 +41,9 @@ part-law : (R : ℕ → ℕ → Type 0) → R 0 0 → (p n k : ℕ) (x y : Bytes
     → R (getD (part p n x) k 0) (getD (part p n y) k 0)
 part-law R z p n k x y f =
     let beyond : (s : Bytes) → n ≤ k → getD (take n s) k 0 ≡ 0 = λ s h. List·getD-eq-default (take n s) 0 (omega (arith, length-take n s)) in
-    by-test (ltb k n)
-    (λ t. let h = ltb→lt k n t in rw (part-at p n k x h, part-at p n k y h) (f h))
-    (λ t. let h = nltb→le k n t in rw (beyond (drop p x) h, beyond (drop p y) h) z)
+    less-or k n
+    (λ h. rw (part-at p n k x h, part-at p n k y h) (f h))
+    (λ h. rw (beyond (drop p x) h, beyond (drop p y) h) z)
 
 part-bytes : (p n : ℕ) (s : Bytes) → AreBytes s → AreBytes (part p n s)
 part-bytes p n s h k = part-law (λ c d. c < 256) (omega arith) p n k s s (λ _. h (p + k))
@@ -86,19 +86,19 @@ module _ (x y : Bytes) (bytes-x : AreBytes x) (bytes-y : AreBytes y) (long : len
       let front : Near i (take n x) (take n y) = λ k f g. part-law _≡_ refl 0 n k x y (λ _. rw zero-add (near k f g)) in
       let lx = length-take n x in
       let ly = length-take n y in
-      by-test (ltb (i + 1) n)
-      (λ t.
+      less-or (i + 1) n
+      (λ before.
       let checks : drop n x ≡ drop n y =
       ext-getD 0 (drop n x) (drop n y) (simp (length-drop, long))
-      (λ k _. simp getD-drop (near (n + k) (omega (arith, ltb→lt)) (omega (arith, ltb→lt)))) in
+      (λ k _. simp getD-drop (near (n + k) (omega arith) (omega arith))) in
       let bx : AreBytes (take n x) = part-bytes 0 n x bytes-x in
       let by : AreBytes (take n y) = part-bytes 0 n y bytes-y in
       let same = check-inj _ _ (crc-lt (take n x) bx) (crc-lt (take n y) by) (sym check-x ∙ checks ∙ check-y) in
       neighbours-caught (take n x) (take n y) (record { bytes-x = bx; bytes-y = by; long = omega arith; check = same }) i front)
-      (λ t. ext-getD 0 (take n x) (take n y) (omega arith)
-      (λ k j. by-test (ltb (suc k) n)
-      (λ u. front k (omega (arith, ltb→lt, nltb→le)) (omega (arith, ltb→lt, nltb→le)))
-      (λ u. last-at (take n x) k (omega (arith, nltb→le)) ∙ last-x ∙ sym (last-at (take n y) k (omega (arith, nltb→le)) ∙ last-y))))
+      (λ after. ext-getD 0 (take n x) (take n y) (omega arith)
+      (λ k j. less-or (suc k) n
+      (λ h. front k (omega arith) (omega arith))
+      (λ h. last-at (take n x) k (omega arith) ∙ last-x ∙ sym (last-at (take n y) k (omega arith) ∙ last-y))))
 
   pub accepted-damaged : Accepted (readRecord x) → Accepted (readRecord y) → x ≡ y
   accepted-damaged ax ay =

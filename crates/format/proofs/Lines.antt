@@ -7,13 +7,13 @@ use mathlib.Core.Bool.{not}
 use mathlib.Core.List.{List, [], _∷_, _++_, append-assoc, append-nil}
 use native.Mathlib.Nat.{add-assoc}
 use native.Mathlib.Omega.{arith}
-use lib.Dec.{T, eqb, leb, ltb, eqb→eq, leb→le, nleb→lt, ltb→lt, nltb→le}
+use lib.Dec.{T, eqb, eqb→eq}
 use lib.ListN.{length, take, drop, length-append, length-drop}
 use lib.Seq.{drop-drop, drop-append-add}
 use mir.Facts.{and-yes, yes-and}
 use borrow.Author.Tests.{lt-ltb, le-ltb, le-leb, lt-leb}
 use Rattle.text.specs.Text.{Bytes, without}
-use Rattle.text.proofs.Tests.{by-test, T-true, T-false}
+use Rattle.text.proofs.Tests.{by-test, less-or, T-true, T-false}
 use Rattle.format.specs.Numbers.{unfinished}
 use Rattle.format.specs.Build.{joined, WithoutAll}
 use Rattle.format.specs.Read.{refused, readRecord}
@@ -66,10 +66,7 @@ module _ (file : Bytes) (place : ℕ) where
       → ((e : ℕ) → Feed file place e → place < length file → length file ≤ e → X) → X
   by-place end line last =
       let e : ℕ = place + length (upTo lineFeed (drop place file)) in
-      by-test (leb (length file) place) (λ t. end (leb→le (length file) place t))
-      (λ t.
-      by-test (ltb e (length file)) (λ u. line e refl (ltb→lt e (length file) u))
-      (λ u. last e refl (nleb→lt (length file) place t) (nltb→le e (length file) u)))
+      less-or place (length file) (λ h. less-or e (length file) (line e refl) (last e refl h)) end
 
   -- the next place is further on, and not beyond the end
   abbrev Further : Said → Type 0

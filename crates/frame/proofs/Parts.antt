@@ -9,10 +9,10 @@ use native.Mathlib.Numerals.{add-one}
 use native.Mathlib.Nat.{add-zero}
 use lib.ListN.{length, take, drop, getD, drop-of-length-le, length-append, length-take, length-drop, take-append-drop, List·getD-eq-default}
 use lib.Seq.{take-all, length-take-le, take-append-le, drop-append-le, drop-cons, drop-drop, getD-drop}
-use lib.Dec.{eqb, ltb, ltb→lt, nltb→le}
+use lib.Dec.{eqb}
 use borrow.Author.Tests.{eq-eqb, ne-eqb}
 use Rattle.text.specs.Text.{Bytes}
-use Rattle.text.proofs.Tests.{by-test}
+use Rattle.text.proofs.Tests.{less-or}
 use Rattle.format.specs.Kinds.{Kind, mark}
 use Rattle.format.specs.Build.{joined}
 use Rattle.format.specs.Read.{body, check, cut, onFirst, lastOr, fieldsIn}
@@ -169,12 +169,8 @@ unfolding partStart
 walk-start m s = record { parts = refl; start = refl; few = omega arith; many = omega arith }
 
 module _ (m : ℕ) (s : Bytes) (k i : ℕ) (w : Walk m s k i) (h : length s ≤ i) where
-  pub walk-done : length (cut m s) ≤ k
+  walk-done : length (cut m s) ≤ k
   walk-done = omega (arith, length-drop k (cut m s), ap length (w .parts ∙ cut-none m s i h))
-
-  pub walk-none : (n : ℕ) → k ≤ n → [] ≡ partOf m s n
-  unfolding partOf
-  walk-none n l = sym (List·getD-eq-default (cut m s) [] (omega (arith, walk-done)))
 
   -- behind the last part
   pub walk-last : (n : ℕ) → k ≤ n → i ≡ partStart m s n
@@ -194,9 +190,7 @@ module _ (m : ℕ) (s : Bytes) where
   walk-to (suc n) h = go (walk-to n (omega arith))
     where
       go : Walk m s n (partStart m s n) → Walk m s (suc n) (partStart m s (suc n))
-      go w = by-test (ltb (partStart m s n) (length s))
-          (λ t. on-from n w (ltb→lt _ _ t))
-          (λ t. absurd (omega (arith, walk-done m s n _ w (nltb→le _ _ t))))
+      go w = less-or (partStart m s n) (length s) (on-from n w) (λ l. absurd (omega (arith, walk-done m s n _ w l)))
 
   -- the parts end with the bytes
   walk-past : (n : ℕ) → length (cut m s) ≤ n → length s ≤ partStart m s n
@@ -204,50 +198,42 @@ module _ (m : ℕ) (s : Bytes) where
   walk-past n h =
       let all = length (cut m s) in
       rw (take-all n (cut m s) h, ← take-all all (cut m s) (omega arith))
-      (by-test (ltb (partStart m s all) (length s))
-      (λ t. absurd (omega (arith, walk-on m s all _ (walk-to all (omega arith)) (ltb→lt _ _ t) _ refl .many)))
-      (λ t. nltb→le _ _ t))
+      (less-or (partStart m s all) (length s)
+      (λ l. absurd (omega (arith, walk-on m s all _ (walk-to all (omega arith)) l _ refl .many)))
+      (λ l. l))
 
   -- i is the start of part n as the code has it
-  pub part-none : (n i : ℕ) → i ≡ partStart m s n → length s ≤ i → [] ≡ partOf m s n
-  unfolding partOf
-  part-none n i q h =
-      by-test (ltb n (length (cut m s)))
-      (λ t. walk-none m s n i (rw q (walk-to n (omega (arith, ltb→lt n (length (cut m s)) t)))) h n (omega arith))
-      (λ t. sym (List·getD-eq-default (cut m s) [] (nltb→le _ _ t)))
-
   pub part-there : (n i : ℕ) → i ≡ partStart m s n → i < length s → (e : ℕ) → e ≡ nextMark m s i → take (e - i) (drop i s) ≡ partOf m s n
   part-there n i q h =
       walk-part m s n i
-      (by-test (ltb (length (cut m s)) n)
-      (λ t. absurd (omega (arith, q, walk-past n (omega (arith, ltb→lt (length (cut m s)) n t)))))
-      (λ t. rw q (walk-to n (nltb→le _ _ t))))
+      (less-or (length (cut m s)) n
+      (λ l. absurd (omega (arith, q, walk-past n (omega arith))))
+      (λ l. rw q (walk-to n l)))
       h
 
   -- a part that is there starts within the bytes
   pub start-within : (n : ℕ) → n < length (cut m s) → partStart m s n < length s
   start-within n h =
-      by-test (ltb (partStart m s n) (length s))
-      (λ t. ltb→lt _ _ t)
-      (λ t. absurd (omega (arith, walk-done m s n _ (walk-to n (omega arith)) (nltb→le _ _ t))))
+      less-or (partStart m s n) (length s) (λ l. l) (λ l. absurd (omega (arith, walk-done m s n _ (walk-to n (omega arith)) l)))
 
   -- the parts from part n on are those of the bytes from its start on
   pub parts-from : (n i k : ℕ) → i ≡ partStart m s n → i ≤ length s → partOf m (drop i s) k ≡ partOf m s (n + k)
   unfolding partOf
   parts-from n i k q h =
-      by-test (ltb (length (cut m s)) n)
-      (λ t.
-      let few = ltb→lt (length (cut m s)) n t in
-      rw (drop-of-length-le s {i = i} (omega (arith, q, walk-past n (omega arith)))) (sym (List·getD-eq-default (cut m s) [] {n = n + k} (omega arith))))
-      (λ t. rw q (ap (λ (ps : List Bytes). getD ps k []) (sym (walk-to n (nltb→le _ _ t) .parts)) ∙ getD-drop n (cut m s) k []))
+      less-or (length (cut m s)) n
+      (λ few. rw (drop-of-length-le s {i = i} (omega (arith, q, walk-past n (omega arith)))) (sym (List·getD-eq-default (cut m s) [] {n = n + k} (omega arith))))
+      (λ l. rw q (ap (λ (ps : List Bytes). getD ps k []) (sym (walk-to n l .parts)) ∙ getD-drop n (cut m s) k []))
 
   -- and none where part n would start at the end or behind it
   pub parts-past : (n i k : ℕ) → i ≡ partStart m s n → length s ≤ i → [] ≡ partOf m s (n + k)
   unfolding partOf
   parts-past n i k q h =
-      by-test (ltb n (length (cut m s)))
-      (λ t. absurd (omega (arith, q, start-within n (ltb→lt _ _ t))))
-      (λ t. sym (List·getD-eq-default (cut m s) [] {n = n + k} (omega (arith, nltb→le n (length (cut m s)) t))))
+      less-or n (length (cut m s))
+      (λ l. absurd (omega (arith, q, start-within n l)))
+      (λ l. sym (List·getD-eq-default (cut m s) [] {n = n + k} (omega arith)))
+
+  pub part-none : (n i : ℕ) → i ≡ partStart m s n → length s ≤ i → [] ≡ partOf m s n
+  part-none n i q h = rw add-zero at (parts-past n i 0 q h)
 
 -- ---- the fields of a record are the parts of its body from part 1 on: part 0 is the kind's name
 

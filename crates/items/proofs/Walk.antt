@@ -7,12 +7,12 @@ use mathlib.Core.Option.{Option, none, some}
 use mathlib.Core.List.{List, [], _∷_}
 use native.Mathlib.Omega.{arith}
 use native.Mathlib.Numerals.{add-one}
-use lib.Dec.{leb, ltb, ltb→lt, nltb→le}
+use lib.Dec.{leb}
 use lib.ListN.{length, take, drop, getD, length-drop, drop-of-length-le}
 use lib.Seq.{drop-cons, drop-drop, length-take-le}
 use borrow.Author.Tests.{le-leb, lt-leb}
 use Rattle.text.specs.Text.{Bytes}
-use Rattle.text.proofs.Tests.{by-test}
+use Rattle.text.proofs.Tests.{less-or}
 use Rattle.items.specs.Items.{after, itemsIn, itemsOf, nthOf, textItem, numberOf, Handed}
 use Rattle.items.specs.Place.{behind, nowhere, placeFrom, Placed}
 use Rattle.items.specs.declared.Place.{Place}
@@ -104,7 +104,7 @@ item-at s k m p e h = rw (e, drop-cons s p 0 h, add-one, drop-drop)
 module _ {s : Bytes} {w n i p f : ℕ} (d : Walked s w n i p f) where
   -- where the rest has no items, there is no answer
   broken : itemsIn (n - i) (drop p s) ≡ none → textItem s w ≡ none
-  broken z = by-test (ltb i w) (λ t. d .early (ltb→lt i w t) ∙ rw z) (λ t. d .late (nltb→le i w t) ∙ rw z)
+  broken z = less-or i w (λ h. d .early h ∙ rw z) (λ h. d .late h ∙ rw z)
 
   pub no-length : i < n → length s ≤ p → textItem s w ≡ none
   no-length h z = broken (rw (let e : n - i ≡ suc (n - (i + 1)) = omega arith in e, drop-of-length-le s {i = p} z))

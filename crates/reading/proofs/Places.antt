@@ -7,11 +7,11 @@ use native.Mathlib.Omega.{arith}
 use native.Mathlib.Numerals.{add-one}
 use lib.ListN.{length, take, drop, length-drop}
 use Rattle.text.specs.Text.{Bytes}
+use Rattle.text.proofs.Tests.{less-or}
 use Rattle.format.specs.Read.{Outcome, cut, fieldAnswer}
 use Rattle.frame.specs.Frame.{nextMark}
 use Rattle.frame.proofs.Parts.{cut-at, cut-none, cut-rest, next-from, next-within}
 use Rattle.table.specs.Table.{markOf, countOf, fieldType, TypeOf}
-use Rattle.table.proofs.Rows.{less-or}
 use Rattle.table.proofs.Arrays.{count-few}
 use Rattle.reading.specs.Steps.{fieldsBy, FirstRefused}
 use Rattle.reading.proofs.Fields.{Passed, passed-none, passed-all, passed-not, passed-on, after-field}

@@ -10,14 +10,14 @@ use lib.Dec.{T}
 use mir.Facts.{and-yes}
 use borrow.Author.Tests.{le-leb}
 use Rattle.text.specs.Text.{Bytes, Ident, isOf}
-use Rattle.text.proofs.Tests.{and-stop, cond-yes, T-false, at-every, allBelow, below}
+use Rattle.text.proofs.Tests.{and-stop, cond-yes, less-or, T-false, at-every, allBelow, below}
 use Rattle.format.specs.Kinds.{Kind, Field, Text, Identity, OrEmpty, fieldsOf, identityFields, identityKinds, among}
 use Rattle.format.specs.Build.{empty}
 use Rattle.format.specs.Read.{Outcome, fieldAnswer, identityAnswer}
 use Rattle.format.proofs.Table.{identity-row}
 use Rattle.format.proofs.Outcomes.{Honest}
 use Rattle.table.specs.Table.{fieldsAt, fieldType, TypeOf, isIdentity, mayBeEmpty, permitted, rowAmong}
-use Rattle.table.proofs.Rows.{less-or, kindAt, in-row, among-row}
+use Rattle.table.proofs.Rows.{kindAt, in-row, among-row}
 use Rattle.table.proofs.Codes.{codeCount, past-codes, identity-codes}
 use Rattle.reading.specs.Reading.{answerOf}
 use Rattle.reading.specs.Steps.{textIn}

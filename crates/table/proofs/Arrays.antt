@@ -2,17 +2,17 @@
 -- Assumes nothing.
 use Prim.Native.Nat.{ℕ, suc, _+_, _≤_, _<_}
 use mathlib.Core.Path.{_≡_, refl, sym, ap, _∙_}
-use mathlib.Core.List.{List, [], _∷_, map, flatten}
+use mathlib.Core.List.{List, [], map, flatten}
 use native.Mathlib.Omega.{arith}
 use native.Mathlib.Numerals.{add-one}
 use lib.ListN.{length, take, getD, List·getD-eq-default, List·getD-map}
 use lib.Seq.{getD-take}
 use lib.Dec.{ltb, ltb→lt, lit<}
 use Rattle.text.specs.Text.{Ident}
-use Rattle.text.proofs.Tests.{at-every, allBelow, below}
+use Rattle.text.proofs.Tests.{less-or, at-every, allBelow, below}
 use Rattle.format.specs.Kinds.{Field, Text, name, fieldsOf, allKinds}
 use Rattle.table.specs.Table.{missingRow, ofRow, nameOf, fieldsAt, countOf, fieldType, TypeOf}
-use Rattle.table.proofs.Rows.{less-or, in-row, past-rows}
+use Rattle.table.proofs.Rows.{in-row, past-rows}
 use Rattle.table.proofs.Codes.{codeCount, codeOf}
 use Rattle.table.proofs.Pieces.{places, Piece, piece, piece-length, piece-entry}
 

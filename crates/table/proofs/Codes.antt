@@ -2,17 +2,17 @@
 -- Assumes nothing.
 use Prim.Native.Nat.{ℕ, _+_, _≤_, _<_}
 use mathlib.Core.Path.{_≡_, refl, sym, ap, _∙_}
-use mathlib.Core.Bool.{Bool, true, false, cond, _||_, Bool·beq, and-false}
+use mathlib.Core.Bool.{Bool, false, cond, _||_, Bool·beq, and-false}
 use mathlib.Core.List.{List, [], _∷_}
 use native.Mathlib.Omega.{arith}
 use lib.ListN.{length, List·getD-eq-default}
 use lib.Dec.{T, leb, eqb, eqb→eq}
 use borrow.Author.Tests.{ne-eqb, lt-leb}
 use Rattle.text.specs.Text.{between, TextType, Ident, Timestamp, Point, Sig, Mac, Print, Hex}
-use Rattle.text.proofs.Tests.{allBelow, below}
+use Rattle.text.proofs.Tests.{less-or, allBelow, below}
 use Rattle.format.specs.Kinds.{Kind, Field, Text, Identity, OrEmpty}
 use Rattle.table.specs.Table.{rowOf, fieldTypes, fieldType, isIdentity, mayBeEmpty, permitted}
-use Rattle.table.proofs.Rows.{less-or, same-bools}
+use Rattle.table.proofs.Rows.{same-bools}
 
 -- the number of codes, which is no code
 abbrev pub codeCount : ℕ

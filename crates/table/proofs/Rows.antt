@@ -8,16 +8,13 @@ use mathlib.Core.List.{List, [], _∷_, map}
 use native.Mathlib.Omega.{arith}
 use lib.ListN.{getD, List·getD-eq-default, List·getD-map}
 use lib.Seq.{drop-cons}
-use lib.Dec.{T, eqb, ltb, eqb→eq, ltb→lt, nltb→le}
+use lib.Dec.{T, eqb, ltb, eqb→eq, ltb→lt}
 use borrow.Author.Tests.{ne-eqb}
 use Rattle.text.specs.Text.{same, allOf}
-use Rattle.text.proofs.Tests.{allBelow, below, by-test, same→eq}
+use Rattle.text.proofs.Tests.{allBelow, below, less-or, same→eq}
 use Rattle.format.specs.Kinds.{Kind, SMMAN, name, allKinds, pubkeyKinds, among}
 use Rattle.format.proofs.Table.{name-inj, every-kind}
 use Rattle.table.specs.Table.{rowOf, missingRow, rowFor, ofRow, isPubkey, rowAmong}
-
-pub less-or {ℓ} : {X : Type ℓ} (a b : ℕ) → (a < b → X) → (b ≤ a → X) → X
-less-or a b f g = by-test (ltb a b) (λ h. f (ltb→lt a b h)) (λ h. g (nltb→le a b h))
 
 -- ---- the kind of a row
 
@@ -64,10 +61,6 @@ pub record Found (o : Option Kind) (row : ℕ) : Type 0 where
 pub found : (o : Option Kind) (row : ℕ) → row ≡ rowFor o → (row ≡ missingRow → ⊥) → Found o row
 found none row e h = absurd (h e)
 found (some k) row e h = record { kind = k; is = refl; at = e }
-
-pub not-found : (o : Option Kind) (row : ℕ) → row ≡ rowFor o → row ≡ missingRow → o ≡ none
-not-found none row e h = refl
-not-found (some k) row e h = absurd (omega (arith, row-small k))
 
 -- ---- tests by rows
 

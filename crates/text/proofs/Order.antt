@@ -9,17 +9,14 @@ use native.Mathlib.Omega.{arith}
 use native.Mathlib.Numerals.{add-one}
 use lib.ListN.{length, drop, getD, drop-of-length-le}
 use lib.Seq.{drop-cons}
-use lib.Dec.{ltb, ltb→lt, nltb→le}
+use lib.Dec.{ltb}
 use borrow.Author.Tests.{lt-ltb, le-ltb, eq-eqb, ne-eqb}
 use Rattle.text.specs.Text.{Bytes}
-use Rattle.text.proofs.Tests.{by-test}
+use Rattle.text.proofs.Tests.{less-or}
 use Rattle.text.specs.Later.{after}
 
 pub by-order {ℓ} : {X : Type ℓ} (x y : ℕ) → (x < y → X) → (x ≡ y → X) → (y < x → X) → X
-by-order x y f g h =
-    by-test (ltb x y)
-    (λ t. f (ltb→lt x y t))
-    (λ t. by-test (ltb y x) (λ u. h (ltb→lt y x u)) (λ u. g (omega (arith, nltb→le x y t, nltb→le y x u))))
+by-order x y f g h = less-or x y f (λ l. less-or y x h (λ k. g (omega arith)))
 
 -- ---- the first part
 

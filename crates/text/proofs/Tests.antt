@@ -1,13 +1,13 @@
 -- Tests in a row: the first that decides.
 -- Assumes nothing.
-use Prim.Native.Nat.{ℕ, zero, suc, _+_, _≤_, _<_}
+use Prim.Native.Nat.{ℕ, zero, suc, _≤_, _<_}
 use mathlib.Core.Path.{_≡_, refl, sym, ap₂, subst}
 use mathlib.Core.Logic.{⊎-elim}
 use mathlib.Core.Bool.{Bool, true, false, not, cond, _&&_, _||_}
 use mathlib.Core.List.{List, [], _∷_, _++_, map}
 use native.Mathlib.Nat.{le-of-suc-le-suc, not-suc-le-zero}
 use lib.ListN.{getD}
-use lib.Dec.{T, leb, eqb, leb→le, eqb→eq, eqb-refl}
+use lib.Dec.{T, leb, ltb, eqb, leb→le, ltb→lt, nltb→le, eqb→eq, eqb-refl}
 use mir.Facts.{and-yes, yes-and, or-yes}
 use Rattle.text.specs.Text.{Bytes, every, allOf, same, between, oneOf}
 
@@ -53,6 +53,9 @@ cond-no false x y t = refl
 pub by-test {ℓ} : {X : Type ℓ} (b : Bool) → (T b → X) → (T (not b) → X) → X
 by-test true f g = f tt
 by-test false f g = g tt
+
+pub less-or {ℓ} : {X : Type ℓ} (a b : ℕ) → (a < b → X) → (b ≤ a → X) → X
+less-or a b f g = by-test (ltb a b) (λ h. f (ltb→lt a b h)) (λ h. g (nltb→le a b h))
 
 pub between-low : (low high n : ℕ) → T (between low high n) → low ≤ n
 between-low low high n t = leb→le low n (and-yes (leb low n) (leb n high) t .0)
