@@ -27,7 +27,7 @@ use Rattle.format.specs.Read.{Outcome, accepted, refused, lastOr, readRe
 use Rattle.format.specs.Files.{lineFeed, upTo, Line, walkFrom, walk}
 use Rattle.format.specs.Damage.{Differ, Accepted, Refused, Damaged, Caught, AllCaught}
 use Rattle.format.proofs.Table.{all-among}
-use Rattle.format.proofs.Parts.{built-last, built-check}
+use Rattle.format.proofs.Parts.{last-at, built-last, built-check}
 use Rattle.format.proofs.Exactly.{record-exact}
 use Rattle.format.proofs.Lines.{Feed, lineTo, at-end, at-line, at-unfinished, by-place}
 
@@ -47,13 +47,6 @@ part-law R z p n k x y f =
 
 part-bytes : (p n : ℕ) (s : Bytes) → AreBytes s → AreBytes (part p n s)
 part-bytes p n s h k = part-law (λ c d. c < 256) (omega arith) p n k s s (λ _. h (p + k))
-
-last-after : (c : ℕ) (s : Bytes) → getD (c ∷ s) (length s) 0 ≡ lastOr c s
-last-after c [] = refl
-last-after c (d ∷ s) = last-after d s
-
-last-at : (s : Bytes) (k : ℕ) → length s ≡ suc k → getD s k 0 ≡ lastOr 0 s
-last-at s k e = rw e at (last-after 0 s)
 
 -- where no byte that differs is c, the first c stands at one place
 upTo-length : (c : ℕ) (x y : Bytes) → length x ≡ length y → ((k : ℕ) → Differ x y k → (getD x k 0 ≢ c) × (getD y k 0 ≢ c))

@@ -1,13 +1,13 @@
 -- Cutting at a mark undoes joining, and joining undoes cutting: the title, the mark, the body, the check and the fields of a
 -- built record, and the record that is built of such parts.
 -- Assumes nothing.
-use Prim.Native.Nat.{ℕ, _+_, _-_}
+use Prim.Native.Nat.{ℕ, suc, _+_, _-_}
 use mathlib.Core.Path.{_≡_, refl, sym, ap, _∙_}
 use mathlib.Core.Bool.{Bool, true, false, not, cond}
 use mathlib.Core.List.{List, [], _∷_, _++_, append-assoc}
 use native.Mathlib.Omega.{arith}
 use lib.Dec.{T, T-not, eqb, eqb→eq, eqb-refl}
-use lib.ListN.{length, drop, length-append, take-append-drop}
+use lib.ListN.{length, drop, getD, length-append, take-append-drop}
 use lib.Seq.{take-at, drop-at}
 use mir.Facts.{and-yes, yes-and, yes-eqb, no-eqb}
 use Rattle.crc16.specs.Crc.{crcOf}
@@ -20,6 +20,15 @@ use Rattle.format.specs.Kinds.{Kind, name, mark}
 use Rattle.format.specs.Build.{joined, WithoutAll, withCheck, recordOf}
 use Rattle.format.specs.Read.{isMark, title, markAfter, body, check, lastOr, onFirst, cut, fieldsIn}
 use Rattle.format.proofs.Table.{mark-is-mark, mark-no-character, name-markless, name-plain}
+
+-- ---- the last byte
+
+pub last-after : (c : ℕ) (s : Bytes) → getD (c ∷ s) (length s) 0 ≡ lastOr c s
+last-after c [] = refl
+last-after c (d ∷ s) = last-after d s
+
+pub last-at : (s : Bytes) (k : ℕ) → length s ≡ suc k → getD s k 0 ≡ lastOr 0 s
+last-at s k e = rw e at (last-after 0 s)
 
 -- ---- joined after cut
 

@@ -1,11 +1,10 @@
 -- The body and the check of a record, and the tests of numbers 3 and 4 in a row.
 -- Assumes nothing.
-use Prim.Native.Nat.{ℕ, suc, _-_, _<_}
-use mathlib.Core.Path.{_≡_, refl, _∙_}
+use Prim.Native.Nat.{ℕ, _-_}
+use mathlib.Core.Path.{_≡_, _∙_}
 use mathlib.Core.Bool.{true, false, cond}
-use mathlib.Core.List.{[], _∷_}
 use native.Mathlib.Omega.{arith}
-use lib.ListN.{length, take, drop, getD}
+use lib.ListN.{length, take, drop}
 use borrow.Author.Tests.{eq-eqb, ne-eqb}
 use Rattle.crc16.specs.Crc.{crcOf}
 use Rattle.text.specs.Text.{Bytes, same, isHex}
@@ -22,20 +21,6 @@ module _ (s : Bytes) (n : ℕ) (e : n ≡ length s - 4) where
 
   pub check-part : take (length s - n) (drop n s) ≡ check s
   check-part = rest-all s n ∙ rw e
-
--- ---- the last byte
-
-pub last-get : (c : ℕ) (s : Bytes) → 0 < length s → lastOr c s ≡ getD s (length s - 1) 0
-last-get c [] h = absurd (omega arith)
-last-get c (d ∷ []) h = refl
-last-get c (d ∷ e ∷ s) h =
-    let a : suc (suc (length s)) - 1 ≡ suc (length s) = omega arith in
-    let b : suc (length s) - 1 ≡ length s = omega arith in
-    rw a (rw b at (last-get d (e ∷ s) (omega arith)))
-
-pub last-empty : (s : Bytes) → length s ≡ 0 → lastOr 0 s ≡ 0
-last-empty [] h = refl
-last-empty (c ∷ s) h = absurd (omega arith)
 
 -- ---- the tests in a row: t and b are the check and the body as the code holds them
 

@@ -6,7 +6,7 @@ use mathlib.Core.Bool.{Bool, true, false, true≢false, false≢true, cond, not,
 use mathlib.Core.List.{List, [], _∷_}
 use native.Mathlib.Omega.{arith}
 use lib.ListN.{length, getD}
-use lib.Dec.{T}
+use lib.Dec.{T, eqb, eqb·suc-zero}
 use mir.Facts.{and-yes}
 use borrow.Author.Tests.{le-leb}
 use Rattle.text.specs.Text.{Bytes, Ident, isOf}
@@ -26,13 +26,9 @@ use Rattle.reading.proofs.Answers.{taken, untaken}
 
 -- ---- empty or not, by the length
 
-pub empty-yes : (f : Bytes) → length f ≡ 0 → empty f ≡ true
-empty-yes [] h = refl
-empty-yes (c ∷ f) h = absurd (omega arith)
-
-pub empty-no : (f : Bytes) → (length f ≡ 0 → ⊥) → empty f ≡ false
-empty-no [] h = absurd (h refl)
-empty-no (c ∷ f) h = refl
+pub empty-is : (f : Bytes) → empty f ≡ eqb (length f) 0
+empty-is [] = refl
+empty-is (c ∷ f) = sym (eqb·suc-zero (length f))
 
 -- ---- what a field type answers
 

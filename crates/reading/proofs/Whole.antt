@@ -1,27 +1,23 @@
 -- The fields together: number 8, by the row of the kind.
 -- Assumes nothing.
 use Prim.Native.Nat.{ℕ, _≤_, _<_}
-use mathlib.Core.Path.{_≡_, refl, sym}
+use mathlib.Core.Path.{_≡_, sym}
 use mathlib.Core.Bool.{true, false, cond, Bool·beq}
-use mathlib.Core.List.{List, [], _∷_}
+use mathlib.Core.List.{List, []}
 use native.Mathlib.Omega.{arith}
 use lib.ListN.{length, drop, getD}
-use lib.Dec.{eqb, eqb·suc-zero}
+use lib.Dec.{eqb}
 use Rattle.text.specs.Text.{Bytes}
 use Rattle.format.specs.Kinds.{Kind, mark, pubkeyKinds, among}
-use Rattle.format.specs.Build.{empty}
 use Rattle.format.specs.Read.{body, fieldsIn, wholeAnswer}
 use Rattle.frame.specs.Frame.{partStart, partOf}
 use Rattle.frame.proofs.Parts.{parts-from, parts-past, field-part}
 use Rattle.table.specs.Table.{rowOf, markOf, isPubkey}
 use Rattle.table.proofs.Rows.{of-kind}
 use Rattle.reading.specs.Reading.{wholeNo}
+use Rattle.reading.proofs.Types.{empty-is}
 
 -- ---- the tests in a row
-
-empty-is : (f : Bytes) → empty f ≡ eqb (length f) 0
-empty-is [] = refl
-empty-is (c ∷ f) = sym (eqb·suc-zero (length f))
 
 module _ (row : ℕ) (issuer signature : Bytes) where
   pub whole-other : isPubkey row ≡ false → wholeNo row issuer signature ≡ 0
