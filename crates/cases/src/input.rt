@@ -1,110 +1,68 @@
 // The cases, as compare/ writes them: the call, a number, the lengths of three byte strings, all big endian, and then the
 // strings. A call plus 128 has no strings of its own: they are the front of those of the case before it.
-use libc::STDIN_FILENO;
-ghost use Prim.Native.Nat.{_<_};
+use std::num::wrapping_add_usize;
 
-const REPEATED: u8 = 128;
+const HEAD: usize = 15;
+const REPEATED: usize = 128;
 
-// One case: the call (0 where there are no more), its number, and the lengths of a, b and c in the data.
+// One case: the call (0 where there are no more), its number, where its strings a, b and c begin in the file and where c
+// ends, and where the next case begins.
 pub(crate) struct Case {
     pub op: u8,
-    pub n: u64,
+    pub n: usize,
     pub a: usize,
     pub b: usize,
     pub c: usize,
+    pub end: usize,
+    pub next: usize,
 }
 
-fn over() -> Case {
-    Case {
-        op: 0,
-        n: 0,
-        a: 0,
-        b: 0,
-        c: 0,
+// The bytes from a place to another, and none where they are not all there.
+pub(crate) fn cut<'a>(s: &'a [u8], from: usize, to: usize) -> &'a [u8] {
+    if to <= s.len() {
+        if from <= to {
+            return &s[from..to];
+        }
     }
+    &s[0..0]
 }
 
-fn byte(s: &[u8], at: usize) -> u8 {
-    if at < s.len() {
-        return s[at];
+// The bytes from a place to another as a number, of which the last eight count.
+pub(crate) fn number(s: &[u8], from: usize, to: usize) -> usize {
+    let part = cut(s, from, to);
+    let mut n: usize = 0;
+    let mut i: usize = 0;
+    while i < part.len() {
+        n = n % 72057594037927936 * 256 + (part[i] as usize);
+        i += 1;
     }
-    0
+    n
 }
 
-fn shifted(n: u64, b: u8) -> u64 {
-    n % 72057594037927936 * 256 + (b as u64)
-}
-
-// Eight bytes from a place on, as a number.
-pub(crate) fn number(s: &[u8], at: usize) -> u64 {
-    let rest = part(s, at, 8);
-    let high = shifted(
-        shifted(
-            shifted(shifted(0, byte(rest, 0)), byte(rest, 1)),
-            byte(rest, 2),
-        ),
-        byte(rest, 3),
-    );
-    shifted(
-        shifted(
-            shifted(shifted(high, byte(rest, 4)), byte(rest, 5)),
-            byte(rest, 6),
-        ),
-        byte(rest, 7),
-    )
-}
-
-fn short(high: u8, low: u8) -> usize
-    ensures { λ r. ⌜ r < 65536 ⌝ }
-{
-    (high as usize) * 256 + (low as usize)
-}
-
-// The part of so many bytes from a place on, and an empty one where they are not there.
-pub(crate) fn part<'a>(s: &'a [u8], from: usize, len: usize) -> &'a [u8] {
-    if s.len() < from {
-        return &s[0..0];
+// The case at a place of the file; `before` is where the strings of the case before it begin. No sum wraps in a file that
+// fits into memory.
+pub(crate) fn case_at(file: &[u8], at: usize, before: usize) -> Case {
+    let own = wrapping_add_usize(at, HEAD);
+    let head = cut(file, at, own);
+    let call = number(head, 0, 1);
+    let mut a = own;
+    if REPEATED <= call {
+        a = before;
     }
-    if s.len() - from < len {
-        return &s[0..0];
-    }
-    let end = from + len;
-    &s[from..end]
-}
-
-// Fills the front of the data, and answers whether so many bytes came.
-fn read(data: &mut [u8], n: usize) -> bool {
-    if data.len() < n {
-        return false;
-    }
-    io::read_full(STDIN_FILENO, &mut data[..n]) == n
-}
-
-// How many of the strings' bytes stand in the case itself.
-fn own(first: u8, all: usize) -> usize {
-    if first < REPEATED {
-        return all;
-    }
-    0
-}
-
-pub(crate) fn next_case(data: &mut [u8]) -> Case {
-    let mut head = [0u8; 15];
-    if io::read_full(STDIN_FILENO, &mut head) != 15 {
-        return over();
-    }
-    let a = short(head[9], head[10]);
-    let b = short(head[11], head[12]);
-    let c = short(head[13], head[14]);
-    let n = number(&head, 1);
-    if !read(data, own(head[0], a + b + c)) {
-        return over();
+    let b = wrapping_add_usize(a, number(head, 9, 11));
+    let c = wrapping_add_usize(b, number(head, 11, 13));
+    let end = wrapping_add_usize(c, number(head, 13, 15));
+    let mut next = end;
+    if REPEATED <= call {
+        next = own;
     }
     Case {
-        op: head[0] % REPEATED,
-        n,
+        op: (call % REPEATED) as u8,
+        n: number(head, 1, 9),
         a,
         b,
         c,
+        end,
+        next,
     }
 }

@@ -4,86 +4,67 @@ mod calls;
 mod input;
 mod names;
 mod outputs;
-mod parts;
-mod places;
+mod records;
 mod say;
+mod values;
 mod walks;
 
-// How often each call was made, and how often each number was given back.
-struct Counts {
-    calls: [u64; 128],
-    numbers: [u64; 14],
+use libc::STDIN_FILENO;
+ghost use mathlib.Core.Path.{_≡_};
+ghost use lib.ListN.{length};
+
+// Room for the case file. The length is stated because a proof that looked at this many zeros would be slow.
+fn room() -> [u8; 1310720]
+    ensures { λ r. ⌜ 1310720 ≡ length r ⌝ }
+{
+    [0; 1310720]
 }
 
-fn more(n: u64) -> u64 {
-    std::num::wrapping_add_u64(n, 1)
+// One more at the place of a call, which is its number, or at that of what it gave back, which is 128 and that number.
+fn count(counts: &mut [usize; 384], at: usize) {
+    let i = at % 384;
+    counts[i] = std::num::wrapping_add_usize(counts[i], 1);
 }
 
-// `number` is 255 where the call gives none back.
-fn counted(counts: Counts, op: u8, number: u8) -> Counts {
-    let mut next = counts;
-    let i = op as usize;
-    if i < 128 {
-        next.calls[i] = more(next.calls[i]);
-    }
-    let j = number as usize;
-    if j < 14 {
-        next.numbers[j] = more(next.numbers[j]);
-    }
-    next
-}
-
-// Nothing for a number that no call has.
-fn print_call(op: u8, n: u64) {
-    if n == 0 {
-        return;
-    }
-    say::text(b"calls ");
-    names::print_call(op);
-    say::space();
-    say::number(n);
-    say::line_feed();
-}
-
-fn print_calls(counts: Counts) {
-    for i in 1..128usize {
-        print_call(i as u8, counts.calls[i]);
+// How often each call was made, and nothing for a number that no call has; then how often each number was given back.
+fn print_counts(counts: &[usize; 384]) {
+    for i in 1..142usize {
+        let n = counts[i];
+        if i >= 128 {
+            say::text(b"number");
+            say::then(i - 128);
+            say::end_line(n);
+        } else if n != 0 {
+            say::text(b"calls ");
+            names::print_call(i);
+            say::end_line(n);
+        }
     }
 }
 
-fn print_number(j: usize, n: u64) {
-    say::text(b"number ");
-    say::number(j as u64);
-    say::space();
-    say::number(n);
-    say::line_feed();
-}
-
-fn print_numbers(counts: Counts) {
-    for j in 0..14usize {
-        print_number(j, counts.numbers[j]);
-    }
-}
-
-// No more cases than this are read, so that the program ends whatever it is given.
-const MOST: u32 = 1000000;
-
-fn main() {
-    let mut data = [0u8; 196608];
-    let mut counts = Counts {
-        calls: [0; 128],
-        numbers: [0; 14],
-    };
-    let mut i: u32 = 0;
-    while i < MOST {
-        let case = input::next_case(&mut data);
+// No file has more cases than bytes.
+fn run_all(file: &[u8]) {
+    let mut counts = [0usize; 384];
+    let mut at: usize = 0;
+    let mut before: usize = 0;
+    let mut k: usize = 0;
+    while k < file.len() {
+        let case = input::case_at(file, at, before);
         if case.op == 0 {
             break;
         }
-        let number = calls::run(case, &data);
-        counts = counted(counts, case.op, number);
-        i += 1;
+        let no = calls::run(case, file);
+        count(&mut counts, case.op as usize);
+        count(&mut counts, 128 + (no as usize));
+        at = case.next;
+        before = case.a;
+        k += 1;
     }
-    print_calls(counts);
-    print_numbers(counts);
+    print_counts(&counts);
+}
+
+fn main() {
+    let mut file = room();
+    let n = io::read_full(STDIN_FILENO, &mut file);
+    run_all(&file[..n]);
 }

@@ -1,33 +1,77 @@
-// The calls that write a piece or a line of the list into a lent output.
-use crate::calls;
+// The calls that write into a lent output: records, texts, pieces, and the lines of the list.
+use crate::calls::Call;
+use crate::calls::NONE;
 use crate::input;
 use crate::say;
 
-// The place after a piece, and the check of the whole output.
-fn place(next: usize, out: &[u8]) -> u8 {
-    say::then(next);
-    say::check(crc16::crc_of(out));
-    say::line_feed();
-    calls::NONE
+// A record of 64 fields at the most. The lengths of the fields stand in c, eight bytes each.
+fn build(kind: &[u8], bytes: &[u8], c: &[u8], out: &mut [u8]) -> put::Written {
+    let mut lens = [0usize; 64];
+    let mut k: usize = 0;
+    while k < 64 {
+        if c.len() / 8 <= k {
+            break;
+        }
+        lens[k] = input::number(c, k * 8, k * 8 + 8);
+        k += 1;
+    }
+    building::build(kind, bytes, &lens[..k], out)
 }
 
-pub(crate) fn write(op: u8, a: &[u8], c: &[u8], out: &mut [u8]) -> u8 {
-    let first = input::number(c, 0) as usize;
-    let second = input::number(c, 8) as usize;
-    if op == 52 {
-        let after_piece = put::put(out, first, a);
-        return place(after_piece, out);
+// The place after a piece, as an answer that has no number.
+fn after_piece(place: usize) -> put::Written {
+    put::Written {
+        no: NONE,
+        field: 0,
+        len: place,
     }
-    if op == 53 {
-        let after_byte = put::put_byte(out, first, (second % 256) as u8);
-        return place(after_byte, out);
+}
+
+fn write_into(call: Call, a: &[u8], b: &[u8], c: &[u8], out: &mut [u8]) -> put::Written {
+    let op = call.op;
+    let third = input::number(c, 16, 24);
+    let fourth = (input::number(c, 24, 32) % 256) as u8;
+    match op {
+        17 => build(a, b, c, out),
+        18 => agreement::shared_info(a, out),
+        19 => agreement::module_text(a, out),
+        20 => agreement::centre_text(a, out),
+        52 => after_piece(put::put(out, call.first, a)),
+        53 => after_piece(put::put_byte(out, call.first, (call.second % 256) as u8)),
+        54 => list_text::line_text(call.first, call.second, third, fourth, out),
+        _ => list_text::end_text(call.first, call.second, out),
     }
-    if op == 54 {
-        let len = input::number(c, 16) as usize;
-        let no = (input::number(c, 24) % 256) as u8;
-        let line = list_text::line_text(first, second, len, no, out);
-        return calls::print_text(line, out);
+}
+
+// The answer, and the check of the whole output; of a record that was built also its text.
+fn write_to(call: Call, a: &[u8], b: &[u8], c: &[u8], out: &mut [u8]) -> u8 {
+    let w = write_into(call, a, b, c, out);
+    if w.no == NONE {
+        say::then(w.len);
+    } else {
+        say::outcome(w.no, w.field, w.len);
     }
-    let end = list_text::end_text(first, second, out);
-    calls::print_text(end, out)
+    say::check(crc16::crc_of(out));
+    if call.op == 17 {
+        say::then_text(input::cut(out, 0, w.len));
+    }
+    w.no
+}
+
+// The call is lent an output of n bytes, 1,024 at the most, which holds something before.
+pub(crate) fn write(call: Call, a: &[u8], b: &[u8], c: &[u8]) -> u8 {
+    let mut space = [0u8; 1024];
+    let mut i: usize = 0;
+    while i < 1024 {
+        space[i] = ((i % 256 * 7 + 3) % 256) as u8;
+        i += 1;
+    }
+    let room = call.n % 1025;
+    write_to(call, a, b, c, &mut space[..room])
+}
+
+pub(crate) fn refuse(call: Call) -> u8 {
+    let refused = put::refuse(call.byte, (call.first % 256) as u8);
+    say::outcome(refused.no, refused.field, refused.len);
+    NONE
 }

@@ -5,7 +5,7 @@ pub(crate) fn text(s: &[u8]) {
     io::write_all(STDOUT_FILENO, s);
 }
 
-pub(crate) fn space() {
+fn space() {
     text(b" ");
 }
 
@@ -13,23 +13,16 @@ pub(crate) fn line_feed() {
     text(b"\n");
 }
 
-pub(crate) fn number(n: u64) {
-    io::print_decimal(STDOUT_FILENO, n);
-}
-
 // A space and a number.
 pub(crate) fn then(n: usize) {
     space();
-    number(n as u64);
+    io::print_decimal(STDOUT_FILENO, n as u64);
 }
 
-// A test's answer, which ends its line.
-pub(crate) fn test(accepted: bool) {
-    if accepted {
-        text(b" 1\n");
-    } else {
-        text(b" 0\n");
-    }
+// The last number of a line.
+pub(crate) fn end_line(n: usize) {
+    then(n);
+    line_feed();
 }
 
 // A 16-bit number in four hexadecimal characters.
@@ -38,25 +31,30 @@ pub(crate) fn check(n: u16) {
     text(&text::check_text(n));
 }
 
-fn byte(b: u8) {
-    text(&[text::hex_digit(b / 16), text::hex_digit(b % 16)]);
+// A number of document 01's, a field's number, and what comes with them.
+pub(crate) fn outcome(no: u8, field: u8, n: usize) {
+    then(no as usize);
+    then(field as usize);
+    then(n);
 }
 
-// Bytes in hexadecimal.
-pub(crate) fn bytes(s: &[u8]) {
-    let mut i = 0;
-    while i < s.len() {
-        byte(s[i]);
-        i += 1;
+// A space and the bytes, if there are any.
+pub(crate) fn then_text(s: &[u8]) {
+    if s.len() != 0 {
+        space();
+        text(s);
     }
 }
 
-// A part's length, and its bytes in hexadecimal if there are any, which end the line.
+// A part's length, and its bytes in hexadecimal if there are any.
 pub(crate) fn part(s: &[u8]) {
     then(s.len());
     if s.len() != 0 {
         space();
-        bytes(s);
     }
-    line_feed();
+    let mut i = 0;
+    while i < s.len() {
+        text(&[text::hex_digit(s[i] / 16), text::hex_digit(s[i] % 16)]);
+        i += 1;
+    }
 }

@@ -1,59 +1,45 @@
 // Files line by line, and their list.
-use crate::calls;
-use crate::input;
+use crate::calls::NONE;
 use crate::say;
 ghost use mathlib.Core.Path.{_≡_};
 ghost use Rattle.format.specs.Files.{lineAt};
 ghost use Rattle.files.specs.Walk.{lineSaid, nextOf};
 
-// What stands at a place, and the number of the line's answer.
-fn print_line(line: files::Line) -> u8 {
+// What stands at a place, and the number of the line's answer. A step also names the row of the line's kind.
+pub(crate) fn print_line(line: files::Line, is_step: bool) -> u8 {
     match line {
         files::Line::Finished { place } => {
             say::text(b" finished");
             say::then(place);
             say::then(0);
             say::then(place);
-            calls::NONE
+            NONE
         }
         files::Line::Read {
             no,
             field,
-            kind: _,
+            kind,
             start,
             len,
             next,
         } => {
             say::text(b" read");
-            say::then(no as usize);
-            say::then(field as usize);
-            say::then(start);
+            say::outcome(no, field, start);
             say::then(len);
             say::then(next);
+            if is_step {
+                say::then(kind);
+            }
             no
         }
     }
 }
 
-pub(crate) fn line(line: files::Line) -> u8 {
-    let no = print_line(line);
-    say::line_feed();
-    no
-}
-
-// The row of a line's kind too, which the lines of the plain call leave out.
-fn print_step(step: files::Line) -> u8 {
-    let no = print_line(step);
-    if let files::Line::Read { kind, .. } = step {
-        say::then(kind);
-    }
-    no
-}
-
-fn step(step: files::Line) -> u8 {
-    let no = print_step(step);
-    say::line_feed();
-    no
+pub(crate) fn count(file: &[u8]) -> u8 {
+    let totals = files::count(file);
+    say::then(totals.lines);
+    say::then(totals.accepted);
+    NONE
 }
 
 fn next_of(line: files::Line) -> usize {
@@ -73,19 +59,18 @@ fn second_line(file: &[u8]) -> files::Line
 }
 
 // Every step from the start until the file is finished, and two at least. No file has more lines than bytes.
-fn walk(file: &[u8]) -> u8 {
-    print_step(files::step_from(file, 0));
+pub(crate) fn walk(file: &[u8]) -> u8 {
+    print_line(files::step_from(file, 0), true);
     let mut step = second_line(file);
     let mut k: usize = 0;
     while k <= file.len() {
-        if print_step(step) == calls::NONE {
+        if print_line(step, true) == NONE {
             break;
         }
         step = files::step_from(file, next_of(step));
         k += 1;
     }
-    say::line_feed();
-    calls::NONE
+    NONE
 }
 
 // The list, on lines of its own, and how many lines were printed.
@@ -94,23 +79,5 @@ pub(crate) fn list(file: &[u8]) -> u8 {
     let lines = list_printing::print_list(file);
     say::text(b"printed");
     say::then(lines);
-    say::line_feed();
-    calls::NONE
-}
-
-fn refuse(no: u8, field: u8) -> u8 {
-    let refused = put::refuse(no, field);
-    say::then(refused.no as usize);
-    say::then(refused.field as usize);
-    say::then(refused.len);
-    say::line_feed();
-    calls::NONE
-}
-
-pub(crate) fn run(op: u8, n: u64, a: &[u8], c: &[u8]) -> u8 {
-    match op {
-        48 => refuse((n % 256) as u8, (input::number(c, 0) % 256) as u8),
-        49 => walk(a),
-        _ => step(files::step_from(a, n as usize)),
-    }
+    NONE
 }

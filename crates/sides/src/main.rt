@@ -4,24 +4,34 @@
 // (number, field number, row of the kind), and the fields that the field calls hand back.
 use libc::STDIN_FILENO;
 use libc::STDOUT_FILENO;
+ghost use mathlib.Core.Path.{_≡_};
+ghost use lib.ListN.{length};
 
 fn print(text: &[u8]) {
     io::write_all(STDOUT_FILENO, text);
 }
 
+fn space() {
+    print(b" ");
+}
+
+// A space and a number.
+fn then(n: usize) {
+    space();
+    io::print_decimal(STDOUT_FILENO, n as u64);
+}
+
 fn print_answer(call: &[u8], answer: reading::Answer) {
     print(call);
-    io::print_decimal(STDOUT_FILENO, answer.no as u64);
-    print(b" ");
-    io::print_decimal(STDOUT_FILENO, answer.field as u64);
-    print(b" ");
-    io::print_decimal(STDOUT_FILENO, answer.kind as u64);
+    then(answer.no as usize);
+    then(answer.field as usize);
+    then(answer.kind);
 }
 
 fn print_field(n: usize, field: &[u8]) {
-    print(b"  ");
-    io::print_decimal(STDOUT_FILENO, n as u64);
-    print(b" ");
+    space();
+    then(n);
+    space();
     print(field);
     print(b"\n");
 }
@@ -40,23 +50,24 @@ fn print_fields(n: usize, s: &[u8]) {
     }
 }
 
-fn print_test(name: &[u8], accepted: bool) {
-    print(name);
-    if accepted {
-        print(b" yes");
-    } else {
-        print(b" no");
-    }
+// The names stand in one text, since each text that a function holds makes its proof longer.
+fn print_test(n: usize, accepted: bool) {
+    print(frame::part(
+        b'/',
+        b"\n  IDENT /, TIMESTAMP /, HEX /, POINT /, SIG /, MAC /, PRINT ",
+        n,
+    ));
+    print(frame::part(b'/', b"no/yes", accepted as usize));
 }
 
 fn show_text(s: &[u8]) {
-    print_test(b"\n  IDENT", text::is_ident(s));
-    print_test(b", TIMESTAMP", text::is_timestamp(s));
-    print_test(b", HEX", text::is_hex(s.len(), s));
-    print_test(b", POINT", text::is_point(s));
-    print_test(b", SIG", text::is_sig(s));
-    print_test(b", MAC", text::is_mac(s));
-    print_test(b", PRINT", text::is_print(s));
+    print_test(0, text::is_ident(s));
+    print_test(1, text::is_timestamp(s));
+    print_test(2, text::is_hex(s.len(), s));
+    print_test(3, text::is_point(s));
+    print_test(4, text::is_sig(s));
+    print_test(5, text::is_mac(s));
+    print_test(6, text::is_print(s));
     print(b", check ");
     print(&text::check_text(crc16::crc_of(s)));
 }
@@ -67,18 +78,18 @@ fn show_value(s: &[u8]) {
         return;
     }
     let value = text::hex_value(s[0]);
-    print(b"\n  value ");
-    io::print_decimal(STDOUT_FILENO, value as u64);
-    print(b", character ");
-    io::print_decimal(STDOUT_FILENO, text::hex_digit(value) as u64);
+    print(b"\n  value");
+    then(value as usize);
+    print(b", character");
+    then(text::hex_digit(value) as usize);
 }
 
 fn show(label: &[u8], s: &[u8]) {
     print(label);
     show_text(s);
     show_value(s);
-    print_answer(b"\n  identity ", reading::read_identity(s));
-    print_answer(b", record ", reading::read_record(s));
+    print_answer(b"\n  identity", reading::read_identity(s));
+    print_answer(b", record", reading::read_record(s));
     print(b"\n");
     print_fields(0, s);
     print_fields(1, s);
@@ -91,26 +102,31 @@ fn show(label: &[u8], s: &[u8]) {
     print_fields(8, s);
 }
 
-// A label without its record, and a record without its line feed, end the list.
+// Room for the input, which has no more lines than it has bytes. The length is stated because a proof that looked at this
+// many zeros would be slow.
+const ROOM: usize = 131072;
+
+fn room() -> [u8; ROOM]
+    ensures { λ r. ⌜ 131072 ≡ length r ⌝ }
+{
+    [0; ROOM]
+}
+
+// A pair with no label ends the list.
 fn show_all(input: &[u8]) {
-    let mut at: usize = 0;
-    while at < input.len() {
-        let end = frame::next_mark(b'\n', input, at);
-        if input.len() <= end {
-            return;
+    let mut line: usize = 0;
+    while line < ROOM {
+        let label = frame::part(b'\n', input, line);
+        if label.len() == 0 {
+            break;
         }
-        let from = end + 1;
-        let to = frame::next_mark(b'\n', input, from);
-        if input.len() <= to {
-            return;
-        }
-        show(&input[at..end], &input[from..to]);
-        at = to + 1;
+        show(label, frame::part(b'\n', input, line + 1));
+        line += 2;
     }
 }
 
 fn main() {
-    let mut buffer = [0u8; 131072];
+    let mut buffer = room();
     let n = io::read_full(STDIN_FILENO, &mut buffer);
     show_all(&buffer[..n]);
 }

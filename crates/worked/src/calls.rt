@@ -1,7 +1,6 @@
-// The calls that a step names. Each writes what the library hands back, as text, and answers the text's length.
+// The calls that a step names. Each gives back what the library hands back, as text.
 use crate::value;
-ghost use Prim.Native.Nat.{_≤_};
-ghost use lib.ListN.{length};
+use crate::value::Text;
 
 // ---- reading
 
@@ -9,132 +8,84 @@ fn is_identity(s: &[u8]) -> bool {
     reading::read_identity(s).no == reading::ACCEPTED
 }
 
-fn read_identity(s: &[u8], out: &mut [u8]) -> usize {
-    value::of_part(reading::read_identity(s).no, b"accepted", out)
+fn accepted(answer: reading::Answer) -> Text {
+    value::of_part(answer.no, b"accepted")
 }
 
-fn read_record(s: &[u8], out: &mut [u8]) -> usize {
-    value::of_part(reading::read_record(s).no, b"accepted", out)
-}
-
-fn identity_field(s: &[u8], n: usize, out: &mut [u8]) -> usize {
-    let mut no: u8 = 0;
+// Field n of an identity, or of a record.
+fn field<'a>(of_identity: bool, s: &'a [u8], n: usize, no: &mut u8) -> &'a [u8] {
     let mut field: u8 = 0;
-    let part = fields::identity_field(s, n, &mut no, &mut field);
-    value::of_part(no, part, out)
+    if of_identity {
+        return fields::identity_field(s, n, no, &mut field);
+    }
+    fields::record_field(s, n, no, &mut field)
 }
 
-fn record_field(s: &[u8], n: usize, out: &mut [u8]) -> usize {
+fn field_text(of_identity: bool, s: &[u8], n: usize) -> Text {
     let mut no: u8 = 0;
-    let mut field: u8 = 0;
-    let part = fields::record_field(s, n, &mut no, &mut field);
-    value::of_part(no, part, out)
+    let part = field(of_identity, s, n, &mut no);
+    value::of_part(no, part)
 }
 
 // ---- building from the fields that reading hands back
 
-// How many fields there are, and how many bytes they have together.
-struct Gathered {
-    count: usize,
-    total: usize,
+fn build(title: &[u8], fields: Text, lens: &[usize]) -> Text {
+    let bytes = fields.bytes;
+    let mut made = [0u8; 1024];
+    let w = building::build(title, value::front(&bytes, fields.len), lens, &mut made);
+    value::of_part(w.no, value::front(&made, w.len))
 }
 
-// Field n's length, after its bytes are put at a place; MISSING_FIELD where there is no such field.
-fn put_field(s: &[u8], n: usize, bytes: &mut [u8], at: usize) -> usize {
+fn rebuild(s: &[u8]) -> Text {
+    let of_identity = is_identity(s);
+    let mut gathered = value::none();
+    let mut lens = [0usize; 8];
     let mut no: u8 = 0;
-    let mut field: u8 = 0;
-    if is_identity(s) {
-        let of_identity = fields::identity_field(s, n, &mut no, &mut field);
-        put::put(bytes, at, of_identity);
-        return length_of(no, of_identity);
-    }
-    let of_record = fields::record_field(s, n, &mut no, &mut field);
-    put::put(bytes, at, of_record);
-    length_of(no, of_record)
-}
-
-const MISSING_FIELD: usize = 1025;
-
-fn length_of(no: u8, part: &[u8]) -> usize {
-    if no != reading::ACCEPTED {
-        return MISSING_FIELD;
-    }
-    part.len()
-}
-
-fn gather(s: &[u8], bytes: &mut [u8], lens: &mut [usize]) -> Gathered
-    ensures { λ r. ⌜ r .count ≤ length (now (lens .exit)) ⌝ }
-{
     let mut k: usize = 0;
-    let mut at: usize = 0;
-    while k < lens.len() {
-        let len = put_field(s, k + 1, bytes, at);
-        if len >= MISSING_FIELD {
-            return Gathered {
-                count: k,
-                total: at,
-            };
+    while k < 8 {
+        let part = field(of_identity, s, k + 1, &mut no);
+        if no != reading::ACCEPTED {
+            break;
         }
-        lens[k] = len;
-        at = (at + len) % 65536;
+        lens[k] = part.len();
+        gathered = value::add(gathered, part);
         k += 1;
     }
-    Gathered {
-        count: k,
-        total: at,
-    }
-}
-
-fn rebuild(s: &[u8], out: &mut [u8]) -> usize {
-    let mut bytes = [0u8; 1024];
-    let mut lens = [0usize; 8];
-    let mut made = [0u8; 1024];
-    let got = gather(s, &mut bytes, &mut lens);
-    let w = building::build(
-        frame::title_of(s),
-        value::front(&bytes, got.total),
-        &lens[..got.count],
-        &mut made,
-    );
-    value::of_part(w.no, value::front(&made, w.len), out)
+    build(frame::title_of(s), gathered, &lens[..k])
 }
 
 // ---- texts
 
-fn shared_info(request: &[u8], out: &mut [u8]) -> usize {
-    let mut made = [0u8; 512];
-    let w = agreement::shared_info(request, &mut made);
-    value::of_text(w.no, value::front(&made, w.len), out)
+fn write_text(call: usize, request: &[u8], made: &mut [u8]) -> put::Written {
+    match call {
+        SHARED_INFO => agreement::shared_info(request, made),
+        MODULE_TEXT => agreement::module_text(request, made),
+        _ => agreement::centre_text(request, made),
+    }
 }
 
-fn module_text(request: &[u8], out: &mut [u8]) -> usize {
+fn agreement_text(call: usize, request: &[u8]) -> Text {
     let mut made = [0u8; 512];
-    let w = agreement::module_text(request, &mut made);
-    value::of_text(w.no, value::front(&made, w.len), out)
-}
-
-fn centre_text(request: &[u8], out: &mut [u8]) -> usize {
-    let mut made = [0u8; 512];
-    let w = agreement::centre_text(request, &mut made);
-    value::of_text(w.no, value::front(&made, w.len), out)
+    let w = write_text(call, request, &mut made);
+    value::of_text(w.no, value::front(&made, w.len))
 }
 
 // An item of the module text.
-fn module_item(request: &[u8], n: usize, out: &mut [u8]) -> usize {
+fn module_item(request: &[u8], n: usize) -> Text {
     let mut made = [0u8; 512];
     let mut no: u8 = 0;
     let w = agreement::module_text(request, &mut made);
     let item = items::text_item(value::front(&made, w.len), n, &mut no);
-    value::of_text(no, item, out)
+    value::of_text(no, item)
 }
 
 // ---- two records: the newer key, and a file
 
-fn newer<'a>(first: &'a [u8], second: &'a [u8], out: &mut [u8]) -> usize {
+fn newer<'a>(first: &'a [u8], second: &'a [u8]) -> Text {
     let mut no: u8 = 0;
     let mut field: u8 = 0;
     let part = newer::newer(first, second, &mut no, &mut field);
-    value::of_part(no, part, out)
+    value::of_part(no, part)
 }
 
 fn line_no(line: files::Line) -> usize {
@@ -151,66 +102,77 @@ fn next_place(line: files::Line) -> usize {
     }
 }
 
-// The file that has the two records as lines, the last of them without a line feed: the number of each line, how many
-// lines there are, and how many are accepted.
-fn file(first: &[u8], second: &[u8], out: &mut [u8]) -> usize {
-    let mut bytes = [0u8; 2048];
-    let fed = put::put(&mut bytes, 0, first);
-    let from = put::put_byte(&mut bytes, fed, b'\n');
-    let end = put::put(&mut bytes, from, second);
-    let made = value::front(&bytes, end);
-    let one = files::line_at(made, 0);
-    let two = files::line_at(made, next_place(one));
-    let totals = files::count(made);
-    let first_no = value::put_number(out, 0, line_no(one));
-    let blank = put::put_byte(out, first_no, b' ');
-    let second_no = value::put_number(out, blank, line_no(two));
-    let lines = put::put(out, second_no, b" lines ");
-    let counted = value::put_number(out, lines, totals.lines);
-    let accepted = put::put(out, counted, b" accepted ");
-    value::put_number(out, accepted, totals.accepted)
+// The number of the first two lines of a file, how many lines there are, and how many are accepted.
+fn file_text(file: &[u8]) -> Text {
+    let one = files::line_at(file, 0);
+    let two = files::line_at(file, next_place(one));
+    let totals = files::count(file);
+    let first = value::add_number(value::none(), line_no(one));
+    let both = value::add_number(value::add(first, b" "), line_no(two));
+    let lines = value::add_number(value::add(both, b" lines "), totals.lines);
+    value::add_number(value::add(lines, b" accepted "), totals.accepted)
+}
+
+// The file that has the two records as lines, the last of them without a line feed.
+fn file(first: &[u8], second: &[u8]) -> Text {
+    let line = value::add(value::add(value::none(), first), b"\n");
+    let both = value::add(line, second);
+    let bytes = both.bytes;
+    file_text(value::front(&bytes, both.len))
 }
 
 // ---- by name
 
-fn call_reading(call: &[u8], n: usize, a: &[u8], out: &mut [u8]) -> usize {
-    if text::are_same(call, b"read_identity") {
-        return read_identity(a, out);
+const NEWER: usize = 0;
+
+const FILE: usize = 1;
+
+const SHARED_INFO: usize = 2;
+
+const MODULE_TEXT: usize = 3;
+
+const CENTRE_TEXT: usize = 4;
+
+const MODULE_ITEM: usize = 5;
+
+const READ_IDENTITY: usize = 6;
+
+const READ_RECORD: usize = 7;
+
+const IDENTITY_FIELD: usize = 8;
+
+const RECORD_FIELD: usize = 9;
+
+const CALLS: usize = 10;
+
+// Which of the names a word is; CALLS where it is none of them.
+fn place_in(names: &[u8], name: &[u8]) -> usize {
+    let mut k: usize = 0;
+    while k < CALLS {
+        if text::are_same(name, frame::part(b' ', names, k)) {
+            break;
+        }
+        k += 1;
     }
-    if text::are_same(call, b"read_record") {
-        return read_record(a, out);
-    }
-    if text::are_same(call, b"identity_field") {
-        return identity_field(a, n, out);
-    }
-    if text::are_same(call, b"record_field") {
-        return record_field(a, n, out);
-    }
-    rebuild(a, out)
+    k
 }
 
-fn call_text(call: &[u8], n: usize, a: &[u8], out: &mut [u8]) -> usize {
-    if text::are_same(call, b"shared_info") {
-        return shared_info(a, out);
+pub(crate) fn run<'a>(name: &[u8], n: usize, a: &'a [u8], b: &'a [u8]) -> Text {
+    let call = place_in(
+        b"newer file shared_info module_text centre_text module_item read_identity read_record identity_field record_field",
+        name,
+    );
+    match call {
+        NEWER => newer(a, b),
+        FILE => file(a, b),
+        SHARED_INFO => agreement_text(call, a),
+        MODULE_TEXT => agreement_text(call, a),
+        CENTRE_TEXT => agreement_text(call, a),
+        MODULE_ITEM => module_item(a, n),
+        READ_IDENTITY => accepted(reading::read_identity(a)),
+        READ_RECORD => accepted(reading::read_record(a)),
+        IDENTITY_FIELD => field_text(true, a, n),
+        RECORD_FIELD => field_text(false, a, n),
+        _ => rebuild(a),
     }
-    if text::are_same(call, b"module_text") {
-        return module_text(a, out);
-    }
-    if text::are_same(call, b"centre_text") {
-        return centre_text(a, out);
-    }
-    if text::are_same(call, b"module_item") {
-        return module_item(a, n, out);
-    }
-    call_reading(call, n, a, out)
-}
-
-pub(crate) fn run<'a>(call: &[u8], n: usize, a: &'a [u8], b: &'a [u8], out: &mut [u8]) -> usize {
-    if text::are_same(call, b"newer") {
-        return newer(a, b, out);
-    }
-    if text::are_same(call, b"file") {
-        return file(a, b, out);
-    }
-    call_text(call, n, a, out)
 }

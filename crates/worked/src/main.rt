@@ -31,15 +31,14 @@ fn digit(word: &[u8]) -> usize {
 }
 
 fn is_same(title: &[u8], step: &[u8], known: &[u8]) -> bool {
-    let mut out = [0u8; 1280];
-    let len = calls::run(
+    let text = calls::run(
         word(step, 0),
         digit(word(step, 1)),
         word(step, 2),
         word(step, 3),
-        &mut out,
     );
-    let made = value::front(&out, len);
+    let bytes = text.bytes;
+    let made = value::front(&bytes, text.len);
     print(title);
     print(b"\n  ");
     print(made);
@@ -59,38 +58,28 @@ fn tallied(tally: Tally, same: bool) -> Tally {
     next
 }
 
-// A step that lacks a line ends the list.
+// No more lines are read than the buffer has bytes.
+const MOST: usize = 65536;
+
+// A step with no title ends the list.
 fn run_all(input: &[u8]) -> Tally {
     let mut tally = Tally { same: 0, differ: 0 };
-    let mut at: usize = 0;
-    while at < input.len() {
-        let title_end = frame::next_mark(b'\n', input, at);
-        if input.len() <= title_end {
-            return tally;
+    let mut line: usize = 0;
+    while line < MOST {
+        let title = frame::part(b'\n', input, line);
+        if title.len() == 0 {
+            break;
         }
-        let from = title_end + 1;
-        let step_end = frame::next_mark(b'\n', input, from);
-        if input.len() <= step_end {
-            return tally;
-        }
-        let known = step_end + 1;
-        let end = frame::next_mark(b'\n', input, known);
-        if input.len() <= end {
-            return tally;
-        }
-        let same = is_same(
-            &input[at..title_end],
-            &input[from..step_end],
-            &input[known..end],
-        );
-        tally = tallied(tally, same);
-        at = end + 1;
+        let step = frame::part(b'\n', input, line + 1);
+        let known = frame::part(b'\n', input, line + 2);
+        tally = tallied(tally, is_same(title, step, known));
+        line += 3;
     }
     tally
 }
 
 fn main() {
-    let mut buffer = [0u8; 131072];
+    let mut buffer = io::large_buffer();
     let n = io::read_full(STDIN_FILENO, &mut buffer);
     let tally = run_all(&buffer[..n]);
     print(b"steps that agree: ");

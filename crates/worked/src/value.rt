@@ -1,40 +1,68 @@
-// What a call hands back, as text in a buffer from its front: the bytes themselves, those of a key agreement text in
-// hexadecimal characters, or `refused` and the number. Each answers the length of that text.
+// What a call hands back, as text: the bytes themselves, those of a key agreement text in hexadecimal characters, or
+// `refused` and the number. A text is handed on by value: so each step of a proof is short.
+
+pub(crate) struct Text {
+    pub bytes: [u8; 1280],
+    pub len: usize,
+}
+
+pub(crate) fn none() -> Text {
+    Text {
+        bytes: [0; 1280],
+        len: 0,
+    }
+}
+
+// A piece at the end of a text, and nothing where it does not fit.
+pub(crate) fn add(text: Text, piece: &[u8]) -> Text {
+    let mut bytes = text.bytes;
+    let len = put::put(&mut bytes, text.len, piece);
+    Text { bytes, len }
+}
 
 // Two decimal digits.
-pub(crate) fn put_number(out: &mut [u8], at: usize, n: usize) -> usize {
-    let next = put::put_byte(out, at, text::hex_digit((n / 10 % 10) as u8));
-    put::put_byte(out, next, text::hex_digit((n % 10) as u8))
+pub(crate) fn add_number(text: Text, n: usize) -> Text {
+    add(
+        text,
+        &[
+            text::hex_digit((n / 10 % 10) as u8),
+            text::hex_digit((n % 10) as u8),
+        ],
+    )
 }
 
-fn put_refusal(out: &mut [u8], no: u8) -> usize {
-    let next = put::put(out, 0, b"refused ");
-    put_number(out, next, no as usize)
-}
-
-fn put_hex(out: &mut [u8], bytes: &[u8]) -> usize {
-    let mut next: usize = 0;
+fn hex(bytes: &[u8]) -> Text {
+    let mut text = none();
     let mut i: usize = 0;
     while i < bytes.len() {
-        next = put::put_byte(out, next, text::hex_digit(bytes[i] / 16));
-        next = put::put_byte(out, next, text::hex_digit(bytes[i] % 16));
+        text = add(
+            text,
+            &[
+                text::hex_digit(bytes[i] / 16),
+                text::hex_digit(bytes[i] % 16),
+            ],
+        );
         i += 1;
     }
-    next
+    text
 }
 
-pub(crate) fn of_part(no: u8, part: &[u8], out: &mut [u8]) -> usize {
-    if no != reading::ACCEPTED {
-        return put_refusal(out, no);
-    }
-    put::put(out, 0, part)
+fn refusal(no: u8) -> Text {
+    add_number(add(none(), b"refused "), no as usize)
 }
 
-pub(crate) fn of_text(no: u8, text: &[u8], out: &mut [u8]) -> usize {
+pub(crate) fn of_part(no: u8, part: &[u8]) -> Text {
     if no != reading::ACCEPTED {
-        return put_refusal(out, no);
+        return refusal(no);
     }
-    put_hex(out, text)
+    add(none(), part)
+}
+
+pub(crate) fn of_text(no: u8, text: &[u8]) -> Text {
+    if no != reading::ACCEPTED {
+        return refusal(no);
+    }
+    hex(text)
 }
 
 // The front of a buffer, and nothing where it is shorter.

@@ -15,8 +15,8 @@ abbrev μ-loop : tie.MeasureT-loop
 step-from-requires : tie.Need-step-from-requires Inv-loop μ-loop
 step-from-requires c κs = search needs
 
-print-step-requires : tie.Need-print-step-requires Inv-loop μ-loop
-print-step-requires c κs = search needs
+print-line-requires : tie.Need-print-line-requires Inv-loop μ-loop
+print-line-requires c κs = search needs
 
 second-line-requires : tie.Need-second-line-requires Inv-loop μ-loop
 second-line-requires c κs = search needs
@@ -24,8 +24,8 @@ second-line-requires c κs = search needs
 loop-holds : tie.Need-loop-holds Inv-loop μ-loop
 loop-holds c = search needs
 
-print-step-requires-2 : tie.Need-print-step-requires-2 Inv-loop μ-loop
-print-step-requires-2 c κs = search needs
+print-line-requires-2 : tie.Need-print-line-requires-2 Inv-loop μ-loop
+print-line-requires-2 c κs = search needs
 
 next-of-requires : tie.Need-next-of-requires Inv-loop μ-loop
 next-of-requires c κs = search needs
@@ -42,11 +42,11 @@ loop-less c = search needs
 loop-again : tie.Need-loop-again Inv-loop μ-loop
 loop-again c = search needs
 
-line-feed-requires : tie.Need-line-feed-requires Inv-loop μ-loop
-line-feed-requires c κs = search needs
-
 returns : tie.Need-returns Inv-loop μ-loop
 returns c = search needs
+
+returns-2 : tie.Need-returns-2 Inv-loop μ-loop
+returns-2 c = search needs
 
 pub walk-spec : {M : Type 1} → statement M
 walk-spec =
@@ -55,14 +55,14 @@ walk-spec =
     Inv-loop
     μ-loop
     step-from-requires
-    print-step-requires
+    print-line-requires
     second-line-requires
     loop-holds
-    print-step-requires-2
+    print-line-requires-2
     next-of-requires
     step-from-requires-2
     add-k
     loop-less
     loop-again
-    line-feed-requires
-    returns)
+    returns
+    returns-2)

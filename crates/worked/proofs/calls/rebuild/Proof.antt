@@ -1,73 +1,87 @@
--- `worked::calls::rebuild` lends the lengths that were gathered.
+-- `worked::calls::rebuild` ends, and lends the lengths that it found.
 -- Assumes nothing.
--- Assumes nothing.
-use mathlib.Core.Path.{sym}
+use Prim.Native.Nat.{_-_, _≤_}
+use mathlib.Core.Path.{_≡_, sym}
+use native.Mathlib.Omega.{arith}
+use lib.ListN.{length, length-set}
 use lib.Seq.{length-take-le}
 use borrow.Author.Needs.{needs}
 use Rattle.worked.proofs.calls.rebuild.Statement.{statement}
 use Rattle.worked.proofs.calls.rebuild.Tie as tie
 
-slice-aggregate-gather : tie.Need-slice-aggregate-gather
-slice-aggregate-gather c = search needs
+abbrev Inv-loop : tie.InvT-loop
+Inv-loop s of-identity gathered₀ lens₀ no₀ k₀ gathered lens no' k = (length lens ≡ 8) × (k ≤ 8)
 
-slice-aggregate-gather-2 : tie.Need-slice-aggregate-gather-2
-slice-aggregate-gather-2 c = search needs
+abbrev μ-loop : tie.MeasureT-loop
+μ-loop s of-identity gathered₀ lens₀ no₀ k₀ gathered lens no' k = 8 - k
 
-gather-requires : tie.Need-gather-requires
-gather-requires c κs = search needs
+is-identity-requires : tie.Need-is-identity-requires Inv-loop μ-loop
+is-identity-requires c κs = search needs
 
-title-of-requires : tie.Need-title-of-requires
+none-requires : tie.Need-none-requires Inv-loop μ-loop
+none-requires c κs = search needs
+
+loop-holds : tie.Need-loop-holds Inv-loop μ-loop
+loop-holds c = search needs
+
+add-field : tie.Need-add-field Inv-loop μ-loop
+add-field c = search needs
+
+field-requires : tie.Need-field-requires Inv-loop μ-loop
+field-requires c κs = search needs
+
+mul-lens : tie.Need-mul-lens Inv-loop μ-loop
+mul-lens c = search needs
+
+array-write-lens : tie.Need-array-write-lens Inv-loop μ-loop
+array-write-lens c = search needs
+
+add-requires : tie.Need-add-requires Inv-loop μ-loop
+add-requires c κs = search needs
+
+add-k : tie.Need-add-k Inv-loop μ-loop
+add-k c = search needs
+
+loop-less : tie.Need-loop-less Inv-loop μ-loop
+loop-less c = search needs
+
+loop-again : tie.Need-loop-again Inv-loop μ-loop
+loop-again c = simp length-set (omega arith, omega arith)
+
+title-of-requires : tie.Need-title-of-requires Inv-loop μ-loop
 title-of-requires c κs = search needs
 
-slice-aggregate-front : tie.Need-slice-aggregate-front
-slice-aggregate-front c = search needs
-
-front-requires : tie.Need-front-requires
-front-requires c κs = search needs
-
-array-share-prefix-lens : tie.Need-array-share-prefix-lens
+array-share-prefix-lens : tie.Need-array-share-prefix-lens Inv-loop μ-loop
 array-share-prefix-lens c = search needs
 
-slice-aggregate-build : tie.Need-slice-aggregate-build
-slice-aggregate-build c = sym (length-take-le _ _ (c .before .before .before .before .before .before .gather .ensures))
+slice-aggregate-build : tie.Need-slice-aggregate-build Inv-loop μ-loop
+slice-aggregate-build c = sym (length-take-le _ _ (omega arith))
 
-slice-aggregate-build-2 : tie.Need-slice-aggregate-build-2
-slice-aggregate-build-2 c = search needs
-
-build-requires : tie.Need-build-requires
+build-requires : tie.Need-build-requires Inv-loop μ-loop
 build-requires c κs = search needs
 
-slice-aggregate-front-2 : tie.Need-slice-aggregate-front-2
-slice-aggregate-front-2 c = search needs
-
-front-requires-2 : tie.Need-front-requires-2
-front-requires-2 c κs = search needs
-
-of-part-requires : tie.Need-of-part-requires
-of-part-requires c κs = search needs
-
-same-length : tie.Need-same-length
-same-length c = search needs
-
-returns : tie.Need-returns
+returns : tie.Need-returns Inv-loop μ-loop
 returns c = search needs
 
 pub rebuild-spec : {M : Type 1} → statement M
 rebuild-spec =
     tie.close
     (tie.spec
-    slice-aggregate-gather
-    slice-aggregate-gather-2
-    gather-requires
+    Inv-loop
+    μ-loop
+    is-identity-requires
+    none-requires
+    loop-holds
+    add-field
+    field-requires
+    mul-lens
+    array-write-lens
+    add-requires
+    add-k
+    loop-less
+    loop-again
     title-of-requires
-    slice-aggregate-front
-    front-requires
     array-share-prefix-lens
     slice-aggregate-build
-    slice-aggregate-build-2
     build-requires
-    slice-aggregate-front-2
-    front-requires-2
-    of-part-requires
-    same-length
     returns)
