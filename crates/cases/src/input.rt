@@ -3,6 +3,7 @@
 use std::num::wrapping_add_usize;
 
 const HEAD: usize = 15;
+
 const REPEATED: usize = 128;
 
 // One case: the call (0 where there are no more), its number, where its strings a, b and c begin in the file and where c

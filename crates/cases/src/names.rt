@@ -7,10 +7,9 @@ const SHORT: usize = 24;
 // Of the first SHORT calls, from 0, which is none, the call's own name; then their shorter names; then the other calls. A
 // new call's name goes to the end.
 fn print_word(n: usize) {
-    say::text(
-        frame::part(
-            b' ',
-            b"none is_ident is_timestamp is_hex is_point is_sig is_mac is_print are_same hex_digit hex_value check_text \
+    say::text(frame::part(
+        b' ',
+        b"none is_ident is_timestamp is_hex is_point is_sig is_mac is_print are_same hex_digit hex_value check_text \
             crc_of read_identity read_record identity_field record_field build shared_info module_text centre_text \
             text_item line_at count \
             none ident timestamp hex point sig mac print same digit value check crc identity record identity_field \
@@ -19,9 +18,8 @@ fn print_word(n: usize) {
             is_identity may_be_empty does_permit mark_after next_mark count_fields check_no title_of part body_of read_of \
             field_of field_no whole_no refuse Reader::new,step step_from print_list put put_byte line_text end_text \
             part_start identity_place record_place item_place newer_of place_of",
-            n,
-        ),
-    );
+        n,
+    ));
 }
 
 // What a case's line begins with.

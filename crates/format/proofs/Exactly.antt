@@ -20,7 +20,7 @@ use Rattle.text.proofs.Types.{hex-length, timestamp-length, point-hex}
 use Rattle.text.proofs.Hexadecimal.{check-hex}
 use Rattle.format.specs.Numbers.{tooLong, missingCheck, wrongCheck, wrongCount}
 use Rattle.format.specs.Kinds.{Kind, Field, name, mark, fieldsOf, identityFields, identityKinds, recordKinds, pubkeyKinds, among}
-use Rattle.format.specs.Build.{WithoutAll, recordOf, empty, Fits, FitAll, PermittedOver, BuiltOver, IsIdentity, Permitted, Built}
+use Rattle.format.specs.Build.{WithoutAll, recordOf, empty, Fits, FitAll, PermittedOver, BuiltOver, NeverIdentity, IsIdentity, Permitted, Built}
 use Rattle.format.specs.Read.{Outcome, accepted, answer, title, markAfter, kindIn, body, check, lastOr, cut, fieldsIn, judged, readAs, readOver, nobody, readIdentity, readOf, readRecord}
 use Rattle.format.proofs.Table.{name-inj, All, kindIn-some, kindIn-known, longestRecord, record-room, identity-row, pubkey-row}
 use Rattle.format.proofs.Parts.{record-length, built-title, built-last, built-check, built-parts, record-without, found-built}
@@ -83,9 +83,6 @@ module _ (ask : Bytes → Outcome) (I : Kind → Bytes → Type 0) (x : Exact as
   )
 
 -- ---- the identity call, which asks nobody
-
-abbrev NeverIdentity : Kind → Bytes → Type 0
-NeverIdentity k f = ⊥
 
 never-exact : Exact nobody NeverIdentity
 never-exact = record { sound = λ k fs f e. never e; complete = λ k f i. absurd i }

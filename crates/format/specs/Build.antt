@@ -66,9 +66,13 @@ pub record BuiltOver (I : Kind → Bytes → Type 0) (ks : List Kind) (s : Bytes
   pub permitted : PermittedOver I k fs
   pub built : s ≡ recordOf k fs
 
--- an identity is a record of an identity kind; it has no identity in it
+-- an identity has no identity in it
+abbrev pub NeverIdentity : Kind → Bytes → Type 0
+NeverIdentity k s = ⊥
+
+-- an identity is a record of an identity kind
 unfoldable pub IsIdentity : Kind → Bytes → Type 0
-IsIdentity k s = (fs : List Bytes) × BuiltOver (λ j t. ⊥) identityKinds s k fs
+IsIdentity k s = (fs : List Bytes) × BuiltOver NeverIdentity identityKinds s k fs
 
 abbrev pub Permitted : Kind → List Bytes → Type 0
 Permitted k fs = PermittedOver IsIdentity k fs
