@@ -1,2 +1,1 @@
 pub mod Exports
-pub mod Parts

@@ -5,9 +5,10 @@ ghost use Rattle.items.specs.Place.{Placed};
 ghost use Rattle.files.specs.Walk.{lineSaid, totalsOf};
 ghost use Rattle.files.specs.Steps.{Begins};
 ghost use Rattle.newer.specs.Newer.{newer, choiceSaid};
-ghost use Rattle.exports.specs.Exports.{itemPlace, totals, choice, found};
+ghost use Rattle.exports.specs.Exports.{found, Stepped};
 
 // What stands at a place of a file, or that it is finished.
+#[repr(C)]
 pub struct Found {
     pub line: bool,
     pub no: u8,
@@ -18,20 +19,12 @@ pub struct Found {
     pub next: usize,
 }
 
-// Start and length in the text, both 0 with a refusal.
+// An item of a key agreement text, counted from 1.
 #[no_mangle]
-pub extern "C" fn obscurlane_text_item(
-    text: &[u8],
-    wanted: usize,
-    start: &mut usize,
-    len: &mut usize,
-) -> u8
-    ensures { λ r. ⌜ Placed (now (text .entry)) wanted (itemPlace r (now (start .exit)) (now (len .exit))) ⌝ }
+pub extern "C" fn obscurlane_text_item(text: &[u8], wanted: usize) -> items::Place
+    ensures { λ r. ⌜ Placed (now (text .entry)) wanted r ⌝ }
 {
-    let item = items::item_place(text, wanted);
-    *start = item.start;
-    *len = item.len;
-    item.no
+    items::item_place(text, wanted)
 }
 
 // A line with its numbers and places, for a caller that has no enum.
@@ -67,28 +60,12 @@ fn find(line: files::Line) -> Found
     }
 }
 
-// Whether a line stands at the place; false says that the file is finished.
+// The line that begins at a place of a file.
 #[no_mangle]
-pub extern "C" fn obscurlane_line_at(
-    file: &[u8],
-    place: usize,
-    no: &mut u8,
-    field: &mut u8,
-    kind: &mut usize,
-    start: &mut usize,
-    len: &mut usize,
-    next: &mut usize,
-) -> bool
-    ensures { λ r. ⌜ record { line = r; no = now (no .exit); field = now (field .exit); kind = now (kind .exit); start = now (start .exit); len = now (len .exit); next = now (next .exit) } ≡ found (lineSaid (lineAt (now (file .entry)) place)) ⌝ }
+pub extern "C" fn obscurlane_line_at(file: &[u8], place: usize) -> Found
+    ensures { λ r. ⌜ r ≡ found (lineSaid (lineAt (now (file .entry)) place)) ⌝ }
 {
-    let found = find(files::line_at(file, place));
-    *no = found.no;
-    *field = found.field;
-    *kind = found.kind;
-    *start = found.start;
-    *len = found.len;
-    *next = found.next;
-    found.line
+    find(files::line_at(file, place))
 }
 
 // A reader of a file is its place: a new one stands at the start.
@@ -99,51 +76,28 @@ pub extern "C" fn obscurlane_reader_new(file: &[u8]) -> usize
     0
 }
 
-// The line at the reader's place, which goes on to the next line; false says that the file is finished.
+// The line at the reader's place, which goes on to the next line.
 #[no_mangle]
-pub extern "C" fn obscurlane_reader_step(
-    file: &[u8],
-    place: &mut usize,
-    no: &mut u8,
-    field: &mut u8,
-    kind: &mut usize,
-    start: &mut usize,
-    len: &mut usize,
-) -> bool
-    ensures { λ r. ⌜ record { line = r; no = now (no .exit); field = now (field .exit); kind = now (kind .exit); start = now (start .exit); len = now (len .exit); next = now (place .exit) } ≡ found (lineSaid (lineAt (now (file .entry)) (now (place .entry)))) ⌝ }
+pub extern "C" fn obscurlane_reader_step(file: &[u8], place: &mut usize) -> Found
+    ensures { λ r. ⌜ Stepped (now (file .entry)) (now (place .entry)) r (now (place .exit)) ⌝ }
 {
     let step = find(files::step_from(file, *place));
-    *no = step.no;
-    *field = step.field;
-    *kind = step.kind;
-    *start = step.start;
-    *len = step.len;
     *place = step.next;
-    step.line
+    step
 }
 
 // How many lines a file has, and how many of them are accepted records.
 #[no_mangle]
-pub extern "C" fn obscurlane_count(file: &[u8], lines: &mut usize, accepted: &mut usize)
-    ensures { λ _. ⌜ totals (now (lines .exit)) (now (accepted .exit)) ≡ totalsOf (walk (now (file .entry))) ⌝ }
+pub extern "C" fn obscurlane_count(file: &[u8]) -> files::Totals
+    ensures { λ r. ⌜ r ≡ totalsOf (walk (now (file .entry))) ⌝ }
 {
-    let totals = files::count(file);
-    *lines = totals.lines;
-    *accepted = totals.accepted;
+    files::count(file)
 }
 
-// The first record's refusal comes before the second's.
+// Which of two public keys is the newer.
 #[no_mangle]
-pub extern "C" fn obscurlane_newer(
-    first: &[u8],
-    second: &[u8],
-    field: &mut u8,
-    which: &mut u8,
-) -> u8
-    ensures { λ r. ⌜ choice r (now (field .exit)) (now (which .exit)) ≡ choiceSaid (newer (now (first .entry)) (now (second .entry))) ⌝ }
+pub extern "C" fn obscurlane_newer(first: &[u8], second: &[u8]) -> newer::Choice
+    ensures { λ r. ⌜ r ≡ choiceSaid (newer (now (first .entry)) (now (second .entry))) ⌝ }
 {
-    let choice = newer::newer_of(first, second);
-    *field = choice.field;
-    *which = choice.which;
-    choice.no
+    newer::newer_of(first, second)
 }

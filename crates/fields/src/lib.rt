@@ -13,6 +13,7 @@ ghost use Rattle.fields.specs.Steps.{Reads, Handed};
 const MISSING_ITEM: u8 = 12;
 
 // Where a field stands in the caller's bytes: its start and its length, both 0 with a refusal.
+#[repr(C)]
 pub struct Place {
     pub no: u8,
     pub field: u8,

@@ -29,6 +29,7 @@ pub enum Line {
 }
 
 // How many lines a file has, and how many of them are accepted records.
+#[repr(C)]
 pub struct Totals {
     pub lines: usize,
     pub accepted: usize,

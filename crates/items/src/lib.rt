@@ -6,6 +6,7 @@ ghost use Rattle.items.specs.Place.{nowhere, Placed};
 const MISSING_ITEM: u8 = 12;
 
 // Where an item stands in its text: number 0, its start and its length. With number 12: nowhere, both 0.
+#[repr(C)]
 pub struct Place {
     pub no: u8,
     pub start: usize,

@@ -75,6 +75,7 @@ pub const SECOND: u8 = 2;
 const NEITHER: u8 = 0;
 
 // Which of two public keys is the newer: FIRST or SECOND, and 0 with a refusal.
+#[repr(C)]
 pub struct Choice {
     pub no: u8,
     pub field: u8,

@@ -6,6 +6,7 @@ ghost use Rattle.put.specs.Made.{denied, says};
 
 // What a call that writes into a lent output answers: its number, the field's number (0 where none is named), and the
 // length written from the front, 0 with a refusal.
+#[repr(C)]
 pub struct Written {
     pub no: u8,
     pub field: u8,

@@ -38,6 +38,7 @@ const LONGEST: usize = 1024;
 
 // What a reading call answers: its number, the field's number (0 where none is named), and the kind's row in the table
 // (table::NONE with a refusal).
+#[repr(C)]
 pub struct Answer {
     pub no: u8,
     pub field: u8,

@@ -1,6 +1,6 @@
 -- `exports::walking::obscurlane_reader_step` meets its contract.
 -- Assumes nothing.
-use mathlib.Core.Path.{ap, _∙_}
+use mathlib.Core.Path.{refl, ap, _∙_}
 use Rattle.exports.specs.Exports.{found}
 use borrow.Author.Needs.{needs}
 use Rattle.exports.proofs.walking.obscurlane_reader_step.Statement.{statement}
@@ -13,7 +13,7 @@ find-requires : tie.Need-find-requires
 find-requires c κs = search needs
 
 returns : tie.Need-returns
-returns c = c .find .ensures ∙ ap found (c .before .step-from .ensures)
+returns c = record { its-line = c .find .ensures ∙ ap found (c .before .step-from .ensures); its-place = refl }
 
 pub obscurlane-reader-step-spec : {M : Type 1} → statement M
 obscurlane-reader-step-spec = tie.close (tie.spec step-from-requires find-requires returns)
