@@ -1,7 +1,5 @@
 -- `exports::walking::obscurlane_line_at` meets its contract.
 -- Assumes nothing.
-use mathlib.Core.Path.{ap, _∙_}
-use Rattle.exports.specs.Exports.{found}
 use borrow.Author.Needs.{needs}
 use Rattle.exports.proofs.walking.obscurlane_line_at.Statement.{statement}
 use Rattle.exports.proofs.walking.obscurlane_line_at.Tie as tie
@@ -13,7 +11,7 @@ find-requires : tie.Need-find-requires
 find-requires c κs = search needs
 
 returns : tie.Need-returns
-returns c = c .find .ensures ∙ ap found (c .before .line-at .ensures)
+returns c = cc
 
 pub obscurlane-line-at-spec : {M : Type 1} → statement M
 obscurlane-line-at-spec = tie.close (tie.spec line-at-requires find-requires returns)

@@ -1,7 +1,5 @@
 -- `exports::walking::obscurlane_reader_step` meets its contract.
 -- Assumes nothing.
-use mathlib.Core.Path.{refl, ap, _∙_}
-use Rattle.exports.specs.Exports.{found}
 use borrow.Author.Needs.{needs}
 use Rattle.exports.proofs.walking.obscurlane_reader_step.Statement.{statement}
 use Rattle.exports.proofs.walking.obscurlane_reader_step.Tie as tie
@@ -13,7 +11,7 @@ find-requires : tie.Need-find-requires
 find-requires c κs = search needs
 
 returns : tie.Need-returns
-returns c = record { its-line = c .find .ensures ∙ ap found (c .before .step-from .ensures); its-place = refl }
+returns c = record { its-line = cc; its-place = cc }
 
 pub obscurlane-reader-step-spec : {M : Type 1} → statement M
 obscurlane-reader-step-spec = tie.close (tie.spec step-from-requires find-requires returns)
