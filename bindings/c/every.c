@@ -1,8 +1,8 @@
 /*
- * Calls every function of the header, accepted and refused, and compares everything that it writes. The exit status is 1
- * if anything is not as expected; the last line says how many comparisons were made.
+ * Calls every function of the header, on what is accepted and on what is refused, and compares everything that it answers and
+ * leaves in an output. The exit status is 1 if anything is not as expected; the last line says how many comparisons were made.
  *
- * Here stand the functions for whole records, texts and files; those that they are made of stand in parts.c.
+ * Here stand records and texts. The check, the text types, files and names stand in parts.c.
  */
 #include "expect.h"
 #include "worked.h"
@@ -10,6 +10,10 @@
 #include <stdio.h>
 #include <stdlib.h>
 #include <string.h>
+
+enum { NONE = OBSCURLANE_KIND_NONE, MOST_FIELDS = 7 };
+
+static const char LONGEST_IDENT[] = "ABCDEFGHIJKLMNOPQRSTUVWXYZ012345";
 
 static unsigned long expectations = 0;
 
@@ -32,258 +36,401 @@ bool untouched(const uint8_t *out, size_t from, size_t to)
     return true;
 }
 
-static void check_and_types(void)
+/* ---- samples, taken apart and put together by their marks alone */
+
+struct sample {
+    const char *text;
+    size_t kind;
+    char mark;
+    const char *kinds; /* a character for each field: the number of its kind where it is an identity */
+};
+
+static const struct sample maker = {WORKED_ID_MAKER, OBSCURLANE_KIND_SMMAN, ':', "----"};
+static const struct sample module = {WORKED_ID_SM, OBSCURLANE_KIND_SMID, ':', "----"};
+static const struct sample centre = {WORKED_ID_KMC, OBSCURLANE_KIND_KMCID, ':', "----"};
+static const struct sample maker_key = {WORKED_KEY_MAKER, OBSCURLANE_KIND_ECDSA, '|', "0--0-"};
+static const struct sample module_key = {WORKED_KEY_MODULE, OBSCURLANE_KIND_ECDH, '|', "1----"};
+static const struct sample centre_key = {WORKED_KEY_CENTRE, OBSCURLANE_KIND_ECDH, '|', "2----"};
+static const struct sample request = {WORKED_REQUEST, OBSCURLANE_KIND_REQ, '|', "12-----"};
+static const struct sample response = {WORKED_RESPONSE, OBSCURLANE_KIND_RESP, '|', "21--"};
+
+static size_t count_of(const struct sample *of)
 {
-    EXPECT(obscurlane_crc_of(BYTES("")) == 0xFFFF);
-    EXPECT(obscurlane_crc_of(BYTES("\0")) == 0x40BF);
-    EXPECT(obscurlane_crc_of(BYTES("123456789")) == 0x4B37);
-    EXPECT(obscurlane_is_ident(BYTES("sts-KeyAgreement-1.2")));
-    EXPECT(!obscurlane_is_ident(BYTES("")));
-    EXPECT(!obscurlane_is_ident(BYTES("_A")));
-    EXPECT(obscurlane_is_timestamp(BYTES("20180120T235959Z")));
-    EXPECT(!obscurlane_is_timestamp(BYTES("20180120T240000Z")));
-    EXPECT(obscurlane_is_print(BYTES("320C265FDC769D3E")));
-    EXPECT(!obscurlane_is_print(BYTES("320C265FDC769D3")));
-    EXPECT(obscurlane_is_hex(2, BYTES("0A")));
-    EXPECT(!obscurlane_is_hex(2, BYTES("0a")));
-    EXPECT(!obscurlane_is_hex(3, BYTES("0A")));
-    EXPECT(obscurlane_is_hex(0, BYTES("")));
+    return strlen(of->kinds);
 }
 
-static void long_types(void)
+static size_t kind_of_field(const struct sample *of, size_t n)
 {
-    uint8_t digits[194], letters[OBSCURLANE_LONGEST_IDENT + 1];
-    memset(letters, 'A', sizeof letters);
-    EXPECT(obscurlane_is_ident(letters, OBSCURLANE_LONGEST_IDENT));
-    EXPECT(!obscurlane_is_ident(letters, OBSCURLANE_LONGEST_IDENT + 1));
-    memset(digits, '4', sizeof digits);
-    digits[0] = '0';
-    EXPECT(obscurlane_is_point(digits, 194));
-    EXPECT(!obscurlane_is_point(digits, 193));
-    EXPECT(!obscurlane_is_point(digits + 1, 193));
-    EXPECT(obscurlane_is_sig(digits, 192));
-    EXPECT(!obscurlane_is_sig(digits, 191));
-    EXPECT(obscurlane_is_mac(digits, 48));
-    EXPECT(!obscurlane_is_mac(digits, 49));
-    digits[1] = '2';
-    EXPECT(!obscurlane_is_point(digits, 194));
+    return n > count_of(of) || of->kinds[n - 1] == '-' ? NONE : (size_t)(of->kinds[n - 1] - '0');
 }
 
-static void reading(void)
+/* Where field n stands: after as many marks, and before the next one. Nowhere, at 0, for a field that is not there. */
+static obscurlane_place place_of(const struct sample *of, size_t n)
 {
-    uint8_t field = UNTOUCHED;
-    size_t kind = UNTOUCHED;
-    EXPECT(obscurlane_read_identity(BYTES(WORKED_ID_SM), &field, &kind) == OBSCURLANE_ACCEPTED);
-    EXPECT(field == 0 && kind == OBSCURLANE_KIND_SMID);
-    EXPECT(obscurlane_read_identity(BYTES(WORKED_REQUEST), &field, &kind) == OBSCURLANE_UNKNOWN_KIND);
-    EXPECT(field == 0 && kind == OBSCURLANE_KIND_NONE);
-    EXPECT(obscurlane_read_record(BYTES(WORKED_KEY_MAKER), &field, &kind) == OBSCURLANE_ACCEPTED);
-    EXPECT(field == 0 && kind == OBSCURLANE_KIND_ECDSA);
-    EXPECT(obscurlane_read_record(BYTES(WORKED_KEY_CENTRE), &field, &kind) == OBSCURLANE_ACCEPTED);
-    EXPECT(field == 0 && kind == OBSCURLANE_KIND_ECDH);
-    EXPECT(obscurlane_read_record(BYTES(WORKED_REQUEST), &field, &kind) == OBSCURLANE_ACCEPTED);
-    EXPECT(field == 0 && kind == OBSCURLANE_KIND_REQ);
-    EXPECT(obscurlane_read_record(BYTES(WORKED_RESPONSE), &field, &kind) == OBSCURLANE_ACCEPTED);
-    EXPECT(field == 0 && kind == OBSCURLANE_KIND_RESP);
-    EXPECT(obscurlane_read_record(BYTES(WORKED_ID_SM), &field, &kind) == OBSCURLANE_UNKNOWN_KIND);
-    EXPECT(obscurlane_read_record(BYTES("PK.ECDH.1|x"), &field, &kind) == OBSCURLANE_MISSING_CHECK);
-    EXPECT(field == 0 && kind == OBSCURLANE_KIND_NONE);
-
-    uint8_t big[OBSCURLANE_LONGEST_READ + 1];
-    memset(big, 'A', sizeof big);
-    EXPECT(obscurlane_read_record(big, sizeof big, &field, &kind) == OBSCURLANE_TOO_LONG);
-    EXPECT(obscurlane_read_record(big, sizeof big - 1, &field, &kind) == OBSCURLANE_UNKNOWN_KIND);
+    obscurlane_place place = {OBSCURLANE_MISSING_ITEM, 0, 0, 0};
+    if (n >= 1 && n <= count_of(of)) {
+        const char *at = of->text;
+        for (size_t i = 0; i < n; i++) {
+            at = strchr(at, of->mark) + 1;
+        }
+        place.no = OBSCURLANE_ACCEPTED;
+        place.start = (size_t)(at - of->text);
+        place.len = (size_t)(strchr(at, of->mark) - at);
+    }
+    return place;
 }
 
-static void fields(void)
+/* Fields as a builder takes them. */
+struct fields {
+    uint8_t bytes[OBSCURLANE_LONGEST_READ];
+    size_t total;
+    size_t lens[MOST_FIELDS];
+    size_t count;
+};
+
+static void add(struct fields *fields, const char *at, size_t len)
 {
-    uint8_t field = UNTOUCHED;
-    size_t start = UNTOUCHED, len = UNTOUCHED;
-    EXPECT(obscurlane_identity_field(BYTES(WORKED_ID_SM), 2, &field, &start, &len) == OBSCURLANE_ACCEPTED);
-    EXPECT(field == 0 && len == 8 && memcmp(&WORKED_ID_SM[start], "06000001", 8) == 0);
-    EXPECT(obscurlane_identity_field(BYTES(WORKED_ID_SM), 5, &field, &start, &len) == OBSCURLANE_MISSING_ITEM);
-    EXPECT(field == 0 && start == 0 && len == 0);
-    EXPECT(obscurlane_record_field(BYTES(WORKED_REQUEST), 4, &field, &start, &len) == OBSCURLANE_ACCEPTED);
-    EXPECT(field == 0 && len == 11 && memcmp(&WORKED_REQUEST[start], "Prism-VSM-1", 11) == 0);
-    EXPECT(obscurlane_record_field(BYTES(WORKED_REQUEST), 0, &field, &start, &len) == OBSCURLANE_MISSING_ITEM);
-    EXPECT(field == 0 && start == 0 && len == 0);
-    EXPECT(obscurlane_record_field(BYTES(WORKED_KEY_CENTRE), 4, &field, &start, &len) == OBSCURLANE_ACCEPTED);
-    EXPECT(field == 0 && len == 0 && WORKED_KEY_CENTRE[start] == '|');
+    memcpy(fields->bytes + fields->total, at, len);
+    fields->total += len;
+    fields->lens[fields->count++] = len;
 }
 
-/* The longest of all records: its length is the header's, and one byte less is no room. */
-static void longest_record(const uint8_t *identity, size_t len)
+static void add_from(struct fields *fields, const struct sample *of, size_t n)
 {
-    uint8_t parts[OBSCURLANE_LONGEST_RECORD], out[OBSCURLANE_LONGEST_RECORD + 8], field = UNTOUCHED;
-    const size_t lens[] = {len, 194, 16, len, 192};
-    size_t total = 0, made = UNTOUCHED;
-    memcpy(parts, identity, len);
-    total += len;
-    memset(parts + total, '4', 194);
-    parts[total] = '0';
-    total += 194;
-    memcpy(parts + total, "99991231T115959Z", 16);
-    total += 16;
-    memcpy(parts + total, identity, len);
-    total += len;
-    memset(parts + total, 'F', 192);
-    total += 192;
+    obscurlane_place place = place_of(of, n);
+    add(fields, of->text + place.start, place.len);
+}
 
+/* The fields of a sample, with `with` in the place of field `changed`; field 0 is none. */
+static struct fields fields_of(const struct sample *of, size_t changed, const char *with)
+{
+    struct fields fields = {.total = 0, .count = 0};
+    for (size_t n = 1; n <= count_of(of); n++) {
+        if (n == changed) {
+            add(&fields, with, strlen(with));
+        } else {
+            add_from(&fields, of, n);
+        }
+    }
+    return fields;
+}
+
+/* The record of these fields with its check, permitted or not; its length. */
+static size_t write_out(const struct sample *of, const struct fields *fields, uint8_t *out)
+{
+    const uint8_t *field = fields->bytes;
+    size_t len = (size_t)sprintf((char *)out, "%s%c", obscurlane_kind_name(of->kind), of->mark);
+    for (size_t i = 0; i < fields->count; i++) {
+        memcpy(out + len, field, fields->lens[i]);
+        len += fields->lens[i];
+        field += fields->lens[i];
+        out[len++] = (uint8_t)of->mark;
+    }
+    return len + (size_t)sprintf((char *)out + len, "%04X", (unsigned)obscurlane_crc_of(out, len));
+}
+
+/* ---- reading */
+
+static obscurlane_answer read(const struct sample *of, const uint8_t *bytes, size_t len)
+{
+    return of->mark == ':' ? obscurlane_read_identity(bytes, len) : obscurlane_read_record(bytes, len);
+}
+
+static obscurlane_place read_field(const struct sample *of, const uint8_t *bytes, size_t len, size_t wanted)
+{
+    return of->mark == ':' ? obscurlane_identity_field(bytes, len, wanted) : obscurlane_record_field(bytes, len, wanted);
+}
+
+static bool are_same(obscurlane_place a, obscurlane_place b)
+{
+    return a.no == b.no && a.field == b.field && a.start == b.start && a.len == b.len;
+}
+
+/* A reading that refuses has this number and field number, and nothing else; so has the call for one field. */
+static void expect_refused(const struct sample *of, const uint8_t *bytes, size_t len, uint8_t no, uint8_t field)
+{
+    obscurlane_answer said = read(of, bytes, len);
+    EXPECT(said.no == no && said.field == field && said.kind == NONE);
+    for (size_t i = 0; i < MOST_FIELDS; i++) {
+        EXPECT(said.starts[i] == 0 && said.lens[i] == 0 && said.kinds[i] == NONE);
+    }
+    EXPECT(are_same(read_field(of, bytes, len, 1), (obscurlane_place){no, field, 0, 0}));
+}
+
+/* One reading has the places and kinds of all fields, and the call for one field has the same place. */
+static void expect_read(const struct sample *of)
+{
+    const uint8_t *bytes = (const uint8_t *)of->text;
+    size_t len = strlen(of->text);
+    obscurlane_answer said = read(of, bytes, len);
+    EXPECT(said.no == OBSCURLANE_ACCEPTED && said.field == 0 && said.kind == of->kind);
+    for (size_t n = 1; n <= MOST_FIELDS; n++) {
+        obscurlane_place place = place_of(of, n);
+        EXPECT(said.starts[n - 1] == place.start && said.lens[n - 1] == place.len);
+        EXPECT(said.kinds[n - 1] == kind_of_field(of, n));
+        EXPECT(are_same(read_field(of, bytes, len, n), place));
+    }
+    EXPECT(are_same(read_field(of, bytes, len, 0), place_of(of, 0)));
+    EXPECT(are_same(read_field(of, bytes, len, SIZE_MAX), place_of(of, 0)));
+}
+
+/* The numbers that do not depend on the fields. */
+static void refused_before_its_fields(const struct sample *of)
+{
+    uint8_t bytes[OBSCURLANE_LONGEST_READ + 1];
+    size_t len = strlen(of->text);
+    memset(bytes, 'A', sizeof bytes);
+    memcpy(bytes, of->text, len);
+    expect_refused(of, bytes, sizeof bytes, OBSCURLANE_TOO_LONG, 0);
+    expect_refused(of, bytes, sizeof bytes - 1, OBSCURLANE_MISSING_CHECK, 0);
+    expect_refused(of, bytes, len - 1, OBSCURLANE_MISSING_CHECK, 0);
+    bytes[len - 5 - 1] ^= 1;
+    expect_refused(of, bytes, len, OBSCURLANE_WRONG_CHECK, 0);
+    expect_refused(of, bytes, strlen(obscurlane_kind_name(of->kind)), OBSCURLANE_UNKNOWN_KIND, 0);
+    expect_refused(of, bytes, 0, OBSCURLANE_UNKNOWN_KIND, 0);
+    expect_refused(of->mark == ':' ? &request : &module, bytes, len, OBSCURLANE_UNKNOWN_KIND, 0);
+
+    struct fields fields = fields_of(of, 0, NULL);
+    fields.count--;
+    expect_refused(of, bytes, write_out(of, &fields, bytes), OBSCURLANE_WRONG_COUNT, 0);
+}
+
+/* ---- building */
+
+static obscurlane_written build(const char *kind, const struct fields *fields, uint8_t *out, size_t room)
+{
+    return obscurlane_build((const uint8_t *)kind, strlen(kind), fields->bytes, fields->total, fields->lens, fields->count,
+                            out, room);
+}
+
+/* A refused call leaves the output as it was. */
+static void expect_unwritten(obscurlane_written made, uint8_t no, uint8_t field, const uint8_t *out, size_t room)
+{
+    EXPECT(made.no == no && made.field == field && made.len == 0);
+    EXPECT(untouched(out, 0, room));
+}
+
+/* The fields of a sample make the sample again, in an output that has just the room. */
+static void expect_built(const struct sample *of)
+{
+    uint8_t out[OBSCURLANE_LONGEST_RECORD];
+    const char *kind = obscurlane_kind_name(of->kind);
+    struct fields fields = fields_of(of, 0, NULL);
+    size_t len = strlen(of->text);
     memset(out, UNTOUCHED, sizeof out);
-    EXPECT(obscurlane_build(BYTES("PK.ECDSA.1"), parts, total, lens, 5, out, OBSCURLANE_LONGEST_RECORD - 1, &field,
-                            &made) == OBSCURLANE_SHORT_OUTPUT);
-    EXPECT(field == 0 && made == 0 && untouched(out, 0, sizeof out));
-    EXPECT(obscurlane_build(BYTES("PK.ECDSA.1"), parts, total, lens, 5, out, OBSCURLANE_LONGEST_RECORD, &field,
-                            &made) == OBSCURLANE_ACCEPTED);
-    EXPECT(field == 0 && made == OBSCURLANE_LONGEST_RECORD && untouched(out, made, sizeof out));
-    parts[len + 194] = 'X';
-    EXPECT(obscurlane_build(BYTES("PK.ECDSA.1"), parts, total, lens, 5, out, sizeof out, &field, &made) ==
-           OBSCURLANE_WRONG_TEXT);
-    EXPECT(field == 3 && made == 0);
+    expect_unwritten(build("none", &fields, out, sizeof out), OBSCURLANE_UNKNOWN_KIND, 0, out, sizeof out);
+    expect_unwritten(build(kind, &fields, out, len - 1), OBSCURLANE_SHORT_OUTPUT, 0, out, sizeof out);
+    fields.total--;
+    expect_unwritten(build(kind, &fields, out, sizeof out), OBSCURLANE_WRONG_COUNT, 0, out, sizeof out);
+    fields.total++;
+    fields.count--;
+    expect_unwritten(build(kind, &fields, out, sizeof out), OBSCURLANE_WRONG_COUNT, 0, out, sizeof out);
+    fields.count++;
+
+    obscurlane_written made = build(kind, &fields, out, len);
+    EXPECT(made.no == OBSCURLANE_ACCEPTED && made.field == 0 && made.len == len);
+    EXPECT(memcmp(out, of->text, len) == 0 && untouched(out, len, sizeof out));
 }
 
-/* An identity whose Manufacturer and MID are as long as can be; its length. */
-static size_t longest_identity(const uint8_t *kind, size_t kind_len, uint8_t *out, size_t room)
+/* A sample with one field changed is refused by that number, read and built alike. */
+static void expect_change_refused(const struct sample *of, size_t changed, const char *with, uint8_t no)
 {
-    uint8_t parts[2 * OBSCURLANE_LONGEST_IDENT + 16 + 16], field = UNTOUCHED;
-    const size_t lens[] = {OBSCURLANE_LONGEST_IDENT, OBSCURLANE_LONGEST_IDENT, 16, 16};
-    size_t made = UNTOUCHED;
-    memset(parts, 'A', sizeof parts);
-    memcpy(parts + 2 * OBSCURLANE_LONGEST_IDENT, "99991231T115959Z", 16);
-    EXPECT(obscurlane_build(kind, kind_len, parts, sizeof parts, lens, 4, out, room, &field, &made) ==
-           OBSCURLANE_ACCEPTED);
-    EXPECT(field == 0 && made <= OBSCURLANE_LONGEST_IDENTITY);
-    return made;
-}
-
-/* The longest identity, and the longest record with it. */
-static void building(void)
-{
-    uint8_t out[OBSCURLANE_LONGEST_IDENTITY + 8], field = UNTOUCHED;
-    const size_t lens[] = {0, 0, 0, 0};
-    size_t made = UNTOUCHED;
+    uint8_t out[OBSCURLANE_LONGEST_READ];
+    struct fields fields = fields_of(of, changed, with);
+    uint8_t field = no == OBSCURLANE_UNPAIRED ? 0 : (uint8_t)changed;
+    expect_refused(of, out, write_out(of, &fields, out), no, field);
     memset(out, UNTOUCHED, sizeof out);
-    EXPECT(obscurlane_build(BYTES("SMMAN.2"), BYTES(""), lens, 4, out, sizeof out, &field, &made) ==
-           OBSCURLANE_UNKNOWN_KIND);
-    EXPECT(obscurlane_build(BYTES("SMMAN.1"), BYTES("A"), lens, 4, out, sizeof out, &field, &made) ==
-           OBSCURLANE_WRONG_COUNT);
-    EXPECT(field == 0 && made == 0 && untouched(out, 0, sizeof out));
-    made = longest_identity(BYTES("SMMAN.1"), out, sizeof out);
-    EXPECT(made == OBSCURLANE_LONGEST_IDENTITY && untouched(out, made, sizeof out));
-    longest_record(out, made);
+    expect_unwritten(build(obscurlane_kind_name(of->kind), &fields, out, sizeof out), no, field, out, sizeof out);
 }
 
-typedef uint8_t text_call(const uint8_t *, size_t, uint8_t *, size_t, uint8_t *, size_t *);
-
-static void text_of(text_call *call, size_t expected, const char *label)
+static void records(void)
 {
-    uint8_t out[OBSCURLANE_LONGEST_MODULE_TEXT], field = UNTOUCHED;
-    size_t len = UNTOUCHED, start = UNTOUCHED, item = UNTOUCHED;
+    static const struct sample *const samples[] = {&maker,      &module,     &centre,  &maker_key,
+                                                   &module_key, &centre_key, &request, &response};
+    for (size_t i = 0; i < COUNT_OF(samples); i++) {
+        expect_read(samples[i]);
+        refused_before_its_fields(samples[i]);
+        expect_built(samples[i]);
+    }
+    expect_change_refused(&module, OBSCURLANE_IDENTITY_GNT, "20180120T240000Z", OBSCURLANE_WRONG_TEXT);
+    expect_change_refused(&centre, OBSCURLANE_IDENTITY_MANUFACTURER, "", OBSCURLANE_WRONG_TEXT);
+    expect_change_refused(&request, OBSCURLANE_REQ_MAC_TAG, "0A", OBSCURLANE_WRONG_TEXT);
+    expect_change_refused(&request, OBSCURLANE_REQ_ID_SM, "Prism", OBSCURLANE_WRONG_IDENTITY);
+    expect_change_refused(&request, OBSCURLANE_REQ_ID_KMC, WORKED_ID_SM, OBSCURLANE_WRONG_KIND);
+    expect_change_refused(&response, OBSCURLANE_RESP_ID_KMC, WORKED_ID_SM, OBSCURLANE_WRONG_KIND);
+    expect_change_refused(&response, OBSCURLANE_RESP_TVP, "", OBSCURLANE_WRONG_TEXT);
+    expect_change_refused(&maker_key, OBSCURLANE_PUBKEY_SIGNATURE, "", OBSCURLANE_UNPAIRED);
+    expect_change_refused(&centre_key, OBSCURLANE_PUBKEY_ISSUER, WORKED_ID_MAKER, OBSCURLANE_UNPAIRED);
+    expect_change_refused(&centre_key, OBSCURLANE_PUBKEY_SUBJECT, WORKED_ID_MAKER, OBSCURLANE_WRONG_KIND);
+}
+
+/* ---- the longest of each: the header's lengths */
+
+/* The longest identity of a kind, as a text. */
+static void write_longest_identity(const char *kind, char out[OBSCURLANE_LONGEST_IDENTITY + 1])
+{
+    struct fields fields = {.total = 0, .count = 0};
+    add(&fields, LONGEST_IDENT, OBSCURLANE_LONGEST_IDENT);
+    add(&fields, LONGEST_IDENT, OBSCURLANE_LONGEST_IDENT);
+    add_from(&fields, &module, OBSCURLANE_IDENTITY_GNT);
+    add_from(&fields, &module, OBSCURLANE_IDENTITY_FINGERPRINT);
+    obscurlane_written made = build(kind, &fields, (uint8_t *)out, OBSCURLANE_LONGEST_IDENTITY);
+    EXPECT(made.no == OBSCURLANE_ACCEPTED);
+    out[made.len] = '\0';
+}
+
+static void longest_record(void)
+{
+    char identity[OBSCURLANE_LONGEST_IDENTITY + 1];
+    uint8_t out[OBSCURLANE_LONGEST_RECORD];
+    struct fields fields = {.total = 0, .count = 0};
+    write_longest_identity("SMMAN.1", identity);
+    EXPECT(strlen(identity) == OBSCURLANE_LONGEST_IDENTITY);
+    add(&fields, identity, strlen(identity));
+    add_from(&fields, &maker_key, OBSCURLANE_PUBKEY_Q);
+    add_from(&fields, &maker_key, OBSCURLANE_PUBKEY_EXPIRY);
+    add(&fields, identity, strlen(identity));
+    add_from(&fields, &maker_key, OBSCURLANE_PUBKEY_SIGNATURE);
+    EXPECT(build("PK.ECDSA.1", &fields, out, sizeof out - 1).no == OBSCURLANE_SHORT_OUTPUT);
+    EXPECT(build("PK.ECDSA.1", &fields, out, sizeof out).len == OBSCURLANE_LONGEST_RECORD);
+}
+
+/* The request whose texts are the longest; its length. */
+static size_t write_longest_request(uint8_t *out, size_t room)
+{
+    char identity[OBSCURLANE_LONGEST_IDENTITY + 1];
+    struct fields fields = {.total = 0, .count = 0};
+    write_longest_identity("SMID.1", identity);
+    add(&fields, identity, strlen(identity));
+    write_longest_identity("KMCID.1", identity);
+    add(&fields, identity, strlen(identity));
+    add_from(&fields, &request, OBSCURLANE_REQ_TVP);
+    add(&fields, LONGEST_IDENT, OBSCURLANE_LONGEST_IDENT);
+    add(&fields, LONGEST_IDENT, OBSCURLANE_LONGEST_IDENT);
+    add_from(&fields, &request, OBSCURLANE_REQ_QE);
+    add_from(&fields, &request, OBSCURLANE_REQ_MAC_TAG);
+    obscurlane_written made = build("VKLOAD.REQ.1", &fields, out, room);
+    EXPECT(made.no == OBSCURLANE_ACCEPTED);
+    return made.len;
+}
+
+/* ---- the key agreement texts, and their items */
+
+typedef obscurlane_written text_call(const uint8_t *, size_t, uint8_t *, size_t);
+
+static size_t add_item(uint8_t *out, size_t len, const char *item, size_t item_len)
+{
+    out[len] = (uint8_t)item_len;
+    memcpy(out + len + 1, item, item_len);
+    return len + 1 + item_len;
+}
+
+/* QE as its bytes. */
+static size_t add_decoded(uint8_t *out, size_t len, const char *digits)
+{
+    char bytes[97];
+    for (size_t i = 0; i < sizeof bytes; i++) {
+        const char pair[] = {digits[2 * i], digits[2 * i + 1], '\0'};
+        bytes[i] = (char)strtoul(pair, NULL, 16);
+    }
+    return add_item(out, len, bytes, sizeof bytes);
+}
+
+/* The text of a label and of fields of the request, by their numbers; its length. */
+static size_t write_text(uint8_t *out, const char *label, const char *fields)
+{
+    out[0] = (uint8_t)(1 + strlen(fields));
+    size_t len = add_item(out, 1, label, strlen(label));
+    for (size_t i = 0; fields[i] != '\0'; i++) {
+        size_t n = (size_t)(fields[i] - '0');
+        obscurlane_place place = place_of(&request, n);
+        const char *field = request.text + place.start;
+        len = n == OBSCURLANE_REQ_QE ? add_decoded(out, len, field) : add_item(out, len, field, place.len);
+    }
+    return len;
+}
+
+static void expect_text(text_call *call, size_t len, const char *label, const char *fields)
+{
+    uint8_t out[OBSCURLANE_LONGEST_MODULE_TEXT], expected[OBSCURLANE_LONGEST_MODULE_TEXT];
+    uint8_t wrong[OBSCURLANE_LONGEST_RECORD];
+    struct fields changed = fields_of(&request, OBSCURLANE_REQ_TVP, "");
+    size_t wrong_len = write_out(&request, &changed, wrong);
     memset(out, UNTOUCHED, sizeof out);
-    EXPECT(call(BYTES(WORKED_RESPONSE), out, sizeof out, &field, &len) == OBSCURLANE_UNKNOWN_KIND);
-    EXPECT(call(BYTES(WORKED_REQUEST), out, expected - 1, &field, &len) == OBSCURLANE_SHORT_OUTPUT);
-    EXPECT(field == 0 && len == 0 && untouched(out, 0, sizeof out));
-    EXPECT(call(BYTES(WORKED_REQUEST), out, expected, &field, &len) == OBSCURLANE_ACCEPTED);
-    EXPECT(field == 0 && len == expected && untouched(out, len, sizeof out));
-    EXPECT(obscurlane_text_item(out, len, 1, &start, &item) == OBSCURLANE_ACCEPTED);
-    EXPECT(start == 2 && item == strlen(label) && memcmp(out + start, label, item) == 0);
-    EXPECT(obscurlane_text_item(out, len - 1, 1, &start, &item) == OBSCURLANE_MISSING_ITEM);
-    EXPECT(start == 0 && item == 0);
-}
+    expect_unwritten(call(BYTES(WORKED_RESPONSE), out, sizeof out), OBSCURLANE_UNKNOWN_KIND, 0, out, sizeof out);
+    expect_unwritten(call(wrong, wrong_len, out, sizeof out), OBSCURLANE_WRONG_TEXT, OBSCURLANE_REQ_TVP, out, sizeof out);
+    expect_unwritten(call(BYTES(WORKED_REQUEST), out, len - 1), OBSCURLANE_SHORT_OUTPUT, 0, out, sizeof out);
 
-/* The request whose texts are the longest. */
-static size_t longest_request(uint8_t *out, size_t room)
-{
-    enum { IDENT = OBSCURLANE_LONGEST_IDENT };
-    uint8_t parts[OBSCURLANE_LONGEST_RECORD], field = UNTOUCHED;
-    size_t made = UNTOUCHED;
-    size_t module = longest_identity(BYTES("SMID.1"), parts, sizeof parts);
-    size_t centre = longest_identity(BYTES("KMCID.1"), parts + module, sizeof parts - module);
-    const size_t lens[] = {module, centre, 16, IDENT, IDENT, 194, 48};
-    size_t total = module + centre;
-    memcpy(parts + total, "20180125T150000Z", 16);
-    memset(parts + total + 16, '4', IDENT + IDENT + 194 + 48);
-    parts[total + 16 + IDENT + IDENT] = '0';
-    total += 16 + IDENT + IDENT + 194 + 48;
-    EXPECT(obscurlane_build(BYTES("VKLOAD.REQ.1"), parts, total, lens, 7, out, room, &field, &made) ==
-           OBSCURLANE_ACCEPTED);
-    return made;
+    obscurlane_written made = call(BYTES(WORKED_REQUEST), out, len);
+    EXPECT(made.no == OBSCURLANE_ACCEPTED && made.field == 0 && made.len == len);
+    EXPECT(write_text(expected, label, fields) == len && memcmp(out, expected, len) == 0);
+    EXPECT(untouched(out, len, sizeof out));
 }
 
 static void texts(void)
 {
-    text_of(obscurlane_shared_info, 163, "STS.KAA.1");
-    text_of(obscurlane_module_text, 276, "U_2");
-    text_of(obscurlane_centre_text, 254, "V2");
+    expect_text(obscurlane_shared_info, 163, "STS.KAA.1", "123");
+    expect_text(obscurlane_module_text, 276, "U_2", "126345");
+    expect_text(obscurlane_centre_text, 254, "V2", "2136");
 
-    uint8_t request[OBSCURLANE_LONGEST_RECORD], out[OBSCURLANE_LONGEST_MODULE_TEXT], field = UNTOUCHED;
-    size_t request_len = longest_request(request, sizeof request), len = UNTOUCHED;
-    EXPECT(obscurlane_shared_info(request, request_len, out, sizeof out, &field, &len) == OBSCURLANE_ACCEPTED);
-    EXPECT(len == OBSCURLANE_LONGEST_SHARED_INFO);
-    EXPECT(obscurlane_module_text(request, request_len, out, sizeof out, &field, &len) == OBSCURLANE_ACCEPTED);
-    EXPECT(len == OBSCURLANE_LONGEST_MODULE_TEXT);
-    EXPECT(obscurlane_centre_text(request, request_len, out, sizeof out, &field, &len) == OBSCURLANE_ACCEPTED);
-    EXPECT(len == OBSCURLANE_LONGEST_CENTRE_TEXT);
+    uint8_t longest[OBSCURLANE_LONGEST_RECORD], out[OBSCURLANE_LONGEST_MODULE_TEXT];
+    size_t len = write_longest_request(longest, sizeof longest);
+    EXPECT(obscurlane_shared_info(longest, len, out, sizeof out).len == OBSCURLANE_LONGEST_SHARED_INFO);
+    EXPECT(obscurlane_module_text(longest, len, out, sizeof out).len == OBSCURLANE_LONGEST_MODULE_TEXT);
+    EXPECT(obscurlane_centre_text(longest, len, out, sizeof out).len == OBSCURLANE_LONGEST_CENTRE_TEXT);
 }
 
-static void files(void)
+/* An item has its place; what is none has none. */
+static void items(void)
 {
-    uint8_t no, field;
-    size_t place = 0, kind, start, len, next, lines, accepted;
-    for (size_t i = 0; i < 3; i++) {
-        EXPECT(obscurlane_line_at(BYTES(THREE_LINES), place, &no, &field, &kind, &start, &len, &next));
-        EXPECT(no == three_numbers[i] && field == 0 && kind == OBSCURLANE_KIND_NONE);
-        EXPECT(start == three_starts[i] && len == three_sizes[i] && next == three_nexts[i]);
-        place = next;
+    static const uint8_t two[] = {2, 2, 'A', 'B', 0};
+    obscurlane_item item = obscurlane_text_item(two, sizeof two, 1);
+    EXPECT(item.no == OBSCURLANE_ACCEPTED && item.start == 2 && item.len == 2);
+    item = obscurlane_text_item(two, sizeof two, 2);
+    EXPECT(item.no == OBSCURLANE_ACCEPTED && item.start == 5 && item.len == 0);
+    for (size_t wanted = 0; wanted <= 3; wanted += 3) {
+        item = obscurlane_text_item(two, sizeof two, wanted);
+        EXPECT(item.no == OBSCURLANE_MISSING_ITEM && item.start == 0 && item.len == 0);
     }
-    EXPECT(!obscurlane_line_at(BYTES(THREE_LINES), 99, &no, &field, &kind, &start, &len, &next));
-    EXPECT(no == 0 && field == 0 && kind == OBSCURLANE_KIND_NONE && start == 99 && len == 0 && next == 99);
-    obscurlane_count(BYTES(THREE_LINES), &lines, &accepted);
-    EXPECT(lines == 3 && accepted == 0);
-    obscurlane_count(BYTES(WORKED_REQUEST "\n" WORKED_RESPONSE "\n"), &lines, &accepted);
-    EXPECT(lines == 2 && accepted == 2);
+    item = obscurlane_text_item(two, sizeof two - 1, 1);
+    EXPECT(item.no == OBSCURLANE_MISSING_ITEM && item.start == 0 && item.len == 0);
+}
+
+/* ---- the newer of two keys */
+
+static void expect_choice(obscurlane_choice choice, uint8_t no, uint8_t field, uint8_t which)
+{
+    EXPECT(choice.no == no && choice.field == field && choice.which == which);
 }
 
 static void newer(void)
 {
-    uint8_t field = UNTOUCHED, which = UNTOUCHED;
-    EXPECT(obscurlane_newer(BYTES(WORKED_KEY_MAKER), BYTES(WORKED_KEY_MAKER), &field, &which) == OBSCURLANE_ACCEPTED);
-    EXPECT(field == 0 && which == OBSCURLANE_FIRST);
-    EXPECT(obscurlane_newer(BYTES(WORKED_KEY_MAKER), BYTES(WORKED_KEY_CENTRE), &field, &which) == OBSCURLANE_NOT_ALIKE);
-    EXPECT(field == 0 && which == 0);
-    EXPECT(obscurlane_newer(BYTES(WORKED_KEY_MAKER), BYTES(WORKED_REQUEST), &field, &which) == OBSCURLANE_UNKNOWN_KIND);
-    EXPECT(field == 0 && which == 0);
-}
+    char subject[OBSCURLANE_LONGEST_IDENTITY] = "";
+    uint8_t later[OBSCURLANE_LONGEST_RECORD], wrong[OBSCURLANE_LONGEST_RECORD];
+    struct fields fields = fields_of(&centre, OBSCURLANE_IDENTITY_GNT, "20190110T120000Z");
+    EXPECT(build("KMCID.1", &fields, (uint8_t *)subject, sizeof subject).no == OBSCURLANE_ACCEPTED);
+    fields = fields_of(&centre_key, OBSCURLANE_PUBKEY_SUBJECT, subject);
+    size_t later_len = build("PK.ECDH.1", &fields, later, sizeof later).len;
+    fields = fields_of(&centre_key, OBSCURLANE_PUBKEY_EXPIRY, "");
+    size_t wrong_len = write_out(&centre_key, &fields, wrong);
 
-static void listing(void)
-{
-    uint8_t out[OBSCURLANE_LONGEST_LINE_TEXT + 1], field = UNTOUCHED;
-    size_t len = UNTOUCHED;
-    memset(out, UNTOUCHED, sizeof out);
-    EXPECT(obscurlane_line_text(3, 13, 3, 11, out, 9, &field, &len) == OBSCURLANE_SHORT_OUTPUT);
-    EXPECT(field == 0 && len == 0 && untouched(out, 0, sizeof out));
-    EXPECT(obscurlane_line_text(3, 13, 3, 11, out, 10, &field, &len) == OBSCURLANE_ACCEPTED);
-    EXPECT(field == 0 && len == 10 && memcmp(out, "3 13 3 11\n", 10) == 0 && untouched(out, 10, sizeof out));
-    EXPECT(obscurlane_line_text(SIZE_MAX, SIZE_MAX, SIZE_MAX, UINT8_MAX, out, sizeof out, &field, &len) == 0);
-    EXPECT(field == 0 && len == OBSCURLANE_LONGEST_LINE_TEXT);
-    EXPECT(obscurlane_end_text(3, 0, out, 7, &field, &len) == OBSCURLANE_SHORT_OUTPUT);
-    EXPECT(obscurlane_end_text(3, 0, out, 8, &field, &len) == OBSCURLANE_ACCEPTED);
-    EXPECT(field == 0 && len == 8 && memcmp(out, "end 3 0\n", 8) == 0);
-    EXPECT(obscurlane_end_text(SIZE_MAX, SIZE_MAX, out, sizeof out, &field, &len) == OBSCURLANE_ACCEPTED);
-    EXPECT(field == 0 && len == OBSCURLANE_LONGEST_END_TEXT);
+    expect_choice(obscurlane_newer(BYTES(WORKED_KEY_CENTRE), later, later_len), 0, 0, OBSCURLANE_SECOND);
+    expect_choice(obscurlane_newer(later, later_len, BYTES(WORKED_KEY_CENTRE)), 0, 0, OBSCURLANE_FIRST);
+    expect_choice(obscurlane_newer(later, later_len, later, later_len), 0, 0, OBSCURLANE_FIRST);
+    expect_choice(obscurlane_newer(wrong, wrong_len, BYTES("")), OBSCURLANE_WRONG_TEXT, 3, OBSCURLANE_FIRST);
+    expect_choice(obscurlane_newer(later, later_len, wrong, wrong_len), OBSCURLANE_WRONG_TEXT, 3, OBSCURLANE_SECOND);
+    expect_choice(obscurlane_newer(BYTES(WORKED_REQUEST), later, later_len), OBSCURLANE_UNKNOWN_KIND, 0,
+                  OBSCURLANE_FIRST);
+    expect_choice(obscurlane_newer(BYTES(WORKED_KEY_MAKER), BYTES(WORKED_KEY_CENTRE)), OBSCURLANE_NOT_ALIKE, 0, 0);
 }
 
 int main(void)
 {
-    check_and_types();
-    long_types();
-    reading();
-    fields();
-    building();
+    records();
+    longest_record();
     texts();
-    files();
+    items();
     newer();
-    listing();
     call_parts();
     printf("every function: %lu as expected\n", expectations);
     return EXIT_SUCCESS;

@@ -1,266 +1,156 @@
-/*
- * The second half of every.c: the check by its state, conversions, the table of kinds, marks and parts, reading by rows and
- * codes, pieces of an output, a reader, and the printed list. Each function is called with what it takes and with what is
- * not there.
- */
-#define _POSIX_C_SOURCE 200809L
-
+/* The second half of every.c: the check, the text types, files, and the names. */
 #include "expect.h"
 #include "worked.h"
 
 #include <stdio.h>
 #include <string.h>
-#include <unistd.h>
 
-static void check_states(void)
+static void check(void)
 {
+    EXPECT(obscurlane_crc_of(BYTES("")) == 0xFFFF);
+    EXPECT(obscurlane_crc_of(BYTES("\0")) == 0x40BF);
+    EXPECT(obscurlane_crc_of(BYTES("123456789")) == 0x4B37);
     uint16_t state = obscurlane_crc_begin();
-    EXPECT(state == 0xFFFF && obscurlane_crc_end(state) == obscurlane_crc_of(BYTES("")));
+    EXPECT(state == 0xFFFF && obscurlane_crc_end(state) == 0xFFFF);
     for (uint8_t digit = '1'; digit <= '9'; digit++) {
         state = obscurlane_crc_add(state, digit);
     }
     EXPECT(obscurlane_crc_end(state) == 0x4B37);
-    EXPECT(obscurlane_crc_add(0, 0) == 0);
-    EXPECT(obscurlane_crc_add(0, 1) == 0xC0C1);
-    EXPECT(obscurlane_crc_end(0) == 0);
+    EXPECT(obscurlane_crc_add(0, 0) == 0 && obscurlane_crc_add(0, 1) == 0xC0C1 && obscurlane_crc_end(0) == 0);
 }
 
-static void conversions(void)
+static void types(void)
 {
-    EXPECT(obscurlane_are_same(BYTES(""), BYTES("")));
-    EXPECT(obscurlane_are_same(BYTES("a\0b"), BYTES("a\0b")));
-    EXPECT(!obscurlane_are_same(BYTES("a\0b"), BYTES("a\0c")));
-    EXPECT(!obscurlane_are_same(BYTES("a"), BYTES("aa")));
-    EXPECT(!obscurlane_are_same(BYTES("aa"), BYTES("a")));
-    EXPECT(obscurlane_hex_digit(0) == '0' && obscurlane_hex_digit(9) == '9');
-    EXPECT(obscurlane_hex_digit(10) == 'A' && obscurlane_hex_digit(15) == 'F');
-    EXPECT(obscurlane_hex_digit(16) == 0 && obscurlane_hex_digit(255) == 0);
-    EXPECT(obscurlane_hex_value('0') == 0 && obscurlane_hex_value('9') == 9);
-    EXPECT(obscurlane_hex_value('A') == 10 && obscurlane_hex_value('F') == 15);
-    EXPECT(obscurlane_hex_value('a') == 16 && obscurlane_hex_value('G') == 16 && obscurlane_hex_value(0) == 16);
+    EXPECT(obscurlane_is_ident(BYTES("sts-KeyAgreement-1.2")));
+    EXPECT(!obscurlane_is_ident(BYTES("")) && !obscurlane_is_ident(BYTES("_A")));
+    EXPECT(obscurlane_is_timestamp(BYTES("20180120T235959Z")));
+    EXPECT(!obscurlane_is_timestamp(BYTES("20180120T240000Z")));
+    EXPECT(obscurlane_is_print(BYTES("320C265FDC769D3E")) && !obscurlane_is_print(BYTES("320C265FDC769D3")));
+    EXPECT(obscurlane_is_hex(2, BYTES("0A")) && !obscurlane_is_hex(2, BYTES("0a")));
+    EXPECT(obscurlane_is_hex(0, BYTES("")) && !obscurlane_is_hex(3, BYTES("0A")));
 
-    uint8_t text[6];
-    memset(text, UNTOUCHED, sizeof text);
-    obscurlane_check_text(0x8EFF, text + 1);
-    EXPECT(memcmp(text + 1, "8EFF", 4) == 0 && untouched(text, 0, 1) && untouched(text, 5, 6));
-    obscurlane_check_text(0x000A, text + 1);
-    EXPECT(memcmp(text + 1, "000A", 4) == 0);
+    uint8_t digits[194], letters[OBSCURLANE_LONGEST_IDENT + 1];
+    memset(letters, 'A', sizeof letters);
+    EXPECT(obscurlane_is_ident(letters, OBSCURLANE_LONGEST_IDENT) && !obscurlane_is_ident(letters, sizeof letters));
+    memset(digits, '4', sizeof digits);
+    digits[0] = '0';
+    EXPECT(obscurlane_is_point(digits, 194) && !obscurlane_is_point(digits, 193));
+    EXPECT(obscurlane_is_sig(digits, 192) && !obscurlane_is_sig(digits, 191));
+    EXPECT(obscurlane_is_mac(digits, 48) && !obscurlane_is_mac(digits, 49));
+    digits[1] = '2';
+    EXPECT(!obscurlane_is_point(digits, 194));
 }
 
-static void rows(void)
+/* ---- files */
+
+/* An accepted line, the scope paper's example (an empty line, a line of another kind, and bytes without line feed), and before
+ * these bytes a line that is refused at its first field. */
+#define LINES WORKED_RESPONSE "\n\nPK.ECDH.2|x\nVKLOAD.RESP.1|a|b|c|d|D350\nabc"
+
+static const obscurlane_line lines[] = {
+    {true, OBSCURLANE_ACCEPTED, 0, OBSCURLANE_KIND_RESP, 0, 219, 220},
+    {true, OBSCURLANE_UNKNOWN_KIND, 0, OBSCURLANE_KIND_NONE, 220, 0, 221},
+    {true, OBSCURLANE_UNKNOWN_KIND, 0, OBSCURLANE_KIND_NONE, 221, 11, 233},
+    {true, OBSCURLANE_WRONG_IDENTITY, 1, OBSCURLANE_KIND_NONE, 233, 26, 260},
+    {true, OBSCURLANE_UNFINISHED, 0, OBSCURLANE_KIND_NONE, 260, 3, 263},
+    {false, 0, 0, OBSCURLANE_KIND_NONE, 263, 0, 263},
+};
+
+static bool are_same(obscurlane_line a, obscurlane_line b)
 {
-    static const uint8_t codes[] = {OBSCURLANE_TYPE_ID_SMID_OR_KMCID, OBSCURLANE_TYPE_POINT, OBSCURLANE_TYPE_TIMESTAMP,
-                                    OBSCURLANE_TYPE_ID_SMMAN_OR_EMPTY, OBSCURLANE_TYPE_SIG_OR_EMPTY};
-    EXPECT(obscurlane_mark_of(OBSCURLANE_KIND_KMCID) == ':' && obscurlane_mark_of(OBSCURLANE_KIND_ECDSA) == '|');
-    EXPECT(obscurlane_mark_of(OBSCURLANE_KIND_NONE) == 0 && obscurlane_mark_of(SIZE_MAX) == 0);
-    EXPECT(obscurlane_count_of(OBSCURLANE_KIND_SMMAN) == 4 && obscurlane_count_of(OBSCURLANE_KIND_REQ) == 7);
-    EXPECT(obscurlane_count_of(OBSCURLANE_KIND_NONE) == 0 && obscurlane_count_of(SIZE_MAX) == 0);
-    for (size_t j = 0; j < sizeof codes; j++) {
-        EXPECT(obscurlane_type_of(OBSCURLANE_KIND_ECDH, j) == codes[j]);
-    }
-    EXPECT(obscurlane_type_of(OBSCURLANE_KIND_RESP, 3) == OBSCURLANE_TYPE_MAC);
-    EXPECT(obscurlane_type_of(OBSCURLANE_KIND_RESP, 4) == OBSCURLANE_TYPE_IDENT);
-    EXPECT(obscurlane_type_of(OBSCURLANE_KIND_NONE, 0) == OBSCURLANE_TYPE_IDENT);
-    EXPECT(obscurlane_type_of(SIZE_MAX, SIZE_MAX) == OBSCURLANE_TYPE_IDENT);
-    EXPECT(obscurlane_is_pubkey(OBSCURLANE_KIND_ECDSA) && obscurlane_is_pubkey(OBSCURLANE_KIND_ECDH));
-    EXPECT(!obscurlane_is_pubkey(OBSCURLANE_KIND_REQ) && !obscurlane_is_pubkey(SIZE_MAX));
+    return a.line == b.line && a.no == b.no && a.field == b.field && a.kind == b.kind && a.start == b.start &&
+           a.len == b.len && a.next == b.next;
 }
 
-static void titles(void)
+static void files(void)
 {
-    EXPECT(obscurlane_row_in(BYTES("PK.ECDH.1"), '|', 0, 7) == OBSCURLANE_KIND_ECDH);
-    EXPECT(obscurlane_row_in(BYTES("PK.ECDH.1"), '|', 4, SIZE_MAX) == OBSCURLANE_KIND_ECDH);
-    EXPECT(obscurlane_row_in(BYTES("PK.ECDH.1"), '|', 0, 4) == OBSCURLANE_KIND_NONE);
-    EXPECT(obscurlane_row_in(BYTES("PK.ECDH.1"), '|', 5, 4) == OBSCURLANE_KIND_NONE);
-    EXPECT(obscurlane_row_in(BYTES("PK.ECDH.1"), ':', 0, 7) == OBSCURLANE_KIND_NONE);
-    EXPECT(obscurlane_identity_kind(BYTES("SMID.1"), ':') == OBSCURLANE_KIND_SMID);
-    EXPECT(obscurlane_identity_kind(BYTES("SMID.1"), '|') == OBSCURLANE_KIND_NONE);
-    EXPECT(obscurlane_identity_kind(BYTES("PK.ECDSA.1"), '|') == OBSCURLANE_KIND_NONE);
-    EXPECT(obscurlane_record_kind(BYTES("VKLOAD.REQ.1"), '|', 0, 7) == OBSCURLANE_KIND_REQ);
-    EXPECT(obscurlane_record_kind(BYTES("VKLOAD.REQ.1"), '|', 6, 7) == OBSCURLANE_KIND_NONE);
-    EXPECT(obscurlane_record_kind(BYTES("SMID.1"), ':', 0, 7) == OBSCURLANE_KIND_NONE);
-    EXPECT(obscurlane_kind_named(BYTES("SMMAN.1")) == OBSCURLANE_KIND_SMMAN);
-    EXPECT(obscurlane_kind_named(BYTES("VKLOAD.RESP.1")) == OBSCURLANE_KIND_RESP);
-    EXPECT(obscurlane_kind_named(BYTES("VKLOAD.RESP.2")) == OBSCURLANE_KIND_NONE);
-    EXPECT(obscurlane_kind_named(BYTES("")) == OBSCURLANE_KIND_NONE);
-}
-
-static void codes(void)
-{
-    EXPECT(obscurlane_is_identity(OBSCURLANE_TYPE_ID_SMMAN));
-    EXPECT(obscurlane_is_identity(OBSCURLANE_TYPE_ID_SMMAN_OR_EMPTY));
-    EXPECT(!obscurlane_is_identity(OBSCURLANE_TYPE_SIG_OR_EMPTY));
-    EXPECT(!obscurlane_is_identity(OBSCURLANE_TYPE_ID_SMMAN_OR_EMPTY + 1) && !obscurlane_is_identity(UINT8_MAX));
-    EXPECT(obscurlane_may_be_empty(OBSCURLANE_TYPE_SIG_OR_EMPTY));
-    EXPECT(obscurlane_may_be_empty(OBSCURLANE_TYPE_ID_SMMAN_OR_EMPTY));
-    EXPECT(!obscurlane_may_be_empty(OBSCURLANE_TYPE_IDENT) && !obscurlane_may_be_empty(UINT8_MAX));
-    EXPECT(obscurlane_does_permit(OBSCURLANE_TYPE_ID_SMID_OR_KMCID, OBSCURLANE_KIND_SMID));
-    EXPECT(obscurlane_does_permit(OBSCURLANE_TYPE_ID_SMID_OR_KMCID, OBSCURLANE_KIND_KMCID));
-    EXPECT(obscurlane_does_permit(OBSCURLANE_TYPE_ID_SMMAN_OR_EMPTY, OBSCURLANE_KIND_SMMAN));
-    EXPECT(!obscurlane_does_permit(OBSCURLANE_TYPE_ID_SMID, OBSCURLANE_KIND_KMCID));
-    EXPECT(!obscurlane_does_permit(OBSCURLANE_TYPE_IDENT, OBSCURLANE_KIND_SMMAN));
-    EXPECT(!obscurlane_does_permit(UINT8_MAX, OBSCURLANE_KIND_SMMAN));
-    EXPECT(!obscurlane_does_permit(OBSCURLANE_TYPE_ID_SMID, SIZE_MAX));
-}
-
-static void marks(void)
-{
-    size_t start = UNTOUCHED, len = UNTOUCHED;
-    obscurlane_title_of(BYTES("AB|c:d"), &start, &len);
-    EXPECT(start == 0 && len == 2);
-    start = UNTOUCHED;
-    obscurlane_title_of(BYTES("ABc"), &start, &len);
-    EXPECT(start == 0 && len == 3);
-    obscurlane_title_of(BYTES(""), &start, &len);
-    EXPECT(start == 0 && len == 0);
-    EXPECT(obscurlane_mark_after(BYTES("AB|c:d")) == '|' && obscurlane_mark_after(BYTES(":c|d")) == ':');
-    EXPECT(obscurlane_mark_after(BYTES("ABc")) == 0 && obscurlane_mark_after(BYTES("")) == 0);
-    EXPECT(obscurlane_next_mark('|', BYTES("A|b|"), 0) == 1);
-    EXPECT(obscurlane_next_mark('|', BYTES("A|b|"), 2) == 3);
-    EXPECT(obscurlane_next_mark(':', BYTES("A|b|"), 0) == 4);
-    EXPECT(obscurlane_next_mark('|', BYTES("A|b|"), 9) == 9);
-}
-
-static void body_parts(void)
-{
-    size_t start = UNTOUCHED, len = UNTOUCHED;
-    EXPECT(obscurlane_count_fields('|', BYTES("A||b|")) == 2 && obscurlane_count_fields('|', BYTES("A||b")) == 2);
-    EXPECT(obscurlane_count_fields(':', BYTES("A||b|")) == 0 && obscurlane_count_fields('|', BYTES("")) == 0);
-    EXPECT(obscurlane_part_start('|', BYTES("A||bc|"), 2) == 3);
-    EXPECT(obscurlane_part_start('|', BYTES("A||bc|"), 3) == 6);
-    EXPECT(obscurlane_part_start('|', BYTES("A||bc"), SIZE_MAX) == 6);
-    obscurlane_part('|', BYTES("A||bc|"), 2, &start, &len);
-    EXPECT(start == 3 && len == 2);
-    obscurlane_part('|', BYTES("A||bc|"), 1, &start, &len);
-    EXPECT(start == 2 && len == 0);
-    obscurlane_part('|', BYTES("A||bc|"), 3, &start, &len);
-    EXPECT(start == 0 && len == 0);
-}
-
-static void checks(void)
-{
-    size_t start = UNTOUCHED, len = UNTOUCHED;
-    obscurlane_body_of(BYTES(WORKED_ID_SM), &start, &len);
-    EXPECT(start == 0 && len == sizeof(WORKED_ID_SM) - 1 - 4);
-    start = UNTOUCHED;
-    obscurlane_body_of(BYTES("abc"), &start, &len);
-    EXPECT(start == 0 && len == 0);
-    EXPECT(obscurlane_check_no(':', BYTES(WORKED_ID_SM)) == OBSCURLANE_ACCEPTED);
-    EXPECT(obscurlane_check_no('|', BYTES(WORKED_REQUEST)) == OBSCURLANE_ACCEPTED);
-    EXPECT(obscurlane_check_no('|', BYTES(WORKED_ID_SM)) == OBSCURLANE_MISSING_CHECK);
-    EXPECT(obscurlane_check_no('|', BYTES("A|8eff")) == OBSCURLANE_MISSING_CHECK);
-    EXPECT(obscurlane_check_no('|', BYTES("A|8EFF")) == OBSCURLANE_WRONG_CHECK);
-}
-
-static void reading_by_rows(void)
-{
-    uint8_t field = UNTOUCHED;
-    size_t kind = UNTOUCHED, start = UNTOUCHED, len = UNTOUCHED;
-    EXPECT(obscurlane_read_of(5, 6, BYTES(WORKED_REQUEST), &field, &kind) == OBSCURLANE_ACCEPTED);
-    EXPECT(field == 0 && kind == OBSCURLANE_KIND_REQ);
-    EXPECT(obscurlane_read_of(3, 5, BYTES(WORKED_REQUEST), &field, &kind) == OBSCURLANE_UNKNOWN_KIND);
-    EXPECT(field == 0 && kind == OBSCURLANE_KIND_NONE);
-    EXPECT(obscurlane_read_of(0, SIZE_MAX, BYTES(WORKED_ID_SM), &field, &kind) == OBSCURLANE_UNKNOWN_KIND);
-    EXPECT(obscurlane_field_of(5, 6, BYTES(WORKED_REQUEST), 5, &field, &start, &len) == OBSCURLANE_ACCEPTED);
-    EXPECT(field == 0 && len == 8 && memcmp(&WORKED_REQUEST[start], "STS6-001", 8) == 0);
-    EXPECT(obscurlane_field_of(3, 5, BYTES(WORKED_REQUEST), 5, &field, &start, &len) == OBSCURLANE_UNKNOWN_KIND);
-    EXPECT(field == 0 && start == 0 && len == 0);
-    EXPECT(obscurlane_field_of(5, 6, BYTES(WORKED_REQUEST), 8, &field, &start, &len) == OBSCURLANE_MISSING_ITEM);
-    EXPECT(field == 0 && start == 0 && len == 0);
-}
-
-static void reading_by_codes(void)
-{
-    EXPECT(obscurlane_field_no(OBSCURLANE_TYPE_IDENT, BYTES("Prism")) == OBSCURLANE_ACCEPTED);
-    EXPECT(obscurlane_field_no(OBSCURLANE_TYPE_IDENT, BYTES("_")) == OBSCURLANE_WRONG_TEXT);
-    EXPECT(obscurlane_field_no(UINT8_MAX, BYTES("Prism")) == OBSCURLANE_ACCEPTED);
-    EXPECT(obscurlane_field_no(OBSCURLANE_TYPE_ID_SMID, BYTES(WORKED_ID_SM)) == OBSCURLANE_ACCEPTED);
-    EXPECT(obscurlane_field_no(OBSCURLANE_TYPE_ID_SMID, BYTES("Prism")) == OBSCURLANE_WRONG_IDENTITY);
-    EXPECT(obscurlane_field_no(OBSCURLANE_TYPE_ID_KMCID, BYTES(WORKED_ID_SM)) == OBSCURLANE_WRONG_KIND);
-    EXPECT(obscurlane_field_no(OBSCURLANE_TYPE_SIG_OR_EMPTY, BYTES("")) == OBSCURLANE_ACCEPTED);
-    EXPECT(obscurlane_whole_no(OBSCURLANE_KIND_ECDH, BYTES(""), BYTES("")) == OBSCURLANE_ACCEPTED);
-    EXPECT(obscurlane_whole_no(OBSCURLANE_KIND_ECDH, BYTES("x"), BYTES("y")) == OBSCURLANE_ACCEPTED);
-    EXPECT(obscurlane_whole_no(OBSCURLANE_KIND_ECDH, BYTES("x"), BYTES("")) == OBSCURLANE_UNPAIRED);
-    EXPECT(obscurlane_whole_no(OBSCURLANE_KIND_ECDSA, BYTES(""), BYTES("y")) == OBSCURLANE_UNPAIRED);
-    EXPECT(obscurlane_whole_no(OBSCURLANE_KIND_REQ, BYTES("x"), BYTES("")) == OBSCURLANE_ACCEPTED);
-}
-
-static void pieces(void)
-{
-    uint8_t out[6], field = UNTOUCHED;
-    size_t len = UNTOUCHED;
-    memset(out, UNTOUCHED, sizeof out);
-    EXPECT(obscurlane_put(out, sizeof out, 5, BYTES("xy")) == 5 && untouched(out, 0, sizeof out));
-    EXPECT(obscurlane_put(out, sizeof out, SIZE_MAX, BYTES("xy")) == SIZE_MAX && untouched(out, 0, sizeof out));
-    EXPECT(obscurlane_put(out, sizeof out, 4, BYTES("xy")) == 6);
-    EXPECT(untouched(out, 0, 4) && memcmp(out + 4, "xy", 2) == 0);
-    EXPECT(obscurlane_put(out, sizeof out, 6, BYTES("")) == 6);
-    EXPECT(obscurlane_put_byte(out, sizeof out, 6, 'z') == 6 && untouched(out, 0, 4));
-    EXPECT(obscurlane_put_byte(out, sizeof out, 1, 'z') == 2);
-    EXPECT(untouched(out, 0, 1) && out[1] == 'z' && untouched(out, 2, 4) && memcmp(out + 4, "xy", 2) == 0);
-    EXPECT(obscurlane_refuse(OBSCURLANE_WRONG_TEXT, 3, &field, &len) == OBSCURLANE_WRONG_TEXT);
-    EXPECT(field == 3 && len == 0);
-    len = UNTOUCHED;
-    EXPECT(obscurlane_refuse(UINT8_MAX, UINT8_MAX, &field, &len) == UINT8_MAX);
-    EXPECT(field == UINT8_MAX && len == 0);
-}
-
-static void reader(void)
-{
-    uint8_t no, field;
-    size_t kind, start, len, place = obscurlane_reader_new(BYTES(THREE_LINES));
+    const obscurlane_line beyond = {false, 0, 0, OBSCURLANE_KIND_NONE, SIZE_MAX, 0, SIZE_MAX};
+    size_t place = obscurlane_reader_new(BYTES(LINES));
     EXPECT(place == 0 && obscurlane_reader_new(BYTES("")) == 0);
-    for (size_t i = 0; i < 3; i++) {
-        EXPECT(obscurlane_reader_step(BYTES(THREE_LINES), &place, &no, &field, &kind, &start, &len));
-        EXPECT(no == three_numbers[i] && field == 0 && kind == OBSCURLANE_KIND_NONE);
-        EXPECT(start == three_starts[i] && len == three_sizes[i] && place == three_nexts[i]);
+    for (size_t i = 0; i < COUNT_OF(lines); i++) {
+        EXPECT(are_same(obscurlane_line_at(BYTES(LINES), place), lines[i]));
+        EXPECT(are_same(obscurlane_reader_step(BYTES(LINES), &place), lines[i]));
+        EXPECT(place == lines[i].next);
     }
-    EXPECT(!obscurlane_reader_step(BYTES(THREE_LINES), &place, &no, &field, &kind, &start, &len));
-    EXPECT(no == 0 && field == 0 && kind == OBSCURLANE_KIND_NONE && start == 16 && len == 0 && place == 16);
-    place = 0;
-    EXPECT(obscurlane_reader_step(BYTES(WORKED_RESPONSE "\n"), &place, &no, &field, &kind, &start, &len));
-    EXPECT(no == OBSCURLANE_ACCEPTED && kind == OBSCURLANE_KIND_RESP && place == sizeof(WORKED_RESPONSE));
+    place = SIZE_MAX;
+    EXPECT(are_same(obscurlane_line_at(BYTES(LINES), place), beyond));
+    EXPECT(are_same(obscurlane_reader_step(BYTES(LINES), &place), beyond) && place == SIZE_MAX);
+
+    obscurlane_totals totals = obscurlane_count(BYTES(LINES));
+    EXPECT(totals.lines == 5 && totals.accepted == 1);
+    totals = obscurlane_count(BYTES(""));
+    EXPECT(totals.lines == 0 && totals.accepted == 0);
 }
 
-/* Whether the list of the file is printed as this text, and answered as so many lines. */
-static bool prints(const uint8_t *file, size_t file_len, const char *expected, size_t lines)
+/* ---- names */
+
+static const struct {
+    size_t kind;
+    const char *name;
+    size_t field;
+    const char *field_name;
+} fields[] = {
+    {OBSCURLANE_KIND_SMMAN, "SMMAN.1", OBSCURLANE_IDENTITY_MANUFACTURER, "Manufacturer"},
+    {OBSCURLANE_KIND_SMMAN, "SMMAN.1", OBSCURLANE_IDENTITY_MID, "MID"},
+    {OBSCURLANE_KIND_SMID, "SMID.1", OBSCURLANE_IDENTITY_GNT, "GNT"},
+    {OBSCURLANE_KIND_KMCID, "KMCID.1", OBSCURLANE_IDENTITY_FINGERPRINT, "Fingerprint"},
+    {OBSCURLANE_KIND_ECDSA, "PK.ECDSA.1", OBSCURLANE_PUBKEY_SUBJECT, "Subject"},
+    {OBSCURLANE_KIND_ECDSA, "PK.ECDSA.1", OBSCURLANE_PUBKEY_Q, "Q"},
+    {OBSCURLANE_KIND_ECDSA, "PK.ECDSA.1", OBSCURLANE_PUBKEY_EXPIRY, "Expiry"},
+    {OBSCURLANE_KIND_ECDH, "PK.ECDH.1", OBSCURLANE_PUBKEY_ISSUER, "Issuer"},
+    {OBSCURLANE_KIND_ECDH, "PK.ECDH.1", OBSCURLANE_PUBKEY_SIGNATURE, "Signature"},
+    {OBSCURLANE_KIND_REQ, "VKLOAD.REQ.1", OBSCURLANE_REQ_ID_SM, "ID_SM"},
+    {OBSCURLANE_KIND_REQ, "VKLOAD.REQ.1", OBSCURLANE_REQ_ID_KMC, "ID_KMC"},
+    {OBSCURLANE_KIND_REQ, "VKLOAD.REQ.1", OBSCURLANE_REQ_TVP, "TVP"},
+    {OBSCURLANE_KIND_REQ, "VKLOAD.REQ.1", OBSCURLANE_REQ_HWID, "HWID"},
+    {OBSCURLANE_KIND_REQ, "VKLOAD.REQ.1", OBSCURLANE_REQ_FWID, "FWID"},
+    {OBSCURLANE_KIND_REQ, "VKLOAD.REQ.1", OBSCURLANE_REQ_QE, "QE"},
+    {OBSCURLANE_KIND_REQ, "VKLOAD.REQ.1", OBSCURLANE_REQ_MAC_TAG, "MacTag"},
+    {OBSCURLANE_KIND_RESP, "VKLOAD.RESP.1", OBSCURLANE_RESP_ID_KMC, "ID_KMC"},
+    {OBSCURLANE_KIND_RESP, "VKLOAD.RESP.1", OBSCURLANE_RESP_ID_SM, "ID_SM"},
+    {OBSCURLANE_KIND_RESP, "VKLOAD.RESP.1", OBSCURLANE_RESP_TVP, "TVP"},
+    {OBSCURLANE_KIND_RESP, "VKLOAD.RESP.1", OBSCURLANE_RESP_MAC_TAG, "MacTag"},
+    {OBSCURLANE_KIND_NONE, "none", 1, ""},
+    {SIZE_MAX, "none", 1, ""},
+    {7, "none", 1, ""},
+    {OBSCURLANE_KIND_REQ, "VKLOAD.REQ.1", 0, ""},
+    {OBSCURLANE_KIND_REQ, "VKLOAD.REQ.1", 8, ""},
+    {OBSCURLANE_KIND_REQ, "VKLOAD.REQ.1", SIZE_MAX, ""},
+    {OBSCURLANE_KIND_ECDSA, "PK.ECDSA.1", 6, ""},
+    {OBSCURLANE_KIND_RESP, "VKLOAD.RESP.1", 5, ""},
+};
+
+static void names(void)
 {
-    char printed[128] = "";
-    FILE *taken = tmpfile();
-    EXPECT(taken != NULL && fflush(stdout) == 0);
-    int screen = dup(STDOUT_FILENO);
-    EXPECT(screen >= 0 && dup2(fileno(taken), STDOUT_FILENO) >= 0);
-    size_t answer = obscurlane_print_list(file, file_len);
-    EXPECT(dup2(screen, STDOUT_FILENO) >= 0 && close(screen) == 0);
-    rewind(taken);
-    size_t len = fread(printed, 1, sizeof printed, taken);
-    EXPECT(fclose(taken) == 0);
-    return answer == lines && len == strlen(expected) && memcmp(printed, expected, len) == 0;
+    for (size_t i = 0; i < COUNT_OF(fields); i++) {
+        EXPECT(strcmp(obscurlane_kind_name(fields[i].kind), fields[i].name) == 0);
+        EXPECT(strcmp(obscurlane_field_name(fields[i].kind, fields[i].field), fields[i].field_name) == 0);
+    }
+    const char *other = obscurlane_reason(OBSCURLANE_NOT_ALIKE + 1);
+    EXPECT(strcmp(obscurlane_reason(UINT8_MAX), other) == 0);
+    for (uint8_t no = 0; no <= OBSCURLANE_NOT_ALIKE; no++) {
+        EXPECT(strcmp(obscurlane_reason(no), other) != 0);
+        for (uint8_t before = 0; before < no; before++) {
+            EXPECT(strcmp(obscurlane_reason(no), obscurlane_reason(before)) != 0);
+        }
+    }
+    EXPECT(strcmp(obscurlane_reason(OBSCURLANE_ACCEPTED), "accepted") == 0);
+    EXPECT(strcmp(obscurlane_reason(OBSCURLANE_WRONG_CHECK), "the check differs") == 0);
 }
 
-static void printing(void)
+static void version(void)
 {
-    static const uint8_t zeros[OBSCURLANE_LONGEST_LISTED + 1];
-    EXPECT(prints(BYTES(THREE_LINES), "1 0 0 2\n2 1 11 2\n3 13 3 11\nend 3 0\n", 4));
-    EXPECT(prints(BYTES(WORKED_RESPONSE "\n"), "1 0 219 0\nend 1 1\n", 2));
-    EXPECT(prints(BYTES(""), "end 0 0\n", 1));
-    EXPECT(prints(zeros, OBSCURLANE_LONGEST_LISTED, "1 0 65536 11\nend 1 0\n", 2));
-    EXPECT(prints(zeros, sizeof zeros, "too big\n", 1));
+    char numbers[32];
+    (void)snprintf(numbers, sizeof numbers, "%d.%d.%d", OBSCURLANE_VERSION_MAJOR, OBSCURLANE_VERSION_MINOR,
+                   OBSCURLANE_VERSION_PATCH);
+    EXPECT(strcmp(numbers, OBSCURLANE_VERSION) == 0);
 }
 
 void call_parts(void)
 {
-    check_states();
-    conversions();
-    rows();
-    titles();
-    codes();
-    marks();
-    body_parts();
-    checks();
-    reading_by_rows();
-    reading_by_codes();
-    pieces();
-    reader();
-    printing();
+    check();
+    types();
+    files();
+    names();
+    version();
 }

@@ -5,6 +5,12 @@
 /* ID_SM: the identity of the security module */
 #define WORKED_ID_SM "SMID.1:Prism:06000001:20180120T090000Z:320C265FDC769D3E:8EFF"
 
+/* ID_KMC: the identity of the centre */
+#define WORKED_ID_KMC "KMCID.1:sts-KeyAgreement-1.2:TEST1:20180110T120000Z:4712CFF444570C8A:4C31"
+
+/* ID_MAN: the identity of the manufacturer */
+#define WORKED_ID_MAKER "SMMAN.1:Prism:A:20180115T140000Z:105717ACA4A50852:8B04"
+
 /* PUBKEY_KMC: the public key of the centre, unsigned */
 #define WORKED_KEY_CENTRE \
     "PK.ECDH.1|KMCID.1:sts-KeyAgreement-1.2:TEST1:20180110T120000Z:4712CFF444570C8A:4C31|044DED24DCA96783" \
