@@ -13,8 +13,6 @@
 
 enum { NONE = OBSCURLANE_KIND_NONE, MOST_FIELDS = 7 };
 
-static const char LONGEST_IDENT[] = "ABCDEFGHIJKLMNOPQRSTUVWXYZ012345";
-
 static unsigned long expectations = 0;
 
 void expect(bool holds, const char *what, const char *file, int line)
@@ -266,12 +264,19 @@ static void records(void)
 
 /* ---- the longest of each: the header's lengths */
 
+static void add_longest_ident(struct fields *fields)
+{
+    char letters[OBSCURLANE_LONGEST_IDENT];
+    memset(letters, 'A', sizeof letters);
+    add(fields, letters, sizeof letters);
+}
+
 /* The longest identity of a kind, as a text. */
 static void write_longest_identity(const char *kind, char out[OBSCURLANE_LONGEST_IDENTITY + 1])
 {
     struct fields fields = {.total = 0, .count = 0};
-    add(&fields, LONGEST_IDENT, OBSCURLANE_LONGEST_IDENT);
-    add(&fields, LONGEST_IDENT, OBSCURLANE_LONGEST_IDENT);
+    add_longest_ident(&fields);
+    add_longest_ident(&fields);
     add_from(&fields, &module, OBSCURLANE_IDENTITY_GNT);
     add_from(&fields, &module, OBSCURLANE_IDENTITY_FINGERPRINT);
     obscurlane_written made = build(kind, &fields, (uint8_t *)out, OBSCURLANE_LONGEST_IDENTITY);
@@ -305,8 +310,8 @@ static size_t write_longest_request(uint8_t *out, size_t room)
     write_longest_identity("KMCID.1", identity);
     add(&fields, identity, strlen(identity));
     add_from(&fields, &request, OBSCURLANE_REQ_TVP);
-    add(&fields, LONGEST_IDENT, OBSCURLANE_LONGEST_IDENT);
-    add(&fields, LONGEST_IDENT, OBSCURLANE_LONGEST_IDENT);
+    add_longest_ident(&fields);
+    add_longest_ident(&fields);
     add_from(&fields, &request, OBSCURLANE_REQ_QE);
     add_from(&fields, &request, OBSCURLANE_REQ_MAC_TAG);
     obscurlane_written made = build("VKLOAD.REQ.1", &fields, out, room);
