@@ -16,19 +16,19 @@ use Rattle.text.proofs.Tests.{by-test, T-false}
 use Rattle.items.specs.Items.{lvItems, lvConcat, shortItems}
 use Rattle.put.specs.Put.{Put}
 use Rattle.put.proofs.Pieces.{put-as, put-then}
-use Rattle.agreement.specs.Steps.{lvItem, itemFor, itemsBy, Small, Suited}
+use Rattle.agreement.specs.Steps.{fieldNo, lvItem, itemFor, itemsBy, Small, Suited}
 use Rattle.agreement.proofs.Writing.{Underway, begin, has-room, go-on, finish}
 use Rattle.agreement.proofs.Decoding.{point-bytes}
 
 -- ---- one field, which the code has as f
 
-module _ (fs : List Bytes) (n : ℕ) (f : Bytes) (e : f ≡ getD fs n []) where
-  pub item-other : (n ≡ 5 → ⊥) → f ≡ itemFor fs n
-  item-other h = e ∙ rw (ne-eqb n 5 h)
+module _ (fs : List Bytes) (n : ℕ) (f : Bytes) (e : f ≡ fieldNo fs n) where
+  pub item-other : (n ≡ 6 → ⊥) → f ≡ itemFor fs n
+  item-other h = e ∙ rw (ne-eqb n 6 h)
 
-  module _ (h : n ≡ 5) where
+  module _ (h : n ≡ 6) where
     pub item-qe : base16Decode f ≡ itemFor fs n
-    item-qe = rw (eq-eqb n 5 h, e)
+    item-qe = rw (eq-eqb n 6 h, e)
 
     pub item-hex : Suited fs → T (isHex 194 f)
     item-hex s = rw (e, h) (s .point)
@@ -38,9 +38,9 @@ module _ (fs : List Bytes) (n : ℕ) (f : Bytes) (e : f ≡ getD fs n []) where
 
 item-short : (fs : List Bytes) (n : ℕ) → Suited fs → length (itemFor fs n) ≤ 255
 item-short fs n s =
-    by-test (eqb n 5)
-    (λ t. omega (arith, item-point fs n (getD fs n []) refl (eqb→eq n 5 t) s))
-    (λ t. rw (T-false (eqb n 5) t) (s .short n))
+    by-test (eqb n 6)
+    (λ t. omega (arith, item-point fs n (fieldNo fs n) refl (eqb→eq n 6 t) s))
+    (λ t. rw (T-false (eqb n 6) t) (s .short n))
 
 -- ---- all of them, one after another
 

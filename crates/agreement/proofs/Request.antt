@@ -1,6 +1,6 @@
 -- What is known of an accepted request: its kind, its fields, and that they go into a text.
 -- Assumes nothing.
-use Prim.Native.Nat.{ℕ}
+use Prim.Native.Nat.{ℕ, zero, suc, _≤_}
 use mathlib.Core.Path.{_≡_, sym, ap, ap₂, _∙_}
 use mathlib.Core.List.{List, [], _∷_}
 use native.Mathlib.Omega.{arith}
@@ -15,11 +15,13 @@ use Rattle.format.specs.Build.{Fits, IsIdentity, Permitted, Built}
 use Rattle.format.specs.Read.{Outcome, accepted, fieldsIn, readOf}
 use Rattle.format.proofs.Table.{among-one, absent, longestOf}
 use Rattle.format.proofs.Fields.{fit-length, fit-at, field-held}
-use Rattle.format.proofs.Exactly.{identity-tame, read-exact, read-says, its-fields}
+use Rattle.format.proofs.Exactly.{identity-tame, read-exact, read-says, its-fields, its-parts, its-count}
+use Rattle.places.specs.Places.{fieldAt}
+use Rattle.places.proofs.Stands.{record-field}
 use Rattle.reading.specs.Reading.{answerOf}
 use Rattle.reading.specs.declared.Answer.{Answer}
 use Rattle.reading.proofs.Answers.{taken}
-use Rattle.agreement.specs.Steps.{Suited}
+use Rattle.agreement.specs.Steps.{fieldNo, Suited, Places}
 
 -- ---- its kind and its fields
 
@@ -34,17 +36,17 @@ request-read s a e z =
 pub permitted-suited : (fs : List Bytes) → Permitted REQ fs → Suited fs
 unfolding allBelow Fits
 permitted-suited fs p =
-    let fit = fit-at IsIdentity (fieldsOf REQ) fs (p .fit) in
-    let t : ℕ → Field = λ n. getD (fieldsOf REQ) n (Text Ident) in
-    record {
-      short = λ n.
-          less-or n 7
-          (λ h.
-          le-trans (field-held IsIdentity identity-tame 0 (t n) (getD fs n []) (below 7 (λ m. absent 0 (t m)) tt n h) (fit n h) .1)
-          (leb→le (longestOf (t n)) 255 (below 7 (λ m. leb (longestOf (t m)) 255) tt n h)))
-          (λ h. rw (List·getD-eq-default fs [] {n = n} (omega (arith, fit-length IsIdentity (fieldsOf REQ) fs (p .fit)))) (omega arith));
-      point = point-hex (getD fs 5 []) (fit 5 (omega arith));
-    }
+    record { short = each; point = point-hex (getD fs 5 []) (fit-at IsIdentity (fieldsOf REQ) fs (p .fit) 5 (omega arith)) }
+  where
+    each : (n : ℕ) → length (fieldNo fs n) ≤ 255
+    each zero = omega arith
+    each (suc n) =
+        let t : ℕ → Field = λ m. getD (fieldsOf REQ) m (Text Ident) in
+        less-or n 7
+        (λ h.
+        le-trans (field-held IsIdentity identity-tame 0 (t n) (getD fs n []) (below 7 (λ m. absent 0 (t m)) tt n h) (fit-at IsIdentity (fieldsOf REQ) fs (p .fit) n h) .1)
+        (leb→le (longestOf (t n)) 255 (below 7 (λ m. leb (longestOf (t m)) 255) tt n h)))
+        (λ h. rw (List·getD-eq-default fs [] {n = n} (omega (arith, fit-length IsIdentity (fieldsOf REQ) fs (p .fit)))) (omega arith))
 
 module _ (s : Bytes) (a : Answer) (e : a ≡ answerOf (readOf (REQ ∷ []) s)) (z : a .no ≡ 0) where
   request-permitted : Permitted REQ (fieldsIn REQ s)
@@ -53,5 +55,10 @@ module _ (s : Bytes) (a : Answer) (e : a ≡ answerOf (readOf (REQ ∷ []) s)) (
   pub request-suited : Suited (fieldsIn REQ s)
   request-suited = permitted-suited (fieldsIn REQ s) request-permitted
 
-  pub request-seven : length (fieldsIn REQ s) ≡ 7
-  request-seven = fit-length IsIdentity (fieldsOf REQ) (fieldsIn REQ s) (request-permitted .fit)
+  pub request-places : Places s (a .starts) (a .lens)
+  request-places =
+      let r = request-read s a e z in
+      let b = read-exact (REQ ∷ []) s REQ (fieldsIn REQ s) .0 r in
+      record {
+        field = λ n. ap (λ (x : Answer). fieldAt s (x .starts) (x .lens) n) (e ∙ ap answerOf r) ∙ record-field REQ s (fieldsIn REQ s) (omega (arith, its-count b)) (its-parts b) n;
+      }

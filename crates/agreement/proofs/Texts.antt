@@ -48,7 +48,7 @@ module _ (items : List Bytes → List Bytes) (request o : Bytes) where
 pub items-concat : (fs : List Bytes) → Permitted REQ fs → T (concats (sharedItems fs)) × T (concats (moduleItems fs)) × T (concats (centreItems fs))
 items-concat fs p =
     let s = permitted-suited fs p in
-    (short-items fs s (0 ∷ 1 ∷ 2 ∷ []), short-items fs s (0 ∷ 1 ∷ 5 ∷ 2 ∷ 3 ∷ 4 ∷ []), short-items fs s (1 ∷ 0 ∷ 2 ∷ 5 ∷ []))
+    (short-items fs s (1 ∷ 2 ∷ 3 ∷ []), short-items fs s (1 ∷ 2 ∷ 6 ∷ 3 ∷ 4 ∷ 5 ∷ []), short-items fs s (2 ∷ 1 ∷ 3 ∷ 6 ∷ []))
 
 pub qe-length : {fs : List Bytes} → Permitted REQ fs → length (qe fs) ≡ 97
 qe-length {fs} p = point-bytes _ (permitted-suited fs p .point)

@@ -1,6 +1,6 @@
 -- What the private functions of the crate answer. No clause of a document stands here.
 -- Assumes nothing.
-use Prim.Native.Nat.{ℕ, suc, _≤_, _<_}
+use Prim.Native.Nat.{ℕ, _≤_, _<_}
 use mathlib.Core.Path.{_≡_}
 use mathlib.Core.Bool.{cond}
 use mathlib.Core.List.{List, [], _∷_, map}
@@ -8,18 +8,22 @@ use lib.ListN.{length, getD}
 use lib.Dec.{T, eqb}
 use Rattle.text.specs.Text.{Bytes, isHex}
 use Rattle.text.specs.Base16.{base16Decode}
-use Rattle.format.specs.Kinds.{REQ, mark}
-use Rattle.format.specs.Read.{body, fieldsIn}
-use Rattle.frame.specs.Frame.{partStart}
+use Rattle.format.specs.Kinds.{REQ}
+use Rattle.format.specs.Read.{fieldsIn}
+use Rattle.places.specs.Places.{fieldAt}
 use Rattle.items.specs.Items.{lvConcat}
 
 -- one item: its length and its bytes
 abbrev pub lvItem : Bytes → Bytes
 lvItem i = length i ∷ i
 
--- what goes into a text of field n, from 0: QE, which is field 5, decoded, and all else as it stands
+-- field n, from 1
+abbrev pub fieldNo : List Bytes → ℕ → Bytes
+fieldNo fs n = getD ([] ∷ fs) n []
+
+-- what goes into a text of it: QE, which is field 6, decoded, and all else as it stands
 abbrev pub itemFor : List Bytes → ℕ → Bytes
-itemFor fs n = cond (eqb n 5) (base16Decode (getD fs n [])) (getD fs n [])
+itemFor fs n = cond (eqb n 6) (base16Decode (fieldNo fs n)) (fieldNo fs n)
 
 -- the items of a text: its label, and then the fields ns
 abbrev pub itemsBy : Bytes → List ℕ → List Bytes → List Bytes
@@ -35,11 +39,9 @@ pub record Small (label : Bytes) (ns : List ℕ) : Type 0 where
 
 -- fields that can go into a text, as those of an accepted request: each fits into an item, and QE can be decoded
 pub record Suited (fs : List Bytes) : Type 0 where
-  pub short : (n : ℕ) → length (getD fs n []) ≤ 255
-  pub point : T (isHex 194 (getD fs 5 []))
+  pub short : (n : ℕ) → length (fieldNo fs n) ≤ 255
+  pub point : T (isHex 194 (fieldNo fs 6))
 
--- the places at which the fields of a request start, and behind them the one at which an eighth would; part 0 of a body is
--- the kind's name
-pub record Starts (request : Bytes) (places : List ℕ) : Type 0 where
-  pub seven : length (fieldsIn REQ request) ≡ 7
-  pub place : (j : ℕ) → j < 8 → getD places j 0 ≡ partStart (mark REQ) (body request) (suc j)
+-- the places that reading the request answered
+pub record Places (request : Bytes) (starts lens : List ℕ) : Type 0 where
+  pub field : (n : ℕ) → fieldAt request starts lens n ≡ fieldNo (fieldsIn REQ request) n

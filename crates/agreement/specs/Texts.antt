@@ -8,7 +8,7 @@ use lib.ListN.{length, getD}
 use lib.Dec.{leb}
 use Rattle.text.specs.Text.{Bytes, ascii}
 use Rattle.text.specs.Base16.{base16Decode}
-use Rattle.format.specs.Numbers.{shortOutput}
+use Rattle.numbers.specs.Numbers.{shortOutput}
 use Rattle.format.specs.Kinds.{REQ}
 use Rattle.format.specs.Read.{Outcome, accepted, refused, readOf}
 use Rattle.items.specs.Items.{lvConcat}

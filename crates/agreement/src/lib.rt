@@ -3,7 +3,7 @@
 ghost use mathlib.Core.Path.{_≡_};
 ghost use mathlib.Core.List.{[], _∷_};
 ghost use Prim.Native.Nat.{_+_, _*_, _≤_};
-ghost use lib.ListN.{length, getD};
+ghost use lib.ListN.{length};
 ghost use lib.Dec.{T};
 ghost use Rattle.text.specs.Text.{hexadecimal, isHex};
 ghost use Rattle.text.specs.Base16.{hexValue, base16Decode};
@@ -12,61 +12,10 @@ ghost use Rattle.format.specs.Read.{fieldsIn, readOf};
 ghost use Rattle.put.specs.Put.{Put};
 ghost use Rattle.put.specs.Made.{Writes};
 ghost use Rattle.agreement.specs.Texts.{textMade, sharedInfo, moduleText, centreText};
-ghost use Rattle.agreement.specs.Steps.{lvItem, itemFor, itemsBy, textOf, Small, Suited, Starts};
-
-const SHORT_OUTPUT: u8 = 10;
-
-// ---- the fields of a request by their places in the table of kinds, from 0
-
-const ID_SM: u8 = 0;
-
-const ID_KMC: u8 = 1;
-
-const TVP: u8 = 2;
-
-const HWID: u8 = 3;
-
-const FWID: u8 = 4;
-
-const QE: u8 = 5;
+ghost use Rattle.agreement.specs.Steps.{lvItem, itemFor, itemsBy, textOf, Small, Suited, Places};
 
 // A decoded point has so many bytes.
 const POINT_BYTES: usize = 97;
-
-// A request has so many fields.
-const FIELDS: usize = 7;
-
-// Where each field of a request starts, and behind them where one more would. The request is walked over once, here: part
-// 0 of its body is the kind's name, and each further part starts behind a mark.
-fn starts_of(request: &[u8]) -> [usize; 8]
-    requires { ⌜ length (fieldsIn REQ (now request)) ≡ 7 ⌝ }
-    ensures { λ r. ⌜ Starts (now (request .entry)) r ⌝ }
-{
-    let body = frame::body_of(request);
-    let mut starts = [0; 8];
-    let mut at = 0;
-    let mut j = 0;
-    while j < 8 {
-        at = frame::next_mark(b'|', body, at) + 1;
-        starts[j] = at;
-        j += 1;
-    }
-    starts
-}
-
-// A part of the request's own bytes, up to the mark before the next one's start; an empty one past the last field.
-fn field<'a>(request: &'a [u8], starts: &[usize; 8], n: u8) -> &'a [u8]
-    requires { ⌜ Starts (now request) (now starts) ⌝ }
-    ensures { λ r. ⌜ now r ≡ getD (fieldsIn REQ (now (request .entry))) n [] ⌝ }
-{
-    let i = n as usize;
-    if FIELDS <= i {
-        return &request[0..0];
-    }
-    let start = starts[i];
-    let end = starts[i + 1] - 1;
-    &request[start..end]
-}
 
 // ---- items
 
@@ -101,25 +50,32 @@ fn put_point(out: &mut [u8], at: usize, point: &[u8]) -> usize
     next
 }
 
-// Field n as an item: QE is decoded, all else goes in as it stands.
-fn put_field(out: &mut [u8], at: usize, request: &[u8], starts: &[usize; 8], n: u8) -> usize
-    requires { ⌜ Starts (now request) (now starts) × Suited (fieldsIn REQ (now request)) × (at + 1 + length (itemFor (fieldsIn REQ (now request)) n) ≤ length (now out)) ⌝ }
+// Field n, from 1, as an item: QE is decoded, all else goes in as it stands.
+fn put_field(
+    out: &mut [u8],
+    at: usize,
+    request: &[u8],
+    starts: &[usize; 7],
+    lens: &[usize; 7],
+    n: usize,
+) -> usize
+    requires { ⌜ Places (now request) (now starts) (now lens) × Suited (fieldsIn REQ (now request)) × (at + 1 + length (itemFor (fieldsIn REQ (now request)) n) ≤ length (now out)) ⌝ }
     ensures { λ r. ⌜ Put (now (out .entry)) at (lvItem (itemFor (fieldsIn REQ (now (request .entry))) n)) (now (out .exit)) r ⌝ }
 {
-    let bytes = field(request, starts, n);
-    if n == QE {
+    let bytes = places::field_at(request, starts, lens, n);
+    if n == table::REQ_QE {
         return put_point(out, at, bytes);
     }
     put_item(out, at, bytes)
 }
 
 // The length of that item, without the byte that tells it.
-fn field_length(request: &[u8], starts: &[usize; 8], n: u8) -> usize
-    requires { ⌜ Starts (now request) (now starts) × Suited (fieldsIn REQ (now request)) ⌝ }
+fn field_length(request: &[u8], starts: &[usize; 7], lens: &[usize; 7], n: usize) -> usize
+    requires { ⌜ Places (now request) (now starts) (now lens) × Suited (fieldsIn REQ (now request)) ⌝ }
     ensures { λ r. ⌜ r ≡ length (itemFor (fieldsIn REQ (now (request .entry))) n) ⌝ }
 {
-    if n != QE {
-        return field(request, starts, n).len();
+    if n != table::REQ_QE {
+        return places::field_at(request, starts, lens, n).len();
     }
     POINT_BYTES
 }
@@ -127,15 +83,21 @@ fn field_length(request: &[u8], starts: &[usize; 8], n: u8) -> usize
 // ---- texts
 
 // The length of the text that has this label and these fields.
-fn text_length(label: &[u8], fields: &[u8], request: &[u8], starts: &[usize; 8]) -> usize
-    requires { ⌜ Small (now label) (now fields) × Starts (now request) (now starts) × Suited (fieldsIn REQ (now request)) ⌝ }
+fn text_length(
+    label: &[u8],
+    fields: &[usize],
+    request: &[u8],
+    starts: &[usize; 7],
+    lens: &[usize; 7],
+) -> usize
+    requires { ⌜ Small (now label) (now fields) × Places (now request) (now starts) (now lens) × Suited (fieldsIn REQ (now request)) ⌝ }
     ensures { λ r. ⌜ r ≡ length (textOf (now (label .entry)) (now (fields .entry)) (now (request .entry))) ⌝ }
 {
     // The count, and the label with its length.
     let mut total = 2 + label.len();
     let mut i = 0;
     while i < fields.len() {
-        total += 1 + field_length(request, starts, fields[i]);
+        total += 1 + field_length(request, starts, lens, fields[i]);
         i += 1;
     }
     total
@@ -145,39 +107,41 @@ fn text_length(label: &[u8], fields: &[u8], request: &[u8], starts: &[usize; 8])
 fn put_text(
     out: &mut [u8],
     label: &[u8],
-    fields: &[u8],
+    fields: &[usize],
     request: &[u8],
-    starts: &[usize; 8],
+    starts: &[usize; 7],
+    lens: &[usize; 7],
 ) -> usize
-    requires { ⌜ Small (now label) (now fields) × Starts (now request) (now starts) × Suited (fieldsIn REQ (now request)) × (length (textOf (now label) (now fields) (now request)) ≤ length (now out)) ⌝ }
+    requires { ⌜ Small (now label) (now fields) × Places (now request) (now starts) (now lens) × Suited (fieldsIn REQ (now request)) × (length (textOf (now label) (now fields) (now request)) ≤ length (now out)) ⌝ }
     ensures { λ r. ⌜ Put (now (out .entry)) 0 (textOf (now (label .entry)) (now (fields .entry)) (now (request .entry))) (now (out .exit)) r ⌝ }
 {
     let next = put::put_byte(out, 0, (1 + fields.len()) as u8);
     let mut at = put_item(out, next, label);
     let mut i = 0;
     while i < fields.len() {
-        at = put_field(out, at, request, starts, fields[i]);
+        at = put_field(out, at, request, starts, lens, fields[i]);
         i += 1;
     }
     at
 }
 
-// The request's own refusal comes first, then SHORT_OUTPUT; only then is anything written.
-fn write_text(label: &[u8], fields: &[u8], request: &[u8], out: &mut [u8]) -> put::Written
+// The request's own refusal comes first, then 10; only then is anything written.
+fn write_text(label: &[u8], fields: &[usize], request: &[u8], out: &mut [u8]) -> put::Written
     requires { ⌜ Small (now label) (now fields) ⌝ }
     ensures { λ r. ⌜ Writes (textMade (itemsBy (now (label .entry)) (now (fields .entry))) (length (now (out .entry))) (readOf (REQ ∷ []) (now (request .entry)))) (now (out .entry)) (now (out .exit)) r ⌝ }
 {
     let answer = reading::read_of(table::REQ, table::RESP, request);
-    if answer.no != reading::ACCEPTED {
+    if answer.no != numbers::ACCEPTED {
         return put::refuse(answer.no, answer.field);
     }
-    let starts = starts_of(request);
-    if out.len() < text_length(label, fields, request, &starts) {
-        return put::refuse(SHORT_OUTPUT, 0);
+    let starts = answer.starts;
+    let lens = answer.lens;
+    if out.len() < text_length(label, fields, request, &starts, &lens) {
+        return put::refuse(numbers::SHORT_OUTPUT, 0);
     }
-    let len = put_text(out, label, fields, request, &starts);
+    let len = put_text(out, label, fields, request, &starts, &lens);
     put::Written {
-        no: reading::ACCEPTED,
+        no: numbers::ACCEPTED,
         field: 0,
         len,
     }
@@ -189,19 +153,46 @@ fn write_text(label: &[u8], fields: &[u8], request: &[u8], out: &mut [u8]) -> pu
 pub fn shared_info(request: &[u8], out: &mut [u8]) -> put::Written
     ensures { λ r. ⌜ Writes (sharedInfo (now (request .entry)) (length (now (out .entry)))) (now (out .entry)) (now (out .exit)) r ⌝ }
 {
-    write_text(b"STS.KAA.1", &[ID_SM, ID_KMC, TVP], request, out)
+    write_text(
+        b"STS.KAA.1",
+        &[table::REQ_ID_SM, table::REQ_ID_KMC, table::REQ_TVP],
+        request,
+        out,
+    )
 }
 
 // The module text, MacData_SM.
 pub fn module_text(request: &[u8], out: &mut [u8]) -> put::Written
     ensures { λ r. ⌜ Writes (moduleText (now (request .entry)) (length (now (out .entry)))) (now (out .entry)) (now (out .exit)) r ⌝ }
 {
-    write_text(b"U_2", &[ID_SM, ID_KMC, QE, TVP, HWID, FWID], request, out)
+    write_text(
+        b"U_2",
+        &[
+            table::REQ_ID_SM,
+            table::REQ_ID_KMC,
+            table::REQ_QE,
+            table::REQ_TVP,
+            table::REQ_HWID,
+            table::REQ_FWID,
+        ],
+        request,
+        out,
+    )
 }
 
 // The centre text, MacData_KMC.
 pub fn centre_text(request: &[u8], out: &mut [u8]) -> put::Written
     ensures { λ r. ⌜ Writes (centreText (now (request .entry)) (length (now (out .entry)))) (now (out .entry)) (now (out .exit)) r ⌝ }
 {
-    write_text(b"V2", &[ID_KMC, ID_SM, TVP, QE], request, out)
+    write_text(
+        b"V2",
+        &[
+            table::REQ_ID_KMC,
+            table::REQ_ID_SM,
+            table::REQ_TVP,
+            table::REQ_QE,
+        ],
+        request,
+        out,
+    )
 }

@@ -2,29 +2,34 @@
 -- Assumes nothing.
 use Prim.Native.Nat.{ℕ, _+_, _≤_, _<_}
 use mathlib.Core.Path.{_≡_, sym, ap, ap₂, _∙_}
-use mathlib.Core.List.{List, [], _∷_}
+use mathlib.Core.List.{List, _∷_}
 use native.Mathlib.Omega.{arith}
-use lib.ListN.{length, getD}
+use lib.ListN.{length}
 use borrow.Author.Tests.{le-leb, lt-leb}
 use Rattle.text.specs.Text.{Bytes}
 use Rattle.format.specs.Kinds.{Kind, name, mark, allKinds}
 use Rattle.format.specs.Build.{joined, withCheck, recordOf}
-use Rattle.format.specs.Read.{Outcome, accepted, refused, passing, ofKind, wholeAnswer, readIdentity}
+use Rattle.format.specs.Read.{Outcome, accepted, refused, passing, ofKind, judged, readIdentity}
 use Rattle.format.proofs.Parts.{record-length}
 use Rattle.table.specs.Table.{rowFor, markOf, countOf, named}
 use Rattle.table.proofs.Rows.{Found, found, of-kind}
 use Rattle.table.proofs.Arrays.{count-few}
-use Rattle.reading.specs.Reading.{wholeNo}
-use Rattle.reading.specs.Steps.{FirstRefused}
+use Rattle.places.specs.Places.{partsFrom}
+use Rattle.places.specs.declared.Places.{Places}
+use Rattle.places.proofs.Stands.{parts-all}
+use Rattle.reading.specs.Reading.{judgedBy, judgedSaid}
+use Rattle.reading.specs.declared.Judged.{Judged}
 use Rattle.reading.proofs.Outcomes.{passing-stop, passing-on, passing-as}
-use Rattle.reading.proofs.Fields.{judged-first}
-use Rattle.reading.proofs.Whole.{whole-kind}
+use Rattle.reading.proofs.Answers.{denied, agreed}
+use Rattle.reading.proofs.Whole.{judged-kind}
 use Rattle.put.specs.Put.{Put}
-use Rattle.put.specs.Made.{denied, says, Writes}
+use Rattle.put.specs.Made as made
+use Rattle.put.specs.Made.{says, Writes}
 use Rattle.put.specs.declared.Written.{Written}
 use Rattle.put.proofs.Pieces.{put-whole, put-denied}
 use Rattle.building.specs.Building.{sum, pieces, buildOf, build}
-use Rattle.building.specs.Steps.{formNo}
+use Rattle.building.specs.Steps.{formNo, placesBy, Lie}
+use Rattle.building.proofs.Pieces.{pieces-count, lie}
 use Rattle.building.proofs.Names.{named-some, name-short}
 use Rattle.building.proofs.Form.{form-found, form-counted, fromRoom, fromFields, of-form}
 use Rattle.building.proofs.Writing.{joined-length}
@@ -32,7 +37,7 @@ use Rattle.building.proofs.Writing.{joined-length}
 -- ---- what an outcome writes
 
 module _ (t bytes : Bytes) (ns : List ℕ) where
-  pub call-denied : {out : Bytes} {n i : ℕ} (r : Written) → buildOf t bytes ns (length out) ≡ refused n i → r ≡ says (denied n i)
+  pub call-denied : {out : Bytes} {n i : ℕ} (r : Written) → buildOf t bytes ns (length out) ≡ refused n i → r ≡ says (made.denied n i)
       → Writes (build t bytes ns (length out)) out out r
   unfolding build
   call-denied r e q = rw e (put-denied r q)
@@ -68,6 +73,13 @@ module _ {t bytes : Bytes} {ns : List ℕ} {row no : ℕ} (b : Begun t bytes ns 
   call-name : t ≡ name (call-kind .kind)
   call-name = named-some allKinds t (call-kind .kind) (call-kind .is)
 
+  -- the fields at the places r as the code has them
+  pub call-lie : (r : Places) → r ≡ placesBy ns → Lie bytes ns (r .starts) (r .lens)
+  call-lie = lie bytes ns (omega (arith, call-counted, count-few row)) (call-counted .1)
+
+  pub call-parts : (r : Places) → r ≡ placesBy ns → partsFrom bytes (r .starts) (r .lens) 0 (countOf row) ≡ pieces ns bytes
+  call-parts r e = parts-all bytes (r .starts) (r .lens) (pieces ns bytes) (countOf row) (pieces-count ns bytes ∙ call-counted .0) (call-lie r e .at)
+
   -- so that the length of the record does not wrap round
   pub call-few : (length t ≤ 13) × (length ns < 8)
   call-few = (rw call-name (name-short (call-kind .kind)), omega (arith, call-counted, count-few row))
@@ -82,40 +94,26 @@ module _ {t bytes : Bytes} {ns : List ℕ} {row no : ℕ} (b : Begun t bytes ns 
   needed =
       omega (arith, record-length (call-kind .kind) (pieces ns bytes), joined-length (mark (call-kind .kind)) ns bytes (call-counted .1), ap length call-name)
 
-  -- ---- the fields
+  -- ---- the fields: j is what is said of the parts ps at the places of the code
 
-  module _ (room : ℕ) {n place : ℕ} (c : FirstRefused readIdentity row (pieces ns bytes) n place) where
-    abbrev last : Outcome
-    last = fromRoom bytes ns room (call-kind .kind)
+  module _ (ps : List Bytes) (ep : ps ≡ pieces ns bytes) (j : Judged) (ej : j ≡ judgedSaid (judgedBy row ps)) where
+    said : j ≡ judgedSaid (judged readIdentity (call-kind .kind) (pieces ns bytes) (accepted (call-kind .kind) (pieces ns bytes)))
+    said = ej ∙ ap (λ (x : List Bytes). judgedSaid (judgedBy row x)) ep ∙ ap judgedSaid (judged-kind (call-kind .kind) row (pieces ns bytes) (call-kind .at))
 
-    to-fields : buildOf t bytes ns room ≡ passing n place (passing (wholeAnswer (call-kind .kind) (pieces ns bytes)) 0 last)
-    to-fields =
-        to-form b room ∙ passing-on no 0 _ z ∙ ap (λ o. ofKind o (fromFields bytes ns room)) (call-kind .is)
-        ∙ judged-first readIdentity (call-kind .kind) row (pieces ns bytes) n place (call-kind .at) c last
+    to-fields : (room : ℕ) → buildOf t bytes ns room ≡ fromFields bytes ns room (call-kind .kind)
+    to-fields room = to-form b room ∙ passing-on no 0 _ z ∙ ap (λ o. ofKind o (fromFields bytes ns room)) (call-kind .is)
 
-    pub call-field : (n ≡ 0 → ⊥) → buildOf t bytes ns room ≡ refused n place
-    call-field u = to-fields ∙ passing-stop n place _ u
+    pub call-fields : (room : ℕ) → (j .no ≡ 0 → ⊥) → buildOf t bytes ns room ≡ refused (j .no) (j .field)
+    call-fields room u = to-fields room ∙ denied (call-kind .kind) (pieces ns bytes) j said u (fromRoom bytes ns room (call-kind .kind))
 
-    -- ---- the fields together: Issuer and Signature as the code has them
+    -- ---- the room
 
-    module _ (u : n ≡ 0) {i g : Bytes} (ei : i ≡ getD (pieces ns bytes) 3 []) (eg : g ≡ getD (pieces ns bytes) 4 []) {w : ℕ} (ew : w ≡ wholeNo row i g) where
-      whole-is : w ≡ wholeAnswer (call-kind .kind) (pieces ns bytes)
-      whole-is =
-          ew ∙ ap₂ (wholeNo row) ei eg
-          ∙ ap (λ (x : ℕ). wholeNo x (getD (pieces ns bytes) 3 []) (getD (pieces ns bytes) 4 [])) (call-kind .at)
-          ∙ whole-kind (call-kind .kind) (pieces ns bytes)
+    module _ (u : j .no ≡ 0) (room : ℕ) where
+      to-room : buildOf t bytes ns room ≡ fromRoom bytes ns room (call-kind .kind)
+      to-room = to-fields room ∙ agreed (call-kind .kind) (pieces ns bytes) j said u (fromRoom bytes ns room (call-kind .kind))
 
-      to-room : buildOf t bytes ns room ≡ passing w 0 last
-      to-room = to-fields ∙ passing-on n place _ u ∙ passing-as 0 _ (sym whole-is)
+      pub call-narrow : room < length t + 1 + length bytes + length ns + 4 → buildOf t bytes ns room ≡ refused 10 0
+      call-narrow h = to-room ∙ rw (lt-leb (length (recordOf (call-kind .kind) (pieces ns bytes))) room (omega (arith, needed)))
 
-      pub call-whole : (w ≡ 0 → ⊥) → buildOf t bytes ns room ≡ refused w 0
-      call-whole v = to-room ∙ passing-stop w 0 _ v
-
-      -- ---- the room
-
-      module _ (v : w ≡ 0) where
-        pub call-narrow : room < length t + 1 + length bytes + length ns + 4 → buildOf t bytes ns room ≡ refused 10 0
-        call-narrow h = to-room ∙ passing-on w 0 _ v ∙ rw (lt-leb (length (recordOf (call-kind .kind) (pieces ns bytes))) room (omega (arith, needed)))
-
-        pub call-fits : length t + 1 + length bytes + length ns + 4 ≤ room → buildOf t bytes ns room ≡ accepted (call-kind .kind) (pieces ns bytes)
-        call-fits h = to-room ∙ passing-on w 0 _ v ∙ rw (le-leb (length (recordOf (call-kind .kind) (pieces ns bytes))) room (omega (arith, needed)))
+      pub call-fits : length t + 1 + length bytes + length ns + 4 ≤ room → buildOf t bytes ns room ≡ accepted (call-kind .kind) (pieces ns bytes)
+      call-fits h = to-room ∙ rw (le-leb (length (recordOf (call-kind .kind) (pieces ns bytes))) room (omega (arith, needed)))

@@ -11,7 +11,7 @@ use lib.Dec.{leb, eqb, eqb→eq, leb→le, le→leb}
 use mir.Facts.{and-yes, yes-and, yes-eqb}
 use Rattle.text.specs.Text.{Bytes}
 use Rattle.text.proofs.Tests.{T-true}
-use Rattle.format.specs.Numbers.{wrongCount, shortOutput}
+use Rattle.numbers.specs.Numbers.{wrongCount, shortOutput}
 use Rattle.format.specs.Kinds.{Kind, name, fieldsOf, allKinds}
 use Rattle.format.specs.Build.{recordOf, IsIdentity, Permitted}
 use Rattle.format.specs.Read.{Outcome, accepted, answer, readIdentity}
@@ -20,9 +20,11 @@ use Rattle.format.proofs.Fields.{fit-length, judged-law}
 use Rattle.format.proofs.Exactly.{ask-exact, permitted-judged}
 use Rattle.table.specs.Table.{named}
 use Rattle.put.specs.Made.{made}
-use Rattle.building.specs.Building.{sum, pieces, run, lengths, buildAs, buildOf, recordMade, build, Builds}
+use Rattle.building.specs.Building.{sum, pieces, run, buildAs, buildOf, recordMade, build, Builds}
 use Rattle.building.proofs.Names.{named-some, named-known}
-use Rattle.building.proofs.Pieces.{pieces-count, pieces-lengths, pieces-run, pieces-back, sum-lengths, lengths-count}
+use Rattle.building.proofs.Pieces.{pieces-count, pieces-lengths, pieces-run, pieces-back, sum-lengths}
+use Rattle.places.specs.Places.{lengths}
+use Rattle.places.proofs.Stands.{lengths-count}
 
 build-says : (t bytes : Bytes) (ns : List ℕ) (room : ℕ) → Honest (Builds t bytes ns room) (buildOf t bytes ns room)
 unfolding buildOf buildAs

@@ -11,11 +11,11 @@ use lib.Dec.{T, leb, eqb, eqb→eq}
 use mir.Facts.{and-yes}
 use borrow.Author.Tests.{eq-eqb, ne-eqb}
 use Rattle.text.specs.Text.{Bytes}
-use Rattle.format.specs.Numbers.{shortOutput}
+use Rattle.numbers.specs.Numbers.{shortOutput}
 use Rattle.format.specs.Kinds.{Kind, fieldsOf}
 use Rattle.format.specs.Build.{recordOf}
 use Rattle.format.specs.Read.{Outcome, accepted, provided, passing, ofKind, judged, readIdentity}
-use Rattle.table.specs.Table.{rowOf, rowFor, countOf}
+use Rattle.table.specs.Table.{rowOf, missingRow, rowFor, countOf}
 use Rattle.table.proofs.Rows.{row-small, of-kind}
 use Rattle.building.specs.Building.{sum, pieces, buildAs}
 use Rattle.building.specs.Steps.{formNo}
@@ -28,24 +28,24 @@ two-tests false false e = absurd (omega arith)
 module _ (row : ℕ) (bytes : Bytes) (ns : List ℕ) where
   -- ---- the tests in a row
 
-  pub form-none : row ≡ 7 → 2 ≡ formNo row bytes ns
+  pub form-none : row ≡ missingRow → 2 ≡ formNo row bytes ns
   unfolding formNo
-  form-none e = rw (eq-eqb row 7 e)
+  form-none e = rw (eq-eqb row missingRow e)
 
   -- n is the count and b the sum's test as the code has them
-  module _ (h : row ≡ 7 → ⊥) (n : ℕ) (en : n ≡ countOf row) where
+  module _ (h : row ≡ missingRow → ⊥) (n : ℕ) (en : n ≡ countOf row) where
     pub form-count : (length ns ≡ n → ⊥) → 5 ≡ formNo row bytes ns
     unfolding formNo
-    form-count l = rw (ne-eqb row 7 h, ← en, ne-eqb (length ns) n l)
+    form-count l = rw (ne-eqb row missingRow h, ← en, ne-eqb (length ns) n l)
 
     pub form-sum : length ns ≡ n → (b : Bool) → b ≡ eqb (sum ns) (length bytes) → cond b 0 5 ≡ formNo row bytes ns
     unfolding formNo
-    form-sum l b eb = rw (ne-eqb row 7 h, ← en, eq-eqb (length ns) n l, ← eb)
+    form-sum l b eb = rw (ne-eqb row missingRow h, ← en, eq-eqb (length ns) n l, ← eb)
 
   -- ---- a form without a number
 
   module _ (z : formNo row bytes ns ≡ 0) where
-    pub form-found : row ≡ 7 → ⊥
+    pub form-found : row ≡ missingRow → ⊥
     form-found e = omega (arith, form-none e)
 
     pub form-counted : (length ns ≡ countOf row) × (sum ns ≡ length bytes)
@@ -53,7 +53,7 @@ module _ (row : ℕ) (bytes : Bytes) (ns : List ℕ) where
     form-counted =
         let a = eqb (length ns) (countOf row) in
         let b = eqb (sum ns) (length bytes) in
-        let t = and-yes a b (two-tests (eqb row 7) (a && b) z) in
+        let t = and-yes a b (two-tests (eqb row missingRow) (a && b) z) in
         (eqb→eq (length ns) (countOf row) (t .0), eqb→eq (sum ns) (length bytes) (t .1))
 
 -- ---- what is left is the fields and the room
@@ -68,7 +68,7 @@ module _ (bytes : Bytes) (ns : List ℕ) (room : ℕ) where
   as-form : (k : Kind) → buildAs bytes ns room k ≡ passing (formNo (rowOf k) bytes ns) 0 (fromFields k)
   unfolding buildAs formNo
   as-form k =
-      rw (ne-eqb (rowOf k) 7 (λ e. omega (arith, row-small k)), of-kind (λ j. length (fieldsOf j)) 0 k)
+      rw (ne-eqb (rowOf k) missingRow (λ e. omega (arith, row-small k)), of-kind (λ j. length (fieldsOf j)) 0 k)
       (test (eqb (length ns) (length (fieldsOf k)) && eqb (sum ns) (length bytes)))
     where
       test : (b : Bool) → provided b 5 (fromFields k) ≡ passing (cond b 0 5) 0 (fromFields k)

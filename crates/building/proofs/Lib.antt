@@ -2,7 +2,6 @@ pub mod Names
 pub mod Pieces
 pub mod Sums
 pub mod Form
-pub mod Fields
 pub mod Writing
 pub mod Calls
 pub mod Exact

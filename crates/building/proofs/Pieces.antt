@@ -1,15 +1,19 @@
 -- The fields as the call is lent them: bytes and lengths say the same as the list of the fields, and field after field is found
 -- by counting the lengths.
 -- Assumes nothing.
-use Prim.Native.Nat.{ℕ, suc, _+_, _-_, _≤_, _<_}
+use Prim.Native.Nat.{ℕ, zero, suc, _+_, _≤_, _<_}
 use mathlib.Core.Path.{_≡_, refl, sym, ap, ap₂, _∙_}
 use mathlib.Core.List.{List, [], _∷_}
 use native.Mathlib.Omega.{arith}
 use native.Mathlib.Numerals.{add-one}
-use lib.ListN.{length, take, drop, getD, length-append, length-drop, take-append-drop, List·getD-eq-default}
-use lib.Seq.{length-take-le, take-append-seam, drop-append-seam, drop-cons, drop-drop, getD-drop}
+use lib.ListN.{length, take, drop, getD, set, replicate, length-set, length-append, length-drop, drop-of-length-le, take-append-drop}
+use lib.Seq.{sets, length-take-le, take-append-seam, drop-append-seam, drop-cons, drop-drop}
 use Rattle.text.specs.Text.{Bytes}
-use Rattle.building.specs.Building.{sum, pieces, run, lengths}
+use Rattle.places.specs.Places.{lengths, seven}
+use Rattle.places.specs.declared.Places.{Places}
+use Rattle.places.proofs.Stands.{Stands, part-at}
+use Rattle.building.specs.Building.{sum, pieces, run}
+use Rattle.building.specs.Steps.{startsBy, placesBy, Lie}
 
 -- ---- there and back
 
@@ -35,42 +39,64 @@ pub sum-lengths : (fs : List Bytes) → sum (lengths fs) ≡ length (run fs)
 sum-lengths [] = refl
 sum-lengths (f ∷ fs) = omega (arith, sum-lengths fs, length-append f (run fs))
 
-pub lengths-count : (fs : List Bytes) → length (lengths fs) ≡ length fs
-lengths-count [] = refl
-lengths-count (f ∷ fs) = ap suc (lengths-count fs)
-
 -- ---- from field i on
 
 pub sum-step : (ns : List ℕ) (i : ℕ) → i < length ns → sum (drop i ns) ≡ getD ns i 0 + sum (drop (i + 1) ns)
 sum-step ns i h = rw (drop-cons ns i 0 h, add-one)
 
--- field i of s starts at place p
-pub record Starts (s : Bytes) (ns : List ℕ) (i p : ℕ) : Type 0 where
-  pub left : p + sum (drop i ns) ≡ length s
-  pub rest : drop i (pieces ns s) ≡ pieces (drop i ns) (drop p s)
+-- ---- where the fields stand
 
-pub starts-first : (s : Bytes) (ns : List ℕ) → sum ns ≡ length s → Starts s ns 0 0
-starts-first s ns e = record { left = omega arith; rest = refl }
+starts-count : (p : ℕ) (ns : List ℕ) → length (startsBy p ns) ≡ length ns
+starts-count p [] = refl
+starts-count p (n ∷ ns) = ap suc (starts-count (p + n) ns)
 
-pub no-piece : (s : Bytes) (ns : List ℕ) (i j : ℕ) → length ns ≤ i → i ≤ j → [] ≡ getD (pieces ns s) j []
-no-piece s ns i j h l = sym (List·getD-eq-default (pieces ns s) [] (omega (arith, pieces-count ns s)))
+stands : (s : Bytes) (ns : List ℕ) (p : ℕ) → p + sum ns ≤ length s → (j : ℕ) → j < length ns → Stands s (getD (startsBy p ns) j 0) (getD (pieces ns (drop p s)) j [])
+stands s [] p h j l = absurd (omega arith)
+stands s (n ∷ ns) p h zero l =
+    let e : length (take n (drop p s)) ≡ n = length-take-le n (drop p s) (omega (arith, length-drop p s)) in
+    record { within = omega (arith, e); bytes = rw e }
+stands s (n ∷ ns) p h (suc j) l = rw (drop-drop n p s) (stands s ns (p + n) (omega arith) j (omega arith))
 
-module _ {s : Bytes} {ns : List ℕ} {i p : ℕ} (w : Starts s ns i p) (h : i < length ns) where
-  pub starts-end : p + getD ns i 0 ≤ length s
-  starts-end = omega (arith, w .left, sum-step ns i h)
+pub lie : (s : Bytes) (ns : List ℕ) → length ns ≤ 7 → sum ns ≡ length s → (r : Places) → r ≡ placesBy ns → Lie s ns (r .starts) (r .lens)
+lie s ns few e r er =
+    rw er record {
+      at = λ j.
+          rw (pieces-lengths ns s e) at
+          (part-at s (startsBy 0 ns) (pieces ns s) (omega (arith, few, pieces-count ns s)) (starts-count 0 ns ∙ sym (pieces-count ns s)) (λ i h. stands s ns 0 (omega (arith, e)) i (omega (arith, h, pieces-count ns s))) j);
+    }
 
-  here : drop i (pieces ns s) ≡ take (getD ns i 0) (drop p s) ∷ pieces (drop (i + 1) ns) (drop (p + getD ns i 0) s)
-  here = w .rest ∙ rw (drop-cons ns i 0 h, drop-drop, add-one)
+-- ---- the loop that finds the places: all there once those from field j on, which starts at p, are written
 
-  -- the part as code takes it
-  pub starts-piece : {j : ℕ} → i ≡ j → take (p + getD ns i 0 - p) (drop p s) ≡ getD (pieces ns s) j []
-  starts-piece {j} e =
-      let d : p + getD ns i 0 - p ≡ getD ns i 0 = omega arith in
-      let z : i + 0 ≡ j = omega arith in
-      rw d (sym (ap (λ (l : List Bytes). getD l 0 []) here) ∙ getD-drop i (pieces ns s) 0 [] ∙ rw z)
+pub record Found (s : Bytes) (ns starts sizes : List ℕ) (p j : ℕ) : Type 0 where
+  pub left : p + sum (drop j ns) ≡ length s
+  pub few : length ns ≤ 7
+  pub seven-starts : length starts ≡ 7
+  pub seven-sizes : length sizes ≡ 7
+  pub all-starts : sets starts j (startsBy p (drop j ns)) ≡ seven 0 (startsBy 0 ns)
+  pub all-sizes : sets sizes j (drop j ns) ≡ seven 0 ns
 
-  pub starts-next : Starts s ns (i + 1) (p + getD ns i 0)
-  starts-next = record {
-    left = omega (arith, w .left, sum-step ns i h);
-    rest = sym (drop-drop 1 i (pieces ns s)) ∙ ap (drop 1) here;
-  }
+pub found-none : (s : Bytes) (ns : List ℕ) → length ns ≤ 7 → sum ns ≡ length s → Found s ns (replicate 7 0) (replicate 7 0) 0 0
+found-none s ns few e = record { left = omega (arith, e); few = few; seven-starts = refl; seven-sizes = refl; all-starts = refl; all-sizes = refl }
+
+module _ {s : Bytes} {ns starts sizes : List ℕ} {p j : ℕ} (w : Found s ns starts sizes p j) where
+  pub found-all : length ns ≤ j → record { starts = starts; lens = sizes } ≡ placesBy ns
+  found-all h = let none = drop-of-length-le ns {i = j} h in ap₂ made (rw none at (w .all-starts)) (rw none at (w .all-sizes))
+    where
+      made : List ℕ → List ℕ → Places
+      made x y = record { starts = x; lens = y }
+
+  module _ (h : j < length ns) where
+    pub found-fits : p + getD ns j 0 ≤ length s
+    found-fits = omega (arith, w .left, sum-step ns j h)
+
+    pub found-next : Found s ns (set starts j p) (set sizes j (getD ns j 0)) (p + getD ns j 0) (j + 1)
+    found-next =
+        let here = drop-cons ns j 0 h in
+        record {
+          left = omega (arith, w .left, sum-step ns j h);
+          few = w .few;
+          seven-starts = length-set starts j p ∙ w .seven-starts;
+          seven-sizes = length-set sizes j (getD ns j 0) ∙ w .seven-sizes;
+          all-starts = rw (add-one j) (rw here at (w .all-starts));
+          all-sizes = rw (add-one j) (rw here at (w .all-sizes));
+        }

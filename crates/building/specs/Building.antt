@@ -8,11 +8,12 @@ use mathlib.Core.List.{List, [], _∷_, _++_}
 use lib.ListN.{length, take, drop}
 use lib.Dec.{leb, eqb}
 use Rattle.text.specs.Text.{Bytes}
-use Rattle.format.specs.Numbers.{wrongCount, shortOutput}
+use Rattle.numbers.specs.Numbers.{wrongCount, shortOutput}
 use Rattle.format.specs.Kinds.{Kind, name, fieldsOf, allKinds}
 use Rattle.format.specs.Build.{recordOf, Permitted}
 use Rattle.format.specs.Read.{Outcome, accepted, refused, provided, ofKind, judged, readIdentity}
 use Rattle.table.specs.Table.{named}
+use Rattle.places.specs.Places.{lengths}
 use Rattle.put.specs.Made.{Made, made, denied}
 
 -- ---- the fields as the call is lent them: all bytes one after another, without marks, and the list of the fields' lengths
@@ -30,10 +31,6 @@ pieces (n ∷ ns) s = take n s ∷ pieces ns (drop n s)
 abbrev pub run : List Bytes → Bytes
 run [] = []
 run (f ∷ fs) = f ++ run fs
-
-abbrev pub lengths : List Bytes → List ℕ
-lengths [] = []
-lengths (f ∷ fs) = length f ∷ lengths fs
 
 -- ---- the call
 

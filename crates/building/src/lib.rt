@@ -2,33 +2,17 @@
 // no `requires`. The order is 2, 5, then the fields from left to right (6, or 7 before 9), then 8, then 10; nothing is
 // written before all of them are asked. The table and the tests of a field are the reader's.
 ghost use mathlib.Core.Path.{_≡_};
-ghost use mathlib.Core.List.{[], _∷_};
+ghost use mathlib.Core.List.{_∷_};
 ghost use Prim.Native.Nat.{_+_, _≤_};
-ghost use lib.ListN.{length, getD};
+ghost use lib.ListN.{length};
 ghost use lib.Dec.{eqb};
 ghost use Rattle.format.specs.Build.{joined, withCheck};
-ghost use Rattle.format.specs.Read.{readIdentity};
-ghost use Rattle.table.specs.Table.{countOf};
-ghost use Rattle.reading.specs.Steps.{FirstRefused};
 ghost use Rattle.put.specs.Put.{Put};
 ghost use Rattle.put.specs.Made.{Writes};
 ghost use Rattle.building.specs.Building.{sum, pieces, build};
-ghost use Rattle.building.specs.Steps.{formNo};
-
-const SHORT_OUTPUT: u8 = 10;
+ghost use Rattle.building.specs.Steps.{formNo, placesBy, Lie};
 
 const CHECK_LENGTH: usize = 4;
-
-// The fields of a public key that go together, from 0.
-const ISSUER: usize = 3;
-
-const SIGNATURE: usize = 4;
-
-// The first field that is refused; both are 0 where none is.
-struct Refusal {
-    no: u8,
-    field: u8,
-}
 
 // ---- numbers 2 and 5
 
@@ -52,67 +36,58 @@ fn form_no(row: usize, bytes: &[u8], lens: &[usize]) -> u8
     ensures { λ r. ⌜ r ≡ formNo row (now (bytes .entry)) (now (lens .entry)) ⌝ }
 {
     if row == table::NONE {
-        return reading::UNKNOWN_KIND;
+        return numbers::UNKNOWN_KIND;
     }
     if lens.len() != table::count_of(row) {
-        return reading::WRONG_COUNT;
+        return numbers::WRONG_COUNT;
     }
     if do_add_up(lens, bytes.len()) {
-        return reading::ACCEPTED;
+        return numbers::ACCEPTED;
     }
-    reading::WRONG_COUNT
+    numbers::WRONG_COUNT
 }
 
 // ---- the fields
 
-// Field j, from 0, as a part of the caller's own bytes; an empty one if there is none. The lengths before it are counted
-// at each call: no kind has more than seven.
-fn piece<'a>(bytes: &'a [u8], lens: &[usize], j: usize) -> &'a [u8]
-    requires { ⌜ sum (now lens) ≡ length (now bytes) ⌝ }
-    ensures { λ r. ⌜ now r ≡ getD (pieces (now (lens .entry)) (now (bytes .entry))) j [] ⌝ }
+// Where each field stands in the caller's own bytes: one behind the other.
+fn places_by(bytes: &[u8], lens: &[usize]) -> places::Places
+    requires { ⌜ (length (now lens) ≤ 7) × (sum (now lens) ≡ length (now bytes)) ⌝ }
+    ensures { λ r. ⌜ r ≡ placesBy (now (lens .entry)) ⌝ }
 {
-    let mut i: usize = 0;
+    let mut starts = [0; 7];
+    let mut sizes = [0; 7];
     let mut start: usize = 0;
-    while i < lens.len() {
-        let end = start + lens[i];
-        if i == j {
-            return &bytes[start..end];
-        }
-        start = end;
-        i += 1;
-    }
-    &bytes[0..0]
-}
-
-// The fields from left to right.
-fn fields_no(row: usize, bytes: &[u8], lens: &[usize]) -> Refusal
-    requires { ⌜ (length (now lens) ≡ countOf row) × (sum (now lens) ≡ length (now bytes)) ⌝ }
-    ensures { λ r. ⌜ FirstRefused readIdentity row (pieces (now (lens .entry)) (now (bytes .entry))) (r .no) (r .field) ⌝ }
-{
     let mut j: usize = 0;
     while j < lens.len() {
-        let no = reading::field_no(table::type_of(row, j), piece(bytes, lens, j));
+        starts[j] = start;
+        sizes[j] = lens[j];
+        start += lens[j];
         j += 1;
-        if no != reading::ACCEPTED {
-            return Refusal { no, field: j as u8 };
-        }
     }
-    Refusal {
-        no: reading::ACCEPTED,
-        field: 0,
+    places::Places {
+        starts,
+        lens: sizes,
     }
 }
 
 // ---- writing: each field and the mark after it, and the record from the front
 
-fn put_fields(out: &mut [u8], at: usize, mark: u8, bytes: &[u8], lens: &[usize]) -> usize
-    requires { ⌜ (sum (now lens) ≡ length (now bytes)) × (at + length (now bytes) + length (now lens) ≤ length (now out)) ⌝ }
+fn put_fields(
+    out: &mut [u8],
+    at: usize,
+    mark: u8,
+    bytes: &[u8],
+    lens: &[usize],
+    starts: &[usize; 7],
+    sizes: &[usize; 7],
+) -> usize
+    requires { ⌜ (sum (now lens) ≡ length (now bytes)) × Lie (now bytes) (now lens) (now starts) (now sizes) × (at + length (now bytes) + length (now lens) ≤ length (now out)) ⌝ }
     ensures { λ r. ⌜ Put (now (out .entry)) at (joined mark (pieces (now (lens .entry)) (now (bytes .entry)))) (now (out .exit)) r ⌝ }
 {
     let mut next = at;
     let mut j: usize = 0;
     while j < lens.len() {
-        next = put::put(out, next, piece(bytes, lens, j));
+        next = put::put(out, next, places::part_at(bytes, starts, sizes, j));
         next = put::put_byte(out, next, mark);
         j += 1;
     }
@@ -120,13 +95,21 @@ fn put_fields(out: &mut [u8], at: usize, mark: u8, bytes: &[u8], lens: &[usize])
 }
 
 // The kind's name is the caller's own; the check is that of the bytes written.
-fn put_record(out: &mut [u8], kind: &[u8], mark: u8, bytes: &[u8], lens: &[usize]) -> usize
-    requires { ⌜ (sum (now lens) ≡ length (now bytes)) × (length (now kind) + 1 + length (now bytes) + length (now lens) + 4 ≤ length (now out)) ⌝ }
+fn put_record(
+    out: &mut [u8],
+    kind: &[u8],
+    mark: u8,
+    bytes: &[u8],
+    lens: &[usize],
+    starts: &[usize; 7],
+    sizes: &[usize; 7],
+) -> usize
+    requires { ⌜ (sum (now lens) ≡ length (now bytes)) × Lie (now bytes) (now lens) (now starts) (now sizes) × (length (now kind) + 1 + length (now bytes) + length (now lens) + 4 ≤ length (now out)) ⌝ }
     ensures { λ r. ⌜ Put (now (out .entry)) 0 (withCheck (joined mark (now (kind .entry) ∷ pieces (now (lens .entry)) (now (bytes .entry))))) (now (out .exit)) r ⌝ }
 {
     let named = put::put(out, 0, kind);
     let marked = put::put_byte(out, named, mark);
-    let end = put_fields(out, marked, mark, bytes, lens);
+    let end = put_fields(out, marked, mark, bytes, lens, starts, sizes);
     let check = text::check_text(crc16::crc_of(&out[0..end]));
     put::put(out, end, &check)
 }
@@ -140,27 +123,22 @@ pub fn build(kind: &[u8], bytes: &[u8], lens: &[usize], out: &mut [u8]) -> put::
 {
     let row = table::kind_named(kind);
     let no = form_no(row, bytes, lens);
-    if no != reading::ACCEPTED {
+    if no != numbers::ACCEPTED {
         return put::refuse(no, 0);
     }
-    let first = fields_no(row, bytes, lens);
-    if first.no != reading::ACCEPTED {
-        return put::refuse(first.no, first.field);
-    }
-    let whole = reading::whole_no(
-        row,
-        piece(bytes, lens, ISSUER),
-        piece(bytes, lens, SIGNATURE),
-    );
-    if whole != reading::ACCEPTED {
-        return put::refuse(whole, 0);
+    let found = places_by(bytes, lens);
+    let starts = found.starts;
+    let sizes = found.lens;
+    let judged = reading::judge(row, bytes, &starts, &sizes);
+    if judged.no != numbers::ACCEPTED {
+        return put::refuse(judged.no, judged.field);
     }
     if out.len() < kind.len() + 1 + bytes.len() + lens.len() + CHECK_LENGTH {
-        return put::refuse(SHORT_OUTPUT, 0);
+        return put::refuse(numbers::SHORT_OUTPUT, 0);
     }
-    let len = put_record(out, kind, table::mark_of(row), bytes, lens);
+    let len = put_record(out, kind, table::mark_of(row), bytes, lens, &starts, &sizes);
     put::Written {
-        no: reading::ACCEPTED,
+        no: numbers::ACCEPTED,
         field: 0,
         len,
     }

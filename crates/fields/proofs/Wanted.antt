@@ -12,15 +12,16 @@ use mir.Facts.{and-yes}
 use borrow.Author.Tests.{le-leb, lt-leb}
 use Rattle.text.specs.Text.{Bytes, between}
 use Rattle.text.proofs.Tests.{by-test, less-or, T-true, T-false}
-use Rattle.format.specs.Kinds.{Kind, mark, fieldsOf, identityKinds}
-use Rattle.format.specs.Build.{Built}
-use Rattle.format.specs.Read.{Outcome, accepted, refused, place, body}
+use Rattle.format.specs.Kinds.{Kind, name, mark, fieldsOf, identityKinds}
+use Rattle.format.specs.Build.{joined, Built}
+use Rattle.format.specs.Read.{Outcome, accepted, refused, place}
 use Rattle.format.proofs.Outcomes.{Honest}
-use Rattle.format.proofs.Exactly.{identity-says, read-says, its-parts, its-fields, its-count}
-use Rattle.frame.specs.Frame.{nextMark, partStart, partOf}
-use Rattle.frame.proofs.Parts.{next-within, part-there, start-within, field-part, body-bytes}
-use Rattle.table.specs.Table.{markOf, countOf}
+use Rattle.format.proofs.Exactly.{identity-says, read-says, its-parts, its-count}
+use Rattle.table.specs.Table.{rowOf, countOf}
 use Rattle.table.proofs.Rows.{of-kind}
+use Rattle.table.proofs.Arrays.{count-few}
+use Rattle.places.specs.Places.{startsOf, lensOf}
+use Rattle.places.proofs.Stands.{record-start, record-len, record-stands}
 use Rattle.reading.specs.Reading.{answerOf}
 use Rattle.fields.specs.Fields.{wantedPart, wantedNo, wantedStart, Placed, FieldSaid}
 use Rattle.fields.specs.Steps.{Reads, identity, records, Handed}
@@ -60,6 +61,10 @@ module _ (o : Outcome) (s : Bytes) (r : Reads s o) (a : Answer) (e : a ≡ answe
     pub wanted-there : (wanted ≡ 0 → ⊥) → wanted ≤ countOf (a .kind) → 0 ≡ wantedNo o wanted
     wanted-there n h = sym (by-count ∙ rw (le-leb 1 wanted (omega (arith, n)), le-leb wanted (countOf (a .kind)) h))
 
+-- no kind has more than seven fields
+pub wanted-few : (wanted row : ℕ) → (wanted ≡ 0 → ⊥) → wanted ≤ countOf row → T (between 1 7 wanted)
+wanted-few wanted row z h = rw (le-leb 1 wanted (omega (arith, z)), le-leb wanted 7 (omega (arith, h, count-few row))) tt
+
 -- ---- where the field stands
 
 -- a number out of range: nothing, and nowhere
@@ -86,55 +91,50 @@ module _ (s : Bytes) (wanted : ℕ) where
       (λ t. (rw (T-false (between 1 (length fs) wanted) t), outside fs wanted t))
   nowhere (refused m i) n = (refl, refl)
 
-  -- the field of an accepted record, from i to before j
-  module _ (ks : List Kind) (k : Kind) (fs : List Bytes) (b : Built ks s k fs) (t : T (between 1 (length fs) wanted)) (i j : ℕ)
-      (p : i ≡ partStart (mark k) (body s) wanted) (r : j ≡ nextMark (mark k) (body s) i) where
-    its-start : i ≡ wantedStart (accepted k fs) wanted
-    unfolding partStart wantedStart
-    its-start = p ∙ rw (its-parts b, T-true (between 1 (length fs) wanted) t)
+  -- a field of an accepted record
+  module _ (ks : List Kind) (k : Kind) (fs : List Bytes) (b : Built ks s k fs) where
+    few : length fs ≤ 7
+    few = omega (arith, its-count b, of-kind (λ j. length (fieldsOf j)) 0 k, count-few (rowOf k))
 
-    starts : i < length (body s)
-    starts = let h = and-yes (leb 1 wanted) (leb wanted (length fs)) t in omega (arith, p, start-within (mark k) (body s) wanted (omega (arith, ap length (its-parts b), leb→le wanted (length fs) (h .1))))
+    record Here (v : ℕ) : Type 0 where
+      start : getD (startsOf k fs) (v - 1) 0 ≡ length (joined (mark k) (take v (name k ∷ fs)))
+      within : getD (startsOf k fs) (v - 1) 0 + getD (lensOf fs) (v - 1) 0 ≤ length s
+      bytes : take (getD (lensOf fs) (v - 1) 0) (drop (getD (startsOf k fs) (v - 1) 0) s) ≡ getD ([] ∷ fs) v []
 
-    ends : j ≤ length (body s)
-    ends = omega (arith, r, next-within (mark k) (body s) i (omega (arith, starts)))
+    here : (v : ℕ) → T (between 1 (length fs) v) → Here v
+    here zero h = absurd h
+    here (suc v) h =
+        let e : suc v - 1 ≡ v = omega arith in
+        let l : v < length fs = omega (arith, leb→le (suc v) (length fs) (and-yes (leb 1 (suc v)) (leb (suc v) (length fs)) h .1)) in
+        let stands = record-stands k s fs few (its-parts b) v l in
+        record {
+          start = rw e (record-start k s fs few (its-parts b) v l);
+          within = rw (e, record-len k s fs few (its-parts b) v) (stands .within);
+          bytes = rw (e, record-len k s fs few (its-parts b) v) (stands .bytes);
+        }
 
-    its-part : partOf (mark k) (body s) wanted ≡ wantedPart (accepted k fs) wanted
-    unfolding wantedPart
-    its-part = there wanted (and-yes (leb 1 wanted) (leb wanted (length fs)) t .0)
-      where
-        there : (v : ℕ) → T (leb 1 v) → partOf (mark k) (body s) v ≡ getD ([] ∷ fs) v []
-        there zero h = absurd h
-        there (suc v) h = field-part k s v ∙ ap (λ (l : List Bytes). getD l v []) (its-fields b)
-
-    its-bytes : take (j - i) (drop i s) ≡ wantedPart (accepted k fs) wanted
-    its-bytes =
-        body-bytes s i j (omega (arith, starts)) ends
-        ∙ part-there (mark k) (body s) wanted i p starts j r ∙ its-part
-
-  there-said : (o : Outcome) (ks : List Kind) → Honest (Built ks s) o → (a : Answer) → a ≡ answerOf o → wantedNo o wanted ≡ 0 → (i j : ℕ)
-      → i ≡ partStart (markOf (a .kind)) (body s) wanted → j ≡ nextMark (markOf (a .kind)) (body s) i
-      → (i ≡ wantedStart o wanted) × (i + (j - i) ≤ length s) × (take (j - i) (drop i s) ≡ wantedPart o wanted)
-  unfolding wantedNo
-  there-said (accepted k fs) ks w a q z i j p r =
-      let m : markOf (a .kind) ≡ mark k = ap (λ (x : Answer). markOf (x .kind)) q ∙ of-kind mark 0 k in
+  there-said : (o : Outcome) (ks : List Kind) → Honest (Built ks s) o → (a : Answer) → a ≡ answerOf o → wantedNo o wanted ≡ 0 → (i n : ℕ)
+      → i ≡ getD (a .starts) (wanted - 1) 0 → n ≡ getD (a .lens) (wanted - 1) 0
+      → (i ≡ wantedStart o wanted) × (i + n ≤ length s) × (take n (drop i s) ≡ wantedPart o wanted)
+  unfolding wantedNo wantedStart wantedPart
+  there-said (accepted k fs) ks b a q z i n p r =
       by-test (between 1 (length fs) wanted)
       (λ t.
-      let p′ = rw m at p in
-      let r′ = rw m at r in
-      (its-start ks k fs w t i j p′ r′, omega (arith, starts ks k fs w t i j p′ r′, ends ks k fs w t i j p′ r′, length-take-le (length s - 4) s (omega arith)), its-bytes ks k fs w t i j p′ r′))
+      let h = here ks k fs b wanted t in
+      let p′ = p ∙ ap (λ (x : Answer). getD (x .starts) (wanted - 1) 0) q in
+      let r′ = r ∙ ap (λ (x : Answer). getD (x .lens) (wanted - 1) 0) q in
+      rw (p′, r′, T-true (between 1 (length fs) wanted) t) (h .start, h .within, h .bytes))
       (λ t. absurd (omega (arith, sym (rw (T-false (between 1 (length fs) wanted) t) at z))))
-  there-said (refused zero f) ks w a q z i j p r = absurd w
-  there-said (refused (suc m) f) ks w a q z i j p r = absurd (omega arith)
+  there-said (refused zero f) ks b a q z i n p r = absurd b
+  there-said (refused (suc m) f) ks b a q z i n p r = absurd (omega arith)
 
   module _ (o : Outcome) (r : Reads s o) (a : Answer) (q : a ≡ answerOf o) (n : ℕ) (e : n ≡ wantedNo o wanted) where
     pub place-none : (n ≡ 0 → ⊥) → Placed o wanted s (record { no = n; field = a .field; start = 0; len = 0 })
     place-none z = let h = nowhere o (λ (y : wantedNo o wanted ≡ 0). z (e ∙ y)) in placed o n (a .field) 0 0 e (told o a q .1) (h .0) (omega arith) (h .1)
 
-    -- i and j are the start and the end as the code has them
-    pub place-there : n ≡ 0 → (i j : ℕ) → i ≡ partStart (markOf (a .kind)) (body s) wanted → j ≡ nextMark (markOf (a .kind)) (body s) i
-        → Placed o wanted s (record { no = n; field = a .field; start = i; len = j - i })
-    place-there z i j p l = let h = there-said o (says r .0) (says r .1) a q (sym e ∙ z) i j p l in placed o n (a .field) i (j - i) e (told o a q .1) (h .0) (h .1) (h .2)
+    -- i and l are the start and the length as the code has them
+    pub place-there : n ≡ 0 → (i l : ℕ) → i ≡ getD (a .starts) (wanted - 1) 0 → l ≡ getD (a .lens) (wanted - 1) 0 → Placed o wanted s (record { no = n; field = a .field; start = i; len = l })
+    place-there z i l p u = let h = there-said o (says r .0) (says r .1) a q (sym e ∙ z) i l p u in placed o n (a .field) i l e (told o a q .1) (h .0) (h .1) (h .2)
 
 -- ---- the part at a place
 

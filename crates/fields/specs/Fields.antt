@@ -7,7 +7,7 @@ use mathlib.Core.Bool.{cond}
 use mathlib.Core.List.{[], _∷_}
 use lib.ListN.{length, take, drop, getD}
 use Rattle.text.specs.Text.{Bytes, between}
-use Rattle.format.specs.Numbers.{missingItem}
+use Rattle.numbers.specs.Numbers.{missingItem}
 use Rattle.format.specs.Kinds.{name, mark}
 use Rattle.format.specs.Build.{joined}
 use Rattle.format.specs.Read.{Outcome, accepted, refused, place}

@@ -3,14 +3,13 @@
 ghost use mathlib.Core.Path.{_≡_};
 ghost use Prim.Native.Nat.{_+_, _≤_};
 ghost use lib.ListN.{length};
-ghost use Rattle.text.specs.Text.{Bytes};
+ghost use lib.Dec.{T};
+ghost use Rattle.text.specs.Text.{Bytes, between};
 ghost use Rattle.format.specs.Read.{Outcome, readIdentity, readOf, readRecord};
 ghost use Rattle.table.specs.Table.{kindsFrom};
 ghost use Rattle.reading.specs.Reading.{answerOf};
 ghost use Rattle.fields.specs.Fields.{wantedNo, FieldSaid, Placed};
 ghost use Rattle.fields.specs.Steps.{Reads, Handed};
-
-const MISSING_ITEM: u8 = 12;
 
 // Where a field stands in the caller's bytes: its start and its length, both 0 with a refusal.
 #[repr(C)]
@@ -23,26 +22,26 @@ pub struct Place {
 
 // A refusal's own number, and 12 for a field that the accepted kind hasn't.
 fn wanted_no(answer: reading::Answer, wanted: usize) -> u8
-    ensures { λ r. ⌜ ((o : Outcome) (s : Bytes) → Reads s o → answer ≡ answerOf o → r ≡ wantedNo o wanted) ⌝ }
+    ensures { λ r. ⌜ ((o : Outcome) (s : Bytes) → Reads s o → answer ≡ answerOf o → r ≡ wantedNo o wanted) × (r ≡ 0 → T (between 1 7 wanted)) ⌝ }
 {
-    if answer.no != reading::ACCEPTED {
+    if answer.no != numbers::ACCEPTED {
         return answer.no;
     }
     if wanted == 0 {
-        return MISSING_ITEM;
+        return numbers::MISSING_ITEM;
     }
     if table::count_of(answer.kind) < wanted {
-        return MISSING_ITEM;
+        return numbers::MISSING_ITEM;
     }
-    reading::ACCEPTED
+    numbers::ACCEPTED
 }
 
-// Where the wanted field of s stands, to which a reading call gave this answer.
-fn place_from(answer: reading::Answer, s: &[u8], wanted: usize) -> Place
-    ensures { λ r. ⌜ ((o : Outcome) → Reads (now (s .entry)) o → answer ≡ answerOf o → Placed o wanted (now (s .entry)) r) ⌝ }
+// Where the wanted field stands in what a reading call answered so.
+fn place_from(answer: reading::Answer, wanted: usize) -> Place
+    ensures { λ r. ⌜ ((o : Outcome) (s : Bytes) → Reads s o → answer ≡ answerOf o → Placed o wanted s r) ⌝ }
 {
     let no = wanted_no(answer, wanted);
-    if no != reading::ACCEPTED {
+    if no != numbers::ACCEPTED {
         return Place {
             no,
             field: answer.field,
@@ -50,15 +49,12 @@ fn place_from(answer: reading::Answer, s: &[u8], wanted: usize) -> Place
             len: 0,
         };
     }
-    let mark = table::mark_of(answer.kind);
-    let body = frame::body_of(s);
-    let start = frame::part_start(mark, body, wanted);
-    let end = frame::next_mark(mark, body, start);
+    let at = wanted - 1;
     Place {
         no,
         field: answer.field,
-        start,
-        len: end - start,
+        start: answer.starts[at],
+        len: answer.lens[at],
     }
 }
 
@@ -67,21 +63,21 @@ fn place_from(answer: reading::Answer, s: &[u8], wanted: usize) -> Place
 pub fn identity_place(identity: &[u8], wanted: usize) -> Place
     ensures { λ r. ⌜ Placed (readIdentity (now (identity .entry))) wanted (now (identity .entry)) r ⌝ }
 {
-    place_from(reading::read_identity(identity), identity, wanted)
+    place_from(reading::read_identity(identity), wanted)
 }
 
 // The same of a record of the kinds in the table's rows from `from` to before `to`.
 pub fn place_of(from: usize, to: usize, record: &[u8], wanted: usize) -> Place
     ensures { λ r. ⌜ Placed (readOf (kindsFrom from to) (now («record» .entry))) wanted (now («record» .entry)) r ⌝ }
 {
-    place_from(reading::read_of(from, to, record), record, wanted)
+    place_from(reading::read_of(from, to, record), wanted)
 }
 
 // The same of a record of any of the four record kinds.
 pub fn record_place(record: &[u8], wanted: usize) -> Place
     ensures { λ r. ⌜ Placed (readRecord (now («record» .entry))) wanted (now («record» .entry)) r ⌝ }
 {
-    place_of(table::ECDSA, table::NONE, record, wanted)
+    place_of(table::ECDSA, table::ROWS, record, wanted)
 }
 
 // The part of s at this place, and the place's numbers.
@@ -126,5 +122,5 @@ pub fn field_of<'a>(
 pub fn record_field<'a>(record: &'a [u8], wanted: usize, no: &mut u8, field: &mut u8) -> &'a [u8]
     ensures { λ r. ⌜ FieldSaid (readRecord (now («record» .entry))) wanted (now r) (now (no .exit)) (now (field .exit)) ⌝ }
 {
-    field_of(table::ECDSA, table::NONE, record, wanted, no, field)
+    field_of(table::ECDSA, table::ROWS, record, wanted, no, field)
 }

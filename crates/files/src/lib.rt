@@ -8,8 +8,6 @@ ghost use Rattle.files.specs.Walk.{lineEnd, lineSaid, nextOf, totalsOf};
 ghost use Rattle.files.specs.Steps.{Begins, Stepped, stepFrom};
 
 // The number of an unfinished last line, whatever it holds.
-const UNFINISHED: u8 = 11;
-
 // What stands at a place of a file.
 pub enum Line {
     // A place at or past the end, which is its start and its next place; its length is 0.
@@ -66,7 +64,7 @@ pub fn line_at(file: &[u8], place: usize) -> Line
     let end = line_end(file, place);
     if file.len() <= end {
         return Line::Read {
-            no: UNFINISHED,
+            no: numbers::UNFINISHED,
             field: 0,
             kind: table::NONE,
             start: place,
@@ -96,7 +94,7 @@ pub fn count(file: &[u8]) -> Totals
         let Line::Read { no, next, .. } = line_at(file, place) else {
             return Totals { lines, accepted };
         };
-        if no == reading::ACCEPTED {
+        if no == numbers::ACCEPTED {
             accepted += 1;
         }
         lines += 1;

@@ -21,7 +21,7 @@ use Rattle.text.specs.Text.{Bytes, part}
 use Rattle.text.specs.Base16.{checkText}
 use Rattle.text.proofs.Tests.{by-test, less-or, T-true, T-false}
 use Rattle.text.proofs.Hexadecimal.{check-inj}
-use Rattle.format.specs.Numbers.{unfinished}
+use Rattle.numbers.specs.Numbers.{unfinished}
 use Rattle.format.specs.Kinds.{mark, recordKinds}
 use Rattle.format.specs.Read.{Outcome, accepted, refused, lastOr, readRecord}
 use Rattle.format.specs.Files.{lineFeed, upTo, Line, walkFrom, walk}

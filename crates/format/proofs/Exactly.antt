@@ -18,7 +18,7 @@ use Rattle.text.specs.Base16.{checkText}
 use Rattle.text.proofs.Tests.{T-true, same→eq, same-refl}
 use Rattle.text.proofs.Types.{hex-length, timestamp-length, point-hex}
 use Rattle.text.proofs.Hexadecimal.{check-hex}
-use Rattle.format.specs.Numbers.{tooLong, missingCheck, wrongCheck, wrongCount}
+use Rattle.numbers.specs.Numbers.{tooLong, missingCheck, wrongCheck, wrongCount}
 use Rattle.format.specs.Kinds.{Kind, Field, name, mark, fieldsOf, identityFields, identityKinds, recordKinds, pubkeyKinds, among}
 use Rattle.format.specs.Build.{WithoutAll, recordOf, empty, Fits, FitAll, PermittedOver, BuiltOver, NeverIdentity, IsIdentity, Permitted, Built}
 use Rattle.format.specs.Read.{Outcome, accepted, answer, title, markAfter, kindIn, body, check, lastOr, cut, fieldsIn, judged, readAs, readOver, nobody, readIdentity, readOf, readRecord}

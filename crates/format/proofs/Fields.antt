@@ -13,7 +13,7 @@ use mir.Facts.{and-yes}
 use Rattle.text.specs.Text.{Bytes, Ident, without, allOf, isOf, shortest, longest}
 use Rattle.text.proofs.Tests.{by-test, cond-yes, cond-no, between-high}
 use Rattle.text.proofs.Types.{plain, plain-without, lengths}
-use Rattle.format.specs.Numbers.{wrongText, wrongIdentity, wrongKind, unpaired}
+use Rattle.numbers.specs.Numbers.{wrongText, wrongIdentity, wrongKind, unpaired}
 use Rattle.format.specs.Kinds.{Kind, Field, Text, Identity, OrEmpty, name, mark, fieldsOf, among}
 use Rattle.format.specs.Build.{joined, WithoutAll, recordOf, empty, Fits, FitAll, paired, PermittedOver}
 use Rattle.format.specs.Read.{Outcome, accepted, refused, passing, identityAnswer, fieldAnswer, each, wholeAnswer, judged}

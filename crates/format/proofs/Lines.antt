@@ -14,7 +14,7 @@ use mir.Facts.{and-yes, yes-and}
 use borrow.Author.Tests.{lt-ltb, le-ltb, le-leb, lt-leb}
 use Rattle.text.specs.Text.{Bytes, without}
 use Rattle.text.proofs.Tests.{by-test, less-or, T-true, T-false}
-use Rattle.format.specs.Numbers.{unfinished}
+use Rattle.numbers.specs.Numbers.{unfinished}
 use Rattle.format.specs.Build.{joined, WithoutAll}
 use Rattle.format.specs.Read.{refused, readRecord}
 use Rattle.format.specs.Files.{lineFeed, upTo, Line, Said, finished, read, lineOf, lineAt, onward, walkFrom, walk, linesFrom}

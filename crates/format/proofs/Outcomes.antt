@@ -9,7 +9,7 @@ use mathlib.Core.List.{List}
 use native.Mathlib.Omega.{arith}
 use lib.Dec.{T}
 use Rattle.text.specs.Text.{Bytes}
-use Rattle.format.specs.Numbers.{unknownKind}
+use Rattle.numbers.specs.Numbers.{unknownKind}
 use Rattle.format.specs.Kinds.{Kind}
 use Rattle.format.specs.Read.{Outcome, accepted, refused, answer, provided, passing, ofKind}
 

@@ -6,7 +6,7 @@ use mathlib.Core.List.{List, [], _∷_}
 use lib.ListN.{length, drop}
 use lib.Dec.{leb, ltb, eqb}
 use Rattle.text.specs.Text.{Bytes}
-use Rattle.format.specs.Numbers.{unfinished}
+use Rattle.numbers.specs.Numbers.{unfinished}
 use Rattle.format.specs.Read.{Outcome, accepted, refused, readRecord}
 
 abbrev pub lineFeed : ℕ

@@ -1,4 +1,3 @@
-pub mod Numbers
 pub mod Kinds
 pub mod Build
 pub mod Read

@@ -11,7 +11,7 @@ use lib.Dec.{leb, eqb}
 use Rattle.crc16.specs.Crc.{crcOf}
 use Rattle.text.specs.Text.{Bytes, same, oneOf, ascii, isHex, isOf}
 use Rattle.text.specs.Base16.{checkText}
-use Rattle.format.specs.Numbers.{tooLong, unknownKind, missingCheck, wrongCheck, wrongCount, wrongText, wrongIdentity, unpaired, wrongKind}
+use Rattle.numbers.specs.Numbers.{tooLong, unknownKind, missingCheck, wrongCheck, wrongCount, wrongText, wrongIdentity, unpaired, wrongKind}
 use Rattle.format.specs.Kinds.{Kind, Field, Text, Identity, OrEmpty, name, mark, fieldsOf, identityKinds, recordKinds, among}
 use Rattle.format.specs.Build.{empty, paired}
 

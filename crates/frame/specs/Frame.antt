@@ -8,7 +8,7 @@ use lib.Dec.{eqb}
 use Rattle.crc16.specs.Crc.{crcOf}
 use Rattle.text.specs.Text.{Bytes, same, isHex}
 use Rattle.text.specs.Base16.{checkText}
-use Rattle.format.specs.Numbers.{missingCheck, wrongCheck}
+use Rattle.numbers.specs.Numbers.{missingCheck, wrongCheck}
 use Rattle.format.specs.Build.{joined}
 use Rattle.format.specs.Read.{body, check, lastOr, cut}
 use Rattle.format.specs.Files.{upTo}

@@ -6,10 +6,6 @@ ghost use lib.ListN.{length, drop};
 ghost use Rattle.format.specs.Read.{isMark, title, markAfter, body, check, lastOr, cut};
 ghost use Rattle.frame.specs.Frame.{nextMark, marksIn, partStart, partOf, checkNo};
 
-pub const MISSING_CHECK: u8 = 3;
-
-pub const WRONG_CHECK: u8 = 4;
-
 const CHECK_LENGTH: usize = 4;
 
 // ---- the first mark
@@ -179,21 +175,21 @@ fn check_of<'a>(s: &'a [u8]) -> &'a [u8]
     &s[start..]
 }
 
-// MISSING_CHECK where no check or no mark before it stands at the end, WRONG_CHECK where the check differs, else 0.
+// 3 where no check or no mark before it stands at the end, 4 where the check differs, else 0.
 pub fn check_no(mark: u8, s: &[u8]) -> u8
     ensures { λ r. ⌜ r ≡ checkNo mark (now (s .entry)) ⌝ }
 {
     let check = check_of(s);
     if !text::is_hex(CHECK_LENGTH, check) {
-        return MISSING_CHECK;
+        return numbers::MISSING_CHECK;
     }
     let body = body_of(s);
     if last_byte(body) != mark {
-        return MISSING_CHECK;
+        return numbers::MISSING_CHECK;
     }
     let built = text::check_text(crc16::crc_of(body));
     if text::are_same(check, &built) {
-        return 0;
+        return numbers::ACCEPTED;
     }
-    WRONG_CHECK
+    numbers::WRONG_CHECK
 }

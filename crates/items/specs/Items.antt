@@ -7,6 +7,7 @@ use mathlib.Core.Bool.{Bool, true, cond, _&&_}
 use mathlib.Core.List.{List, [], _∷_, _++_}
 use lib.ListN.{length, take, drop}
 use lib.Dec.{leb}
+use Rattle.numbers.specs.Numbers.{missingItem}
 use Rattle.text.specs.Text.{Bytes}
 
 -- ---- building
@@ -66,7 +67,7 @@ partOf none = []
 partOf (some i) = i
 
 abbrev pub numberOf : Option Bytes → ℕ
-numberOf none = 12
+numberOf none = missingItem
 numberOf (some i) = 0
 
 pub record Handed (o : Option Bytes) (part : Bytes) (no : ℕ) : Type 0 where

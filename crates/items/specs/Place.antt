@@ -4,6 +4,7 @@ use Prim.Native.Nat.{ℕ, zero, suc, _+_, _-_, _≤_}
 use mathlib.Core.Path.{_≡_}
 use mathlib.Core.Option.{Option, none, some}
 use lib.ListN.{length, take, drop, getD}
+use Rattle.numbers.specs.Numbers.{missingItem}
 use Rattle.text.specs.Text.{Bytes}
 use Rattle.items.specs.Items.{textItem, partOf}
 use Rattle.items.specs.declared.Place.{Place}
@@ -15,7 +16,7 @@ behind zero s = 1
 behind (suc i) s = behind i s + 1 + getD s (behind i s) 0
 
 abbrev pub nowhere : Place
-nowhere = record { no = 12; start = 0; len = 0 }
+nowhere = record { no = missingItem; start = 0; len = 0 }
 
 abbrev pub placeFrom : ℕ → Option Bytes → Place
 placeFrom start none = nowhere

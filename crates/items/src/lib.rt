@@ -3,8 +3,6 @@ ghost use mathlib.Core.Path.{_≡_};
 ghost use Rattle.items.specs.Items.{textItem, Handed};
 ghost use Rattle.items.specs.Place.{nowhere, Placed};
 
-const MISSING_ITEM: u8 = 12;
-
 // Where an item stands in its text: number 0, its start and its length. With number 12: nowhere, both 0.
 #[repr(C)]
 pub struct Place {
@@ -17,7 +15,7 @@ fn missing() -> Place
     ensures { λ r. ⌜ r ≡ nowhere ⌝ }
 {
     Place {
-        no: MISSING_ITEM,
+        no: numbers::MISSING_ITEM,
         start: 0,
         len: 0,
     }
@@ -63,7 +61,11 @@ pub fn item_place(text: &[u8], wanted: usize) -> Place
     }
     let start = found + 1;
     let len = text[found] as usize;
-    Place { no: 0, start, len }
+    Place {
+        no: numbers::ACCEPTED,
+        start,
+        len,
+    }
 }
 
 // The item of a wanted number, counted from 1, as a part of the text, with number 0. Where the bytes have not the form of a

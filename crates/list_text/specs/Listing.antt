@@ -8,7 +8,7 @@ use mathlib.Core.List.{[], _∷_, _++_}
 use lib.ListN.{length}
 use lib.Dec.{leb, ltb}
 use Rattle.text.specs.Text.{Bytes, ascii}
-use Rattle.format.specs.Numbers.{shortOutput}
+use Rattle.numbers.specs.Numbers.{shortOutput}
 use Rattle.format.specs.Files.{lineFeed}
 use Rattle.io.specs.Digits.{digits}
 use Rattle.put.specs.Made.{Made, made, denied}

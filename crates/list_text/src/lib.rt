@@ -6,10 +6,6 @@ ghost use Rattle.put.specs.Put.{Put};
 ghost use Rattle.put.specs.Made.{Writes};
 ghost use Rattle.list_text.specs.Listing.{before, listed, lineText, endText};
 
-const WRITTEN: u8 = 0;
-
-const SHORT_OUTPUT: u8 = 10;
-
 // Four numbers of at most 20 digits, each with the character after it; "end " and two numbers are shorter.
 const MOST: usize = 84;
 
@@ -50,11 +46,11 @@ fn write_text(text: &[u8], out: &mut [u8]) -> put::Written
     ensures { λ r. ⌜ Writes (listed (now (text .entry)) (length (now (out .entry)))) (now (out .entry)) (now (out .exit)) r ⌝ }
 {
     if out.len() < text.len() {
-        return put::refuse(SHORT_OUTPUT, 0);
+        return put::refuse(numbers::SHORT_OUTPUT, 0);
     }
     let len = put::put(out, 0, text);
     put::Written {
-        no: WRITTEN,
+        no: numbers::ACCEPTED,
         field: 0,
         len,
     }

@@ -1,9 +1,9 @@
 -- The choice step by step, as the code makes it: the two records' own refusals, then number 13, then the later GNT.
 -- Assumes nothing.
 use Prim.Native.Nat.{ℕ}
-use mathlib.Core.Path.{_≡_, refl, sym, ap, ap₂, _∙_}
+use mathlib.Core.Path.{_≡_, refl, sym, ap, _∙_}
 use mathlib.Core.Bool.{Bool, true, false, cond}
-use mathlib.Core.List.{[]}
+use mathlib.Core.List.{List, []}
 use native.Mathlib.Omega.{arith}
 use lib.Dec.{T}
 use Rattle.text.specs.Text.{Bytes}
@@ -11,55 +11,89 @@ use Rattle.text.proofs.Tests.{by-test, cond-yes, cond-no}
 use Rattle.text.specs.Later.{after, later}
 use Rattle.text.proofs.Types.{timestamp-looks}
 use Rattle.text.proofs.Later.{later-by-bytes}
-use Rattle.format.specs.Numbers.{notAlike}
-use Rattle.format.specs.Kinds.{pubkeyKinds}
+use Rattle.numbers.specs.Numbers.{notAlike}
+use Rattle.format.specs.Kinds.{Kind, pubkeyKinds}
 use Rattle.format.specs.Build.{Built}
-use Rattle.format.specs.Read.{Outcome, accepted, refused, answer, place, readOf}
-use Rattle.format.proofs.Outcomes.{never}
+use Rattle.format.specs.Read.{Outcome, accepted, refused, answer, readIdentity, readOf}
 use Rattle.format.proofs.Exactly.{read-says, read-honest}
+use Rattle.places.specs.Places.{fieldAt}
 use Rattle.reading.specs.Reading.{answerOf}
 use Rattle.reading.specs.declared.Answer.{Answer}
-use Rattle.reading.proofs.Answers.{told, taken, untaken}
-use Rattle.subjects.specs.Subjects.{gnt, alike, identityPart, areAlike}
+use Rattle.reading.proofs.Answers.{Taken, taken, untaken}
+use Rattle.subjects.specs.Subjects.{alike, identityPart, areAlike}
 use Rattle.subjects.proofs.Subjects.{identity-field, identity-gnt, alike-identities}
-use Rattle.newer.specs.Newer.{Decision, theFirst, theSecond, denied, byRecords, newer, choiceNo, choiceWhich, choiceSaid, choicePart, Chosen}
+use Rattle.newer.specs.Newer.{Decision, theFirst, theSecond, denied, subject, bySubjects, byRecords, newer, choiceNo, choiceWhich, choiceSaid, choicePart, Chosen}
 use Rattle.newer.specs.declared.Choice.{Choice}
 use Rattle.newer.specs.Keys.{Key, gntOf}
-use Rattle.newer.specs.Steps.{inTurn, subjectIn, gntIn, Numbered}
+use Rattle.newer.specs.Steps.{Named}
 use Rattle.newer.proofs.Keys.{key, its-subject}
 
--- ---- one record after the other
+-- ---- by the two Subjects
+
+module _ (i j : Bytes) (p : Named i) (q : Named j) where
+  by-names : bySubjects (readIdentity i) (readIdentity j) ≡ cond (areAlike i j) (cond (after (identityPart j 3) (identityPart i 3)) theSecond theFirst) (denied 0 notAlike 0)
+  by-names =
+      rw (
+        p .known,
+        q .known,
+        alike-identities i j (p .known) (q .known),
+        identity-field i (p .known) 2,
+        identity-field j (q .known) 2,
+        later-by-bytes _ _ (timestamp-looks _ (identity-gnt j (q .known))) (timestamp-looks _ (identity-gnt i (p .known))),
+      )
+
+  pub said-unlike : areAlike i j ≡ false → record { no = notAlike; field = 0; which = 0 } ≡ choiceSaid (bySubjects (readIdentity i) (readIdentity j))
+  said-unlike e = sym (ap choiceSaid by-names ∙ rw e)
+
+  pub said-alike : areAlike i j ≡ true → (l : Bool) → after (identityPart j 3) (identityPart i 3) ≡ l → choiceSaid (cond l theSecond theFirst) ≡ choiceSaid (bySubjects (readIdentity i) (readIdentity j))
+  said-alike e l f = sym (ap choiceSaid by-names ∙ rw (e, f))
+
+-- ---- by the two records, of which r and t are what was answered
+
+module _ (a b : Bytes) (r : Answer) (e : r ≡ answerOf (readOf pubkeyKinds a)) where
+  pub said-first : (r .no ≡ 0 → ⊥) → record { no = r .no; field = r .field; which = 1 } ≡ choiceSaid (newer a b)
+  unfolding newer
+  said-first z = rw (untaken (readOf pubkeyKinds a) r e z)
+
+  module _ (z : r .no ≡ 0) (t : Answer) (f : t ≡ answerOf (readOf pubkeyKinds b)) where
+    one : Taken (Built pubkeyKinds a) (readOf pubkeyKinds a) (r .kind)
+    one = taken (Built pubkeyKinds a) (readOf pubkeyKinds a) r (read-says pubkeyKinds a) e z
+
+    first-key : Key a
+    first-key = key a (one .kind) (one .fields) (one .is)
+
+    pub said-second : (t .no ≡ 0 → ⊥) → record { no = t .no; field = t .field; which = 2 } ≡ choiceSaid (newer a b)
+    unfolding newer
+    said-second y = rw (one .is, untaken (readOf pubkeyKinds b) t f y)
+
+    -- i and j are the Subjects as the code has them
+    module _ (y : t .no ≡ 0) (i j : Bytes) (ei : i ≡ fieldAt a (r .starts) (r .lens) 1) (ej : j ≡ fieldAt b (t .starts) (t .lens) 1) where
+      other : Taken (Built pubkeyKinds b) (readOf pubkeyKinds b) (t .kind)
+      other = taken (Built pubkeyKinds b) (readOf pubkeyKinds b) t (read-says pubkeyKinds b) f y
+
+      second-key : Key b
+      second-key = key b (other .kind) (other .fields) (other .is)
+
+      named : (s : Bytes) (k : Key s) (u : Bytes) → u ≡ subject (k .fields) → Named u
+      named s k u q = record { who = k .who; names = k .names; known = rw q (k .known) }
+
+      first-subject : i ≡ subject (first-key .fields)
+      first-subject = ei ∙ its-subject a first-key r e
+
+      second-subject : j ≡ subject (second-key .fields)
+      second-subject = ej ∙ its-subject b second-key t f
+
+      pub first-named : Named i
+      first-named = named a first-key i first-subject
+
+      pub second-named : Named j
+      second-named = named b second-key j second-subject
+
+      pub by-keys : bySubjects (readIdentity i) (readIdentity j) ≡ newer a b
+      unfolding newer
+      by-keys = rw (first-subject, second-subject, first-key .is, second-key .is)
 
 module _ (a b : Bytes) where
-  abbrev both : Outcome
-  both = inTurn (readOf pubkeyKinds a) (readOf pubkeyKinds b)
-
-  module _ (r : Answer) (e : r ≡ answerOf (readOf pubkeyKinds a)) where
-    pub turn-stop : (r .no ≡ 0 → ⊥) → r ≡ answerOf both
-    turn-stop z = e ∙ rw (untaken (readOf pubkeyKinds a) r e z)
-
-    pub turn-on : r .no ≡ 0 → both ≡ readOf pubkeyKinds b
-    turn-on z = rw (taken (Built pubkeyKinds a) (readOf pubkeyKinds a) r (read-says pubkeyKinds a) e z .is)
-
-  both-denied : {n i : ℕ} → both ≡ refused n i → newer a b ≡ denied n i
-  unfolding newer
-  both-denied {n} {i} = go (readOf pubkeyKinds a) (readOf pubkeyKinds b)
-    where
-      go : (o p : Outcome) → inTurn o p ≡ refused n i → byRecords o p ≡ denied n i
-      go (accepted k fs) (accepted j gs) e = absurd (never (sym e))
-      go (accepted k fs) (refused m j) e = ap (λ (o : Outcome). denied (answer o) (place o)) e
-      go (refused m j) p e = ap (λ (o : Outcome). denied (answer o) (place o)) e
-
-  both-keys : answer both ≡ 0 → Key a × Key b
-  both-keys z =
-      let (k, fs, e) = read-honest pubkeyKinds a (first (readOf pubkeyKinds a) z) in
-      let (j, gs, f) = read-honest pubkeyKinds b (rw e at z) in
-      (key a k fs e, key b j gs f)
-    where
-      first : (o : Outcome) → answer (inTurn o (readOf pubkeyKinds b)) ≡ 0 → answer o ≡ 0
-      first (accepted k fs) h = refl
-      first (refused n i) h = h
-
   -- ---- two accepted public keys
 
   module _ (p : Key a) (q : Key b) where
@@ -69,59 +103,27 @@ module _ (a b : Bytes) where
     abbrev by-gnt : Decision
     by-gnt = cond (later (gntOf q) (gntOf p)) theSecond theFirst
 
-    both-read : both ≡ accepted (q .kind) (q .fields)
-    both-read = rw (p .is, q .is)
-
-    pub newer-keys : newer a b ≡ cond agree by-gnt (denied notAlike 0)
+    pub newer-keys : newer a b ≡ cond agree by-gnt (denied 0 notAlike 0)
     unfolding newer
     newer-keys = rw (p .is, q .is, p .known, q .known)
-
-    alike-keys : areAlike (subjectIn a) (subjectIn b) ≡ agree
-    alike-keys = ap₂ areAlike (its-subject a p) (its-subject b q) ∙ alike-identities _ _ (p .known) (q .known)
-
-    later-keys : after (gntIn b) (gntIn a) ≡ later (gntOf q) (gntOf p)
-    later-keys =
-        ap₂ after (its-gnt b q) (its-gnt a p)
-        ∙ later-by-bytes _ _ (timestamp-looks _ (identity-gnt _ (q .known))) (timestamp-looks _ (identity-gnt _ (p .known)))
-      where
-        its-gnt : (s : Bytes) (k : Key s) → gntIn s ≡ gntOf k
-        its-gnt s k = ap (λ (t : Bytes). identityPart t 3) (its-subject s k) ∙ identity-field _ (k .known) 2
-
-    alike-numbered : areAlike (subjectIn a) (subjectIn b) ≡ true → Numbered (newer a b) 0 0
-    alike-numbered t = rw (newer-keys, sym alike-keys ∙ t) (go (later (gntOf q) (gntOf p)))
-      where
-        go : (l : Bool) → Numbered (cond l theSecond theFirst) 0 0
-        go true = record { its-no = refl; its-field = refl }
-        go false = record { its-no = refl; its-field = refl }
-
-    unlike-numbered : areAlike (subjectIn a) (subjectIn b) ≡ false → Numbered (newer a b) notAlike 0
-    unlike-numbered t = rw (newer-keys, sym alike-keys ∙ t) record { its-no = refl; its-field = refl }
-
-  -- ---- the numbers, by the answer to the two records
-
-  module _ (r : Answer) (e : r ≡ answerOf both) where
-    pub judged-refused : (r .no ≡ 0 → ⊥) → Numbered (newer a b) (r .no) (r .field)
-    judged-refused z = rw (both-denied (untaken both r e z)) record { its-no = refl; its-field = refl }
-
-    module _ (z : r .no ≡ 0) where
-      keys : Key a × Key b
-      keys = both-keys (sym (told both r e .0) ∙ z)
-
-      pub judged-alike : areAlike (subjectIn a) (subjectIn b) ≡ true → Numbered (newer a b) (r .no) (r .field)
-      judged-alike t = rw (z, told both r e .1 ∙ ap place (both-read (keys .0) (keys .1))) (alike-numbered (keys .0) (keys .1) t)
-
-      pub judged-unlike : areAlike (subjectIn a) (subjectIn b) ≡ false → Numbered (newer a b) notAlike 0
-      judged-unlike = unlike-numbered (keys .0) (keys .1)
 
   -- ---- a choice with no number
 
   module _ (z : choiceNo (newer a b) ≡ 0) where
     pub chosen-keys : Key a × Key b
-    chosen-keys = both-keys (go both refl)
+    unfolding newer
+    chosen-keys =
+        let (k, fs, e) = read-honest pubkeyKinds a (first (readOf pubkeyKinds a) (readOf pubkeyKinds b) z) in
+        let (j, gs, f) = read-honest pubkeyKinds b (second k fs (readOf pubkeyKinds b) (rw e at z)) in
+        (key a k fs e, key b j gs f)
       where
-        go : (o : Outcome) → both ≡ o → answer both ≡ 0
-        go (accepted k fs) e = ap answer e
-        go (refused n i) e = ap answer e ∙ sym (ap choiceNo (both-denied e)) ∙ z
+        first : (o p : Outcome) → choiceNo (byRecords o p) ≡ 0 → answer o ≡ 0
+        first (accepted k fs) p h = refl
+        first (refused n i) p h = h
+
+        second : (k : Kind) (fs : List Bytes) (p : Outcome) → choiceNo (byRecords (accepted k fs) p) ≡ 0 → answer p ≡ 0
+        second k fs (accepted j gs) h = refl
+        second k fs (refused n i) h = h
 
     module _ (p : Key a) (q : Key b) where
       pub chosen-agree : T (agree p q)
@@ -129,53 +131,42 @@ module _ (a b : Bytes) where
           by-test (agree p q)
           (λ t. t)
           (λ t.
-          let n : notAlike ≡ 0 = sym (ap choiceNo (newer-keys p q ∙ cond-no (agree p q) (by-gnt p q) (denied notAlike 0) t)) ∙ z in
+          let n : notAlike ≡ 0 = sym (ap choiceNo (newer-keys p q ∙ cond-no (agree p q) (by-gnt p q) (denied 0 notAlike 0) t)) ∙ z in
           absurd (omega arith))
 
       pub chosen-later : newer a b ≡ by-gnt p q
-      chosen-later = newer-keys p q ∙ cond-yes (agree p q) (by-gnt p q) (denied notAlike 0) chosen-agree
+      chosen-later = newer-keys p q ∙ cond-yes (agree p q) (by-gnt p q) (denied 0 notAlike 0) chosen-agree
 
-    by-bytes : newer a b ≡ cond (after (gntIn b) (gntIn a)) theSecond theFirst
-    by-bytes = chosen-later (chosen-keys .0) (chosen-keys .1) ∙ rw (later-keys (chosen-keys .0) (chosen-keys .1))
-
-  -- ---- which is the newer
-
-  module _ (n i : ℕ) (h : Numbered (newer a b) n i) where
-    said : (w : ℕ) → w ≡ choiceWhich (newer a b) → record { no = n; field = i; which = w } ≡ choiceSaid (newer a b)
-    said w e = rw (h .its-no, h .its-field, e)
-
-    pub said-neither : (n ≡ 0 → ⊥) → record { no = n; field = i; which = 0 } ≡ choiceSaid (newer a b)
-    said-neither z = said 0 (go (newer a b) (λ e. z (h .its-no ∙ e)))
-      where
-        go : (c : Decision) → (choiceNo c ≡ 0 → ⊥) → 0 ≡ choiceWhich c
-        go theFirst y = absurd (y refl)
-        go theSecond y = absurd (y refl)
-        go (denied m j) y = refl
-
-    pub said-one : n ≡ 0 → (l : Bool) → after (gntIn b) (gntIn a) ≡ l
-        → record { no = n; field = i; which = choiceWhich (cond l theSecond theFirst) } ≡ choiceSaid (newer a b)
-    said-one z l e = said _ (rw (by-bytes (sym (h .its-no) ∙ z), e))
+    one-of-two : (l : Bool) × (newer a b ≡ cond l theSecond theFirst)
+    one-of-two = (later (gntOf (chosen-keys .1)) (gntOf (chosen-keys .0)), chosen-later (chosen-keys .0) (chosen-keys .1))
 
   -- ---- the part handed back
 
   chosen : (c : Decision) (r : Choice) → r ≡ choiceSaid c → Chosen c a b (choicePart c a b) (r .no) (r .field)
   chosen c r e = rw e (record { part-so = refl; number-so = refl; field-so = refl })
 
-  which-so : (c : Decision) (r : Choice) → r ≡ choiceSaid c → r .which ≡ choiceWhich c
-  which-so c r e = ap (λ (x : Choice). x .which) e
+  pub chosen-none : (c : Decision) (r : Choice) → r ≡ choiceSaid c → (r .no ≡ 0 → ⊥) → Chosen c a b [] (r .no) (r .field)
+  chosen-none theFirst r e z = absurd (z (ap (λ (x : Choice). x .no) e))
+  chosen-none theSecond r e z = absurd (z (ap (λ (x : Choice). x .no) e))
+  chosen-none (denied w n i) r e z = chosen (denied w n i) r e
 
-  pub chosen-first : (c : Decision) (r : Choice) → r ≡ choiceSaid c → r .which ≡ 1 → Chosen c a b a (r .no) (r .field)
-  chosen-first theFirst r e t = chosen theFirst r e
-  chosen-first theSecond r e t = absurd (omega (arith, which-so theSecond r e))
-  chosen-first (denied n i) r e t = absurd (omega (arith, which-so (denied n i) r e))
+  module _ (r : Choice) (e : r ≡ choiceSaid (newer a b)) (z : r .no ≡ 0) where
+    two : (l : Bool) × (newer a b ≡ cond l theSecond theFirst)
+    two = one-of-two (sym (ap (λ (x : Choice). x .no) e) ∙ z)
 
-  pub chosen-second : (c : Decision) (r : Choice) → r ≡ choiceSaid c → r .which ≡ 2 → Chosen c a b b (r .no) (r .field)
-  chosen-second theFirst r e t = absurd (omega (arith, which-so theFirst r e))
-  chosen-second theSecond r e t = chosen theSecond r e
-  chosen-second (denied n i) r e t = absurd (omega (arith, which-so (denied n i) r e))
+    which-so : (c : Decision) → newer a b ≡ c → r .which ≡ choiceWhich c
+    which-so c q = ap (λ (x : Choice). x .which) (e ∙ ap choiceSaid q)
 
-  pub chosen-none : (c : Decision) (r : Choice) → r ≡ choiceSaid c → (r .which ≡ 1 → ⊥) → (r .which ≡ 2 → ⊥)
-      → Chosen c a b [] (r .no) (r .field)
-  chosen-none theFirst r e y z = absurd (y (which-so theFirst r e))
-  chosen-none theSecond r e y z = absurd (z (which-so theSecond r e))
-  chosen-none (denied n i) r e y z = chosen (denied n i) r e
+    pub chosen-second : r .which ≡ 2 → Chosen (newer a b) a b b (r .no) (r .field)
+    chosen-second h = go (two .0) (two .1)
+      where
+        go : (l : Bool) → newer a b ≡ cond l theSecond theFirst → Chosen (newer a b) a b b (r .no) (r .field)
+        go true q = rw q (chosen theSecond r (e ∙ ap choiceSaid q))
+        go false q = absurd (omega (arith, which-so theFirst q))
+
+    pub chosen-first : (r .which ≡ 2 → ⊥) → Chosen (newer a b) a b a (r .no) (r .field)
+    chosen-first h = go (two .0) (two .1)
+      where
+        go : (l : Bool) → newer a b ≡ cond l theSecond theFirst → Chosen (newer a b) a b a (r .no) (r .field)
+        go true q = absurd (h (which-so theSecond q))
+        go false q = rw q (chosen theFirst r (e ∙ ap choiceSaid q))

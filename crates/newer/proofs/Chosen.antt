@@ -47,7 +47,7 @@ module _ (a b part : Bytes) (n i : ℕ) (c : Chosen (newer a b) a b part n i) wh
       go : (d : Decision) → (choiceNo d ≡ 0 → ⊥) → choicePart d a b ≡ []
       go theFirst h = absurd (h refl)
       go theSecond h = absurd (h refl)
-      go (denied m j) h = refl
+      go (denied w m j) h = refl
 
   module _ (z : n ≡ 0) (p : Key a) (q : Key b) where
     by-gnt : part ≡ choicePart (cond (later (gntOf q) (gntOf p)) theSecond theFirst) a b

@@ -1,20 +1,27 @@
 -- What is known of an accepted public key: its Subject is an accepted identity and stands where the code looks for it.
 -- Assumes nothing.
-use Prim.Native.Char.{code}
-use mathlib.Core.Path.{_≡_, refl, ap, _∙_}
+use Prim.Native.Nat.{ℕ, _≤_}
+use mathlib.Core.Path.{_≡_, ap, _∙_}
 use mathlib.Core.List.{List}
+use native.Mathlib.Omega.{arith}
+use lib.ListN.{length}
 use lib.Dec.{lit<}
 use Rattle.text.specs.Text.{Bytes}
-use Rattle.format.specs.Kinds.{Kind, mark, pubkeyKinds}
+use Rattle.format.specs.Kinds.{Kind, fieldsOf, pubkeyKinds}
 use Rattle.format.specs.Build.{Fits, IsIdentity}
 use Rattle.format.specs.Read.{accepted, readOf}
-use Rattle.format.proofs.Table.{all-among, pubkey-row}
+use Rattle.format.proofs.Table.{pubkey-row}
 use Rattle.format.proofs.Fields.{fit-at}
-use Rattle.format.proofs.Exactly.{ask-complete, read-exact, its-fields}
-use Rattle.frame.proofs.Parts.{field-part}
+use Rattle.format.proofs.Exactly.{ask-complete, read-exact, its-parts, its-count}
+use Rattle.table.specs.Table.{rowOf}
+use Rattle.table.proofs.Rows.{of-kind}
+use Rattle.table.proofs.Arrays.{count-few}
+use Rattle.places.specs.Places.{fieldAt}
+use Rattle.places.proofs.Stands.{record-field}
+use Rattle.reading.specs.Reading.{answerOf}
+use Rattle.reading.specs.declared.Answer.{Answer}
 use Rattle.newer.specs.Newer.{subject}
 use Rattle.newer.specs.Keys.{Key}
-use Rattle.newer.specs.Steps.{subjectIn}
 
 pub key : (s : Bytes) (k : Kind) (fs : List Bytes) → readOf pubkeyKinds s ≡ accepted k fs → Key s
 unfolding Fits
@@ -24,9 +31,8 @@ key s k fs e =
     let asked = ask-complete (inner .0) (subject fs) (inner .2) in
     record { kind = k; fields = fs; is = e; who = inner .0; names = asked .0; known = asked .1 }
 
-module _ (s : Bytes) (k : Key s) where
-  pub its-subject : subjectIn s ≡ subject (k .fields)
-  its-subject =
-      let b = read-exact pubkeyKinds s (k .kind) (k .fields) .0 (k .is) in
-      let bar : mark (k .kind) ≡ code "|" = all-among (λ j. mark j ≡ code "|") pubkeyKinds (refl, (refl, tt)) (k .kind) (b .of-kind) in
-      rw (← bar) (field-part (k .kind) s 0 ∙ ap subject (its-fields b))
+pub its-subject : (s : Bytes) (k : Key s) (r : Answer) → r ≡ answerOf (readOf pubkeyKinds s) → fieldAt s (r .starts) (r .lens) 1 ≡ subject (k .fields)
+its-subject s k r e =
+    let b = read-exact pubkeyKinds s (k .kind) (k .fields) .0 (k .is) in
+    let few : length (k .fields) ≤ 7 = omega (arith, its-count b, of-kind (λ j. length (fieldsOf j)) 0 (k .kind), count-few (rowOf (k .kind))) in
+    ap (λ (x : Answer). fieldAt s (x .starts) (x .lens) 1) (e ∙ ap answerOf (k .is)) ∙ record-field (k .kind) s (k .fields) few (its-parts b) 1

@@ -8,7 +8,7 @@ use mathlib.Core.List.{List, []}
 use lib.ListN.{getD}
 use Rattle.text.specs.Text.{Bytes}
 use Rattle.text.specs.Later.{later}
-use Rattle.format.specs.Numbers.{notAlike}
+use Rattle.numbers.specs.Numbers.{notAlike}
 use Rattle.format.specs.Kinds.{pubkeyKinds}
 use Rattle.format.specs.Read.{Outcome, accepted, refused, readIdentity, readOf}
 use Rattle.subjects.specs.Subjects.{gnt, alike}
@@ -20,22 +20,23 @@ subject fs = getD fs 0 []
 
 -- ---- the choice
 
+-- a refusal has the record that is refused, 1 or 2, and 0 where it is the two together; its number and its field's number
 pub data Decision : Type 0 where
   theFirst theSecond : Decision
-  denied : ℕ → ℕ → Decision
+  denied : ℕ → ℕ → ℕ → Decision
 
 -- by the identity call's outcomes of the two Subjects
 abbrev pub bySubjects : Outcome → Outcome → Decision
 bySubjects (accepted j fs) (accepted k gs) =
-    cond (alike j fs k gs) (cond (later (gnt gs) (gnt fs)) theSecond theFirst) (denied notAlike 0)
-bySubjects (accepted j fs) (refused n i) = denied n i
-bySubjects (refused n i) o = denied n i
+    cond (alike j fs k gs) (cond (later (gnt gs) (gnt fs)) theSecond theFirst) (denied 0 notAlike 0)
+bySubjects (accepted j fs) (refused n i) = denied 2 n i
+bySubjects (refused n i) o = denied 1 n i
 
 -- by the record call's outcomes of the two records
 abbrev pub byRecords : Outcome → Outcome → Decision
 byRecords (accepted j fs) (accepted k gs) = bySubjects (readIdentity (subject fs)) (readIdentity (subject gs))
-byRecords (accepted j fs) (refused n i) = denied n i
-byRecords (refused n i) o = denied n i
+byRecords (accepted j fs) (refused n i) = denied 2 n i
+byRecords (refused n i) o = denied 1 n i
 
 unfoldable pub newer : Bytes → Bytes → Decision
 newer a b = byRecords (readOf pubkeyKinds a) (readOf pubkeyKinds b)
@@ -45,18 +46,18 @@ newer a b = byRecords (readOf pubkeyKinds a) (readOf pubkeyKinds b)
 abbrev pub choiceNo : Decision → ℕ
 choiceNo theFirst = 0
 choiceNo theSecond = 0
-choiceNo (denied n i) = n
+choiceNo (denied w n i) = n
 
 abbrev pub choiceField : Decision → ℕ
 choiceField theFirst = 0
 choiceField theSecond = 0
-choiceField (denied n i) = i
+choiceField (denied w n i) = i
 
--- 1 for the first record and 2 for the second; 0 with a refusal
+-- 1 for the first record and 2 for the second: the newer one, and with a refusal the one that is refused
 abbrev pub choiceWhich : Decision → ℕ
 choiceWhich theFirst = 1
 choiceWhich theSecond = 2
-choiceWhich (denied n i) = 0
+choiceWhich (denied w n i) = w
 
 abbrev pub choiceSaid : Decision → Choice
 choiceSaid c = record { no = choiceNo c; field = choiceField c; which = choiceWhich c }
@@ -65,7 +66,7 @@ choiceSaid c = record { no = choiceNo c; field = choiceField c; which = choiceWh
 abbrev pub choicePart : Decision → Bytes → Bytes → Bytes
 choicePart theFirst a b = a
 choicePart theSecond a b = b
-choicePart (denied n i) a b = []
+choicePart (denied w n i) a b = []
 
 pub record Chosen (c : Decision) (a b part : Bytes) (no field : ℕ) : Type 0 where
   pub part-so : part ≡ choicePart c a b

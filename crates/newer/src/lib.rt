@@ -2,33 +2,65 @@
 // and have no `requires`.
 ghost use mathlib.Core.Path.{_≡_};
 ghost use Rattle.format.specs.Kinds.{pubkeyKinds};
-ghost use Rattle.format.specs.Read.{readOf};
+ghost use Rattle.format.specs.Read.{readIdentity, readOf};
+ghost use Rattle.places.specs.Places.{fieldAt};
 ghost use Rattle.reading.specs.Reading.{answerOf};
-ghost use Rattle.newer.specs.Newer.{newer, choiceSaid, Chosen};
-ghost use Rattle.newer.specs.Steps.{inTurn, subjectIn, gntIn, Numbered};
+ghost use Rattle.subjects.specs.Subjects.{identityPart};
+ghost use Rattle.newer.specs.Newer.{bySubjects, newer, choiceSaid, Chosen};
+ghost use Rattle.newer.specs.Steps.{Named};
 
-const NOT_ALIKE: u8 = 13;
+// ---- what is answered
+
+pub const FIRST: u8 = 1;
+
+pub const SECOND: u8 = 2;
+
+const NEITHER: u8 = 0;
+
+// The number and the field's number; with 0 which of two public keys is the newer, FIRST or SECOND; with a refusal which of
+// them is refused, and 0 where it is the two together (13).
+#[repr(C)]
+pub struct Choice {
+    pub no: u8,
+    pub field: u8,
+    pub which: u8,
+}
 
 // ---- what is compared
 
-// The Subject's number in a public key, and GNT's in an identity.
-const SUBJECT: usize = 1;
-
-const GNT: usize = 3;
-
-fn subject_of<'a>(key: &'a [u8]) -> &'a [u8]
-    ensures { λ r. ⌜ now r ≡ subjectIn (now (key .entry)) ⌝ }
+fn gnt_of<'a>(identity: &'a [u8]) -> &'a [u8]
+    ensures { λ r. ⌜ now r ≡ identityPart (now (identity .entry)) 3 ⌝ }
 {
-    frame::part(b'|', frame::body_of(key), SUBJECT)
+    frame::part(b':', frame::body_of(identity), table::IDENTITY_GNT)
 }
 
-fn gnt_of<'a>(key: &'a [u8]) -> &'a [u8]
-    ensures { λ r. ⌜ now r ≡ gntIn (now (key .entry)) ⌝ }
+// By the Subjects of two accepted keys: 13 where they are not alike; otherwise the one with the later GNT, the first when
+// equal.
+fn by_subjects(first: &[u8], second: &[u8]) -> Choice
+    ensures { λ r. ⌜ (Named (now (first .entry)) → Named (now (second .entry)) → r ≡ choiceSaid (bySubjects (readIdentity (now (first .entry))) (readIdentity (now (second .entry))))) ⌝ }
 {
-    frame::part(b':', frame::body_of(subject_of(key)), GNT)
+    if !subjects::are_alike(first, second) {
+        return Choice {
+            no: numbers::NOT_ALIKE,
+            field: 0,
+            which: NEITHER,
+        };
+    }
+    if text::is_later(gnt_of(second), gnt_of(first)) {
+        return Choice {
+            no: numbers::ACCEPTED,
+            field: 0,
+            which: SECOND,
+        };
+    }
+    Choice {
+        no: numbers::ACCEPTED,
+        field: 0,
+        which: FIRST,
+    }
 }
 
-// ---- the refusals
+// ---- the records
 
 // Reads public keys alone: the rows from ECDSA to before REQ.
 fn read_key(key: &[u8]) -> reading::Answer
@@ -37,77 +69,37 @@ fn read_key(key: &[u8]) -> reading::Answer
     reading::read_of(table::ECDSA, table::REQ, key)
 }
 
-// The first one's refusal comes before the second one's.
-fn read_both(first: &[u8], second: &[u8]) -> reading::Answer
-    ensures { λ r. ⌜ r ≡ answerOf (inTurn (readOf pubkeyKinds (now (first .entry))) (readOf pubkeyKinds (now (second .entry)))) ⌝ }
+// The Subject of a key that was answered so.
+fn subject_of<'a>(key: &'a [u8], answer: reading::Answer) -> &'a [u8]
+    ensures { λ r. ⌜ now r ≡ fieldAt (now (key .entry)) (answer .starts) (answer .lens) 1 ⌝ }
 {
-    let answer = read_key(first);
-    if answer.no != reading::ACCEPTED {
-        return answer;
-    }
-    read_key(second)
+    let starts = answer.starts;
+    let lens = answer.lens;
+    places::field_at(key, &starts, &lens, table::PUBKEY_SUBJECT)
 }
 
-// Every refusal in its order: the first record's, the second's, then NOT_ALIKE.
-fn judge(first: &[u8], second: &[u8]) -> reading::Answer
-    ensures { λ r. ⌜ Numbered (newer (now (first .entry)) (now (second .entry))) (r .no) (r .field) ⌝ }
-{
-    let answer = read_both(first, second);
-    if answer.no != reading::ACCEPTED {
-        return answer;
-    }
-    if subjects::are_alike(subject_of(first), subject_of(second)) {
-        return answer;
-    }
-    reading::Answer {
-        no: NOT_ALIKE,
-        field: 0,
-        kind: table::NONE,
-    }
-}
-
-// ---- the calls
-
-pub const FIRST: u8 = 1;
-
-pub const SECOND: u8 = 2;
-
-const NEITHER: u8 = 0;
-
-// Which of two public keys is the newer: FIRST or SECOND, and 0 with a refusal.
-#[repr(C)]
-pub struct Choice {
-    pub no: u8,
-    pub field: u8,
-    pub which: u8,
-}
-
-// The record whose Subject has the later GNT, the first when equal, for callers that cannot take a part back.
+// Which of two public keys is the newer: the one whose Subject has the later GNT, the first when equal. The first record's
+// refusals come before the second's, then 13.
 pub fn newer_of(first: &[u8], second: &[u8]) -> Choice
     ensures { λ r. ⌜ r ≡ choiceSaid (newer (now (first .entry)) (now (second .entry))) ⌝ }
 {
-    let answer = judge(first, second);
-    let no = answer.no;
-    let field = answer.field;
-    if no != reading::ACCEPTED {
+    let one = read_key(first);
+    if one.no != numbers::ACCEPTED {
         return Choice {
-            no,
-            field,
-            which: NEITHER,
+            no: one.no,
+            field: one.field,
+            which: FIRST,
         };
     }
-    if text::is_later(gnt_of(second), gnt_of(first)) {
+    let other = read_key(second);
+    if other.no != numbers::ACCEPTED {
         return Choice {
-            no,
-            field,
+            no: other.no,
+            field: other.field,
             which: SECOND,
         };
     }
-    Choice {
-        no,
-        field,
-        which: FIRST,
-    }
+    by_subjects(subject_of(first, one), subject_of(second, other))
 }
 
 // The same record, whole, as the caller's own bytes, and an empty part with a refusal. The two lenders share one lifetime:
@@ -118,11 +110,11 @@ pub fn newer<'a>(first: &'a [u8], second: &'a [u8], no: &mut u8, field: &mut u8)
     let choice = newer_of(first, second);
     *no = choice.no;
     *field = choice.field;
-    if choice.which == FIRST {
-        return first;
+    if choice.no != numbers::ACCEPTED {
+        return &first[0..0];
     }
     if choice.which == SECOND {
         return second;
     }
-    &first[0..0]
+    first
 }

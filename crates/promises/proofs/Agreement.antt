@@ -10,7 +10,7 @@ use lib.ListN.{length}
 use lib.Dec.{leb, leb→le, le→leb}
 use Rattle.text.specs.Text.{Bytes}
 use Rattle.text.proofs.Tests.{by-test, cond-yes, cond-no}
-use Rattle.format.specs.Numbers.{shortOutput}
+use Rattle.numbers.specs.Numbers.{shortOutput}
 use Rattle.format.specs.Kinds.{Kind, REQ}
 use Rattle.format.specs.Build.{Built}
 use Rattle.format.specs.Read.{Outcome, accepted, refused, answer, readOf}

@@ -11,7 +11,7 @@ use lib.ListN.{length, getD, List·getD-eq-default}
 use Rattle.text.specs.Text.{Bytes, between}
 use mir.Facts.{and-no}
 use Rattle.text.proofs.Tests.{by-test, cond-yes}
-use Rattle.format.specs.Numbers.{missingItem}
+use Rattle.numbers.specs.Numbers.{missingItem}
 use Rattle.format.specs.Kinds.{Kind, identityKinds, recordKinds}
 use Rattle.format.specs.Build.{Built}
 use Rattle.format.specs.Read.{Outcome, accepted, refused, answer}

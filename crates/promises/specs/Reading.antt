@@ -12,7 +12,7 @@ use lib.ListN.{length, getD}
 use lib.Dec.{T}
 use denote.Ref.{RefT, now}
 use Rattle.text.specs.Text.{Bytes, between}
-use Rattle.format.specs.Numbers.{missingItem}
+use Rattle.numbers.specs.Numbers.{missingItem}
 use Rattle.format.specs.Kinds.{Kind, name, identityKinds, recordKinds, pubkeyKinds, among}
 use Rattle.format.specs.Build.{recordOf, empty, Permitted, Built}
 use Rattle.table.specs.Table.{rowOf}

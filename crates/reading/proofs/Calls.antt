@@ -2,19 +2,28 @@
 -- Assumes nothing.
 use Prim.Native.Nat.{ℕ, _≤_, _<_}
 use mathlib.Core.Path.{_≡_, refl, ap, sym, _∙_}
-use mathlib.Core.List.{List}
-use lib.ListN.{length}
+use mathlib.Core.List.{List, _∷_}
+use native.Mathlib.Omega.{arith}
+use lib.ListN.{length, drop}
 use lib.Dec.{T, lit<}
 use Rattle.text.specs.Text.{Bytes}
-use Rattle.format.specs.Kinds.{Kind, identityKinds, recordKinds, among}
-use Rattle.format.specs.Read.{Outcome, accepted, refused, passing, title, markAfter, kindIn, ofKind, body, fieldsIn, wholeAnswer, readOver, nobody, readIdentity, readOf, readRecord}
+use Rattle.format.specs.Kinds.{Kind, name, mark, identityKinds, recordKinds, among}
+use Rattle.format.specs.Read.{Outcome, accepted, refused, passing, title, markAfter, kindIn, ofKind, body, cut, fieldsIn, wholeAnswer, judged, readOver, nobody, readIdentity, readOf, readRecord}
 use Rattle.format.proofs.Table.{all-among, kindIn-some}
-use Rattle.table.specs.Table.{rowOf, rowFor}
-use Rattle.table.proofs.Rows.{Found, found}
-use Rattle.reading.specs.Steps.{fieldsBy, formNo, FirstRefused}
+use Rattle.table.specs.Table.{rowOf, rowFor, markOf, countOf}
+use Rattle.table.proofs.Rows.{Found, found, of-kind}
+use Rattle.table.proofs.Arrays.{count-few}
+use Rattle.places.specs.Places.{startsOf, lensOf, placesOf}
+use Rattle.places.specs.declared.Places.{Places}
+use Rattle.places.proofs.Stands.{parts-all, body-part, first-start}
+use Rattle.reading.specs.Reading.{kindWithin, kindsOf, noKinds, judgedBy, judgedSaid}
+use Rattle.reading.specs.declared.Judged.{Judged}
+use Rattle.reading.specs.Steps.{formNo, partsBy, FirstRefused}
 use Rattle.reading.proofs.Outcomes.{passing-stop, passing-on, passing-as, over-kind}
-use Rattle.reading.proofs.Form.{fromFields, of-form, form-found}
-use Rattle.reading.proofs.Fields.{fields-by, judged-first}
+use Rattle.reading.proofs.Form.{fromFields, of-form, form-found, form-counted}
+use Rattle.reading.proofs.Answers.{denied, agreed, agreed-kinds}
+use Rattle.reading.proofs.Fields.{judged-first}
+use Rattle.reading.proofs.Whole.{judged-kind}
 
 -- ---- past number 1: the row that was found, and the number of the form
 
@@ -46,24 +55,40 @@ module _ (ask : Bytes → Outcome) {ks : List Kind} {s : Bytes} {row no : ℕ} (
     abbrev pub call-parts : List Bytes
     call-parts = fieldsIn (call-kind .kind) s
 
-    to-fields : readOver ask ks s ≡ fromFields ask s (call-kind .kind)
+    pub to-fields : readOver ask ks s ≡ fromFields ask s (call-kind .kind)
     to-fields = to-form ∙ passing-on no 0 _ z ∙ ap (λ o. ofKind o (fromFields ask s)) (call-kind .is)
 
-    -- d is the body as the code has it
-    module _ (d : Bytes) (ed : d ≡ body s) {n place : ℕ} (c : FirstRefused ask row (fieldsBy row d) n place) where
-      past-fields : readOver ask ks s ≡ passing n place (passing (wholeAnswer (call-kind .kind) call-parts) 0 (accepted (call-kind .kind) call-parts))
-      past-fields = to-fields ∙ judged-first ask (call-kind .kind) row call-parts n place (call-kind .at) (rw (fields-by (call-kind .kind) row s d (call-kind .at) ed) at c) _
+    -- d, m and p are the body, the mark and the places as the code has them
+    module _ (d : Bytes) (ed : d ≡ body s) (m : ℕ) (em : m ≡ markOf row) (p : Places) (ep : p ≡ placesOf m d) where
+      its-mark : m ≡ mark (call-kind .kind)
+      its-mark = em ∙ ap markOf (call-kind .at) ∙ of-kind mark 0 (call-kind .kind)
 
-      pub call-field : (n ≡ 0 → ⊥) → readOver ask ks s ≡ refused n place
-      call-field u = past-fields ∙ passing-stop n place _ u
+      all-fields : drop 1 (cut m d) ≡ call-parts
+      all-fields = rw (its-mark, ed)
 
-      -- all fields are accepted: the fields together decide
-      pub call-whole : n ≡ 0 → readOver ask ks s ≡ passing (wholeAnswer (call-kind .kind) call-parts) 0 (accepted (call-kind .kind) call-parts)
-      call-whole u = past-fields ∙ passing-on n place _ u
+      as-many : length (drop 1 (cut m d)) ≡ countOf row
+      as-many = rw em (form-counted row s d ed (sym (b .no-is) ∙ z))
 
-      -- the fields together are always accepted: each of them decides
-      pub call-plain : wholeAnswer (call-kind .kind) call-parts ≡ 0 → readOver ask ks s ≡ passing n place (accepted (call-kind .kind) call-parts)
-      call-plain w = past-fields ∙ ap (passing n place) (passing-on _ 0 _ w)
+      pub call-places : partsBy row d (p .starts) (p .lens) ≡ call-parts
+      call-places = rw ep (parts-all d (placesOf m d .starts) (placesOf m d .lens) (drop 1 (cut m d)) (countOf row) as-many (body-part m d (omega (arith, as-many, count-few row)))) ∙ all-fields
+
+      pub call-starts : cut (mark (call-kind .kind)) (body s) ≡ name (call-kind .kind) ∷ call-parts → p .starts ≡ startsOf (call-kind .kind) call-parts
+      unfolding placesOf
+      call-starts e = ap (λ (x : Places). x .starts) ep ∙ rw (all-fields, first-start m d (name (call-kind .kind)) call-parts (rw (its-mark, ed) e))
+
+      pub call-lens : p .lens ≡ lensOf call-parts
+      unfolding placesOf
+      call-lens = ap (λ (x : Places). x .lens) ep ∙ ap lensOf all-fields
+
+      module _ {n place : ℕ} (c : FirstRefused ask row (partsBy row d (p .starts) (p .lens)) n place) where
+        past-fields : readOver ask ks s ≡ passing n place (passing (wholeAnswer (call-kind .kind) call-parts) 0 (accepted (call-kind .kind) call-parts))
+        past-fields = to-fields ∙ judged-first ask (call-kind .kind) row call-parts n place (call-kind .at) (rw call-places at c) _
+
+        pub call-field : (n ≡ 0 → ⊥) → readOver ask ks s ≡ refused n place
+        call-field u = past-fields ∙ passing-stop n place _ u
+
+        pub call-accepted : n ≡ 0 → wholeAnswer (call-kind .kind) call-parts ≡ 0 → readOver ask ks s ≡ accepted (call-kind .kind) call-parts
+        call-accepted u w = past-fields ∙ passing-on n place _ u ∙ passing-on _ 0 _ w
 
 -- ---- the calls by name
 
@@ -88,3 +113,31 @@ module _ {s : Bytes} {row no : ℕ} (b : Begun identityKinds s row no) (z : no �
   pub identity-plain : wholeAnswer (call-kind nobody b z .kind) (call-parts nobody b z) ≡ 0
   unfolding wholeAnswer
   identity-plain = all-among (λ k. wholeAnswer k (call-parts nobody b z) ≡ 0) identityKinds (refl, (refl, (refl, tt))) (call-kind nobody b z .kind) (call-among nobody b z)
+
+  pub identity-kinds : noKinds ≡ kindsOf (call-kind nobody b z .kind) (call-parts nobody b z)
+  unfolding kindsOf kindWithin
+  identity-kinds = all-among (λ k. noKinds ≡ kindsOf k (call-parts nobody b z)) identityKinds (refl, (refl, (refl, tt))) (call-kind nobody b z .kind) (call-among nobody b z)
+
+-- ---- the fields of a record as `judge` has them: j is what it says of the parts ps of the body
+
+module _ {ks : List Kind} {s : Bytes} {row no : ℕ} (b : Begun ks s row no) (z : no ≡ 0) (ps : List Bytes) (ep : ps ≡ call-parts readIdentity b z) (j : Judged) (ej : j ≡ judgedSaid (judgedBy row ps)) where
+  abbrev kind : Kind
+  kind = call-kind readIdentity b z .kind
+
+  abbrev parts : List Bytes
+  parts = call-parts readIdentity b z
+
+  said : j ≡ judgedSaid (judged readIdentity kind parts (accepted kind parts))
+  said = ej ∙ ap (λ (x : List Bytes). judgedSaid (judgedBy row x)) ep ∙ ap judgedSaid (judged-kind kind row parts (call-kind readIdentity b z .at))
+
+  read : readOf ks s ≡ judged readIdentity kind parts (accepted kind parts)
+  read = of-is ks s ∙ to-fields readIdentity b z
+
+  pub record-refused : (j .no ≡ 0 → ⊥) → readOf ks s ≡ refused (j .no) (j .field)
+  record-refused u = read ∙ denied kind parts j said u (accepted kind parts)
+
+  pub record-accepted : j .no ≡ 0 → readOf ks s ≡ accepted kind parts
+  record-accepted u = read ∙ agreed kind parts j said u (accepted kind parts)
+
+  pub record-kinds : j .no ≡ 0 → j .kinds ≡ kindsOf kind parts
+  record-kinds u = agreed-kinds kind parts j said u

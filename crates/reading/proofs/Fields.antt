@@ -8,17 +8,13 @@ use native.Mathlib.Numerals.{add-one}
 use lib.ListN.{drop, drop-of-length-le}
 use lib.Seq.{drop-cons, drop-drop}
 use Rattle.text.specs.Text.{Bytes, Ident}
-use Rattle.format.specs.Kinds.{Kind, Text, mark, fieldsOf}
-use Rattle.format.specs.Read.{Outcome, refused, passing, body, fieldsIn, each, fieldAnswer, wholeAnswer, judged}
+use Rattle.format.specs.Kinds.{Kind, Text, fieldsOf}
+use Rattle.format.specs.Read.{Outcome, refused, passing, each, fieldAnswer, wholeAnswer, judged}
 use Rattle.table.specs.Table.{rowOf, countOf, fieldsAt, fieldType, TypeOf}
 use Rattle.table.proofs.Rows.{of-kind}
 use Rattle.table.proofs.Arrays.{count-fields}
-use Rattle.reading.specs.Steps.{fieldsBy, FirstRefused}
+use Rattle.reading.specs.Steps.{FirstRefused}
 use Rattle.reading.proofs.Outcomes.{passing-stop, passing-on}
-
--- d is the body as the code has it
-pub fields-by : (k : Kind) (row : ℕ) (s d : Bytes) → row ≡ rowOf k → d ≡ body s → fieldsBy row d ≡ fieldsIn k s
-fields-by k row s d e ed = rw (e, ed, of-kind mark 0 k)
 
 -- the fields before j are accepted, so that the others decide
 pub record Passed (ask : Bytes → Outcome) (row : ℕ) (fs : List Bytes) (j : ℕ) : Type 0 where

@@ -3,6 +3,6 @@ pub mod Form
 pub mod Answers
 pub mod Types
 pub mod Fields
-pub mod Places
+pub mod Loops
 pub mod Whole
 pub mod Calls

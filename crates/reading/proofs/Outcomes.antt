@@ -8,10 +8,7 @@ use lib.ListN.{length}
 use borrow.Author.Tests.{le-leb, lt-leb}
 use Rattle.text.specs.Text.{Bytes}
 use Rattle.format.specs.Kinds.{Kind}
-use Rattle.format.specs.Read.{Outcome, accepted, refused, passing, title, markAfter, kindIn, ofKind, readAs, readOver}
-use Rattle.table.specs.Table.{rowOf}
-use Rattle.reading.specs.Reading.{answerOf}
-use Rattle.reading.specs.declared.Answer.{Answer}
+use Rattle.format.specs.Read.{Outcome, refused, passing, title, markAfter, kindIn, ofKind, readAs, readOver}
 
 pub passing-stop : (n i : ℕ) (o : Outcome) → (n ≡ 0 → ⊥) → passing n i o ≡ refused n i
 passing-stop zero i o h = absurd (h refl)
@@ -23,13 +20,6 @@ passing-on (suc n) i o h = absurd (omega arith)
 
 pub passing-as : {a b : ℕ} (i : ℕ) (o : Outcome) → a ≡ b → passing a i o ≡ passing b i o
 passing-as i o e = ap (λ (x : ℕ). passing x i o) e
-
--- the answer of what passes
-pub answer-on : (n i : ℕ) (k : Kind) (fs : List Bytes) (row : ℕ) → n ≡ 0 → row ≡ rowOf k → record { no = 0; field = 0; kind = row } ≡ answerOf (passing n i (accepted k fs))
-answer-on n i k fs row z e = ap kinded e ∙ sym (ap answerOf (passing-on n i (accepted k fs) z))
-  where
-    kinded : ℕ → Answer
-    kinded x = record { no = 0; field = 0; kind = x }
 
 module _ (ask : Bytes → Outcome) (ks : List Kind) (s : Bytes) where
   pub over-long : 1024 < length s → readOver ask ks s ≡ refused 1 0

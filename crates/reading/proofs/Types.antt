@@ -13,13 +13,13 @@ use Rattle.text.specs.Text.{Bytes, Ident, isOf}
 use Rattle.text.proofs.Tests.{and-stop, cond-yes, less-or, T-false, at-every, allBelow, below}
 use Rattle.format.specs.Kinds.{Kind, Field, Text, Identity, OrEmpty, fieldsOf, identityFields, identityKinds, among}
 use Rattle.format.specs.Build.{empty}
-use Rattle.format.specs.Read.{Outcome, fieldAnswer, identityAnswer}
+use Rattle.format.specs.Read.{Outcome, accepted, refused, fieldAnswer, identityAnswer, readOver, readIdentity}
 use Rattle.format.proofs.Table.{identity-row}
 use Rattle.format.proofs.Outcomes.{Honest}
-use Rattle.table.specs.Table.{fieldsAt, fieldType, TypeOf, isIdentity, mayBeEmpty, permitted, rowAmong}
+use Rattle.table.specs.Table.{missingRow, fieldsAt, fieldType, TypeOf, isIdentity, mayBeEmpty, permitted, rowAmong}
 use Rattle.table.proofs.Rows.{kindAt, in-row, among-row}
 use Rattle.table.proofs.Codes.{codeCount, past-codes, identity-codes}
-use Rattle.reading.specs.Reading.{answerOf}
+use Rattle.reading.specs.Reading.{kindSaid, kindWithin, answerOf}
 use Rattle.reading.specs.Steps.{textIn}
 use Rattle.reading.specs.declared.Answer.{Answer}
 use Rattle.reading.proofs.Answers.{taken, untaken}
@@ -50,6 +50,28 @@ module _ (ask : Bytes → Outcome) (f : Bytes) where
   answer-text (Text t) h e = refl
   answer-text (Identity ks) h e = absurd (true≢false e)
   answer-text (OrEmpty t) h e = let n = sym (and-true (empty f)) ∙ h in rw n (answer-text t (and-stop (empty f) (mayBeEmpty t) n) e)
+
+-- ---- the kind of the identity in a field
+
+pub kind-empty : (t : Field) (f : Bytes) → T (empty f) → kindWithin t f ≡ missingRow
+unfolding kindWithin readIdentity readOver
+kind-empty (Text t) f h = refl
+kind-empty (Identity ks) [] h = refl
+kind-empty (Identity ks) (c ∷ f) h = absurd h
+kind-empty (OrEmpty t) f h = kind-empty t f h
+
+module _ (f : Bytes) where
+  pub kind-identity : (t : Field) → isIdentity t ≡ true → kindWithin t f ≡ kindSaid (readIdentity f)
+  unfolding kindWithin
+  kind-identity (Text t) e = absurd (false≢true e)
+  kind-identity (Identity ks) e = refl
+  kind-identity (OrEmpty t) e = kind-identity t e
+
+  pub kind-text : (t : Field) → isIdentity t ≡ false → kindWithin t f ≡ missingRow
+  unfolding kindWithin
+  kind-text (Text t) e = refl
+  kind-text (Identity ks) e = absurd (true≢false e)
+  kind-text (OrEmpty t) e = kind-text t e
 
 -- ---- the fields of an identity are texts
 
@@ -85,6 +107,10 @@ ident-code code n₁ n₂ n₃ n₄ n₅ = less-or code 6 first (λ h. less-or c
     past h = ap textIn (past-codes code h)
 
 -- ---- an identity by the answer of the identity call
+
+pub kind-told : (o : Outcome) (a : Answer) → a ≡ answerOf o → a .kind ≡ kindSaid o
+kind-told (accepted k fs) a e = ap (λ (x : Answer). x .kind) e
+kind-told (refused n i) a e = ap (λ (x : Answer). x .kind) e
 
 module _ (ks : List Kind) (o : Outcome) (a : Answer) (e : a ≡ answerOf o) where
   pub identity-refused : (a .no ≡ 0 → ⊥) → identityAnswer ks o ≡ 7

@@ -1,52 +1,96 @@
--- The fields together: number 8, by the row of the kind.
+-- The fields together: number 8, by the row of the kind; and the fields each and together.
 -- Assumes nothing.
 use Prim.Native.Nat.{ℕ, _≤_, _<_}
-use mathlib.Core.Path.{_≡_, sym}
-use mathlib.Core.Bool.{true, false, cond, Bool·beq}
+use mathlib.Core.Path.{_≡_, refl, ap, sym, _∙_}
+use mathlib.Core.Bool.{Bool, true, false, true≢false, cond, not, _||_, Bool·beq}
+use mathlib.Core.Option.{Option, none, some}
 use mathlib.Core.List.{List, []}
 use native.Mathlib.Omega.{arith}
-use lib.ListN.{length, drop, getD}
-use lib.Dec.{eqb}
+use lib.ListN.{length, getD}
+use lib.Dec.{T, eqb, eqb→eq}
 use Rattle.text.specs.Text.{Bytes}
-use Rattle.format.specs.Kinds.{Kind, mark, pubkeyKinds, among}
-use Rattle.format.specs.Read.{body, fieldsIn, wholeAnswer}
-use Rattle.frame.specs.Frame.{partStart, partOf}
-use Rattle.frame.proofs.Parts.{parts-from, parts-past, field-part}
-use Rattle.table.specs.Table.{rowOf, markOf, isPubkey}
-use Rattle.table.proofs.Rows.{of-kind}
-use Rattle.reading.specs.Reading.{wholeNo}
+use Rattle.text.proofs.Tests.{less-or, allBelow, below}
+use Rattle.format.specs.Kinds.{Kind, Field, fieldsOf, pubkeyKinds, among}
+use Rattle.format.specs.Read.{Outcome, accepted, refused, ofKind, wholeAnswer, judged, readIdentity}
+use Rattle.table.specs.Table.{rowOf, rowCount, missingRow, ofRow, fieldsAt, countOf, isPubkey}
+use Rattle.table.proofs.Rows.{kindAt, row-at, in-row, of-kind, past-rows}
+use Rattle.places.specs.Places.{seven, fieldAt}
+use Rattle.places.proofs.Stands.{parts-at}
+use Rattle.reading.specs.Reading.{kindsWithin, kindsOf, judgedBy, judgedSaid}
+use Rattle.reading.specs.declared.Judged.{Judged}
+use Rattle.reading.specs.Steps.{partsBy, FirstRefused, wholeNo}
 use Rattle.reading.proofs.Types.{empty-is}
+use Rattle.reading.proofs.Fields.{judged-first}
+use Rattle.reading.proofs.Outcomes.{passing-stop, passing-on}
 
--- ---- the tests in a row
+-- ---- number 8
 
-module _ (row : ℕ) (issuer signature : Bytes) where
-  pub whole-other : isPubkey row ≡ false → wholeNo row issuer signature ≡ 0
+module _ (row : ℕ) (fs : List Bytes) where
+  -- by the kind of a row that is there
+  by-kind : row < rowCount → (b : Bool) → isPubkey row ≡ b → wholeNo row fs ≡ cond (not b || Bool·beq (eqb (length (getD fs 3 [])) 0) (eqb (length (getD fs 4 [])) 0)) 0 8
+  unfolding wholeNo wholeAnswer
+  by-kind h b e =
+      in-row (λ k. wholeAnswer k fs) 0 row h
+      ∙ rw (← empty-is (getD fs 3 []), ← empty-is (getD fs 4 []), ← e, in-row (λ k. among k pubkeyKinds) false row h)
+
+  pub whole-other : isPubkey row ≡ false → wholeNo row fs ≡ 0
   unfolding wholeNo
-  whole-other e = rw e
+  whole-other e = less-or row rowCount (λ h. by-kind h false e) (λ h. past-rows (λ k. wholeAnswer k fs) 0 row h)
 
-  pub whole-pubkey : isPubkey row ≡ true → wholeNo row issuer signature ≡ cond (Bool·beq (eqb (length issuer) 0) (eqb (length signature) 0)) 0 8
-  unfolding wholeNo
-  whole-pubkey e = rw (e, empty-is issuer, empty-is signature)
+  pub whole-pubkey : isPubkey row ≡ true → wholeNo row fs ≡ cond (Bool·beq (eqb (length (getD fs 3 [])) 0) (eqb (length (getD fs 4 [])) 0)) 0 8
+  whole-pubkey e = less-or row rowCount (λ h. by-kind h true e) (λ h. absurd (true≢false (sym e ∙ past-rows (λ k. among k pubkeyKinds) false row h)))
 
--- neither is there
-pub whole-empty : (row : ℕ) → isPubkey row ≡ true → wholeNo row [] [] ≡ 0
-whole-empty row = whole-pubkey row [] []
+pubkey-there : (row : ℕ) → isPubkey row ≡ true → row < rowCount
+pubkey-there row e = less-or row rowCount (λ h. h) (λ h. absurd (true≢false (sym e ∙ past-rows (λ k. among k pubkeyKinds) false row h)))
 
--- ---- by the kind
+-- a public key has five fields
+pubkey-five : (row : ℕ) → isPubkey row ≡ true → countOf row ≡ 5
+unfolding allBelow ofRow
+pubkey-five row e = eqb→eq (countOf row) 5 (rw e at (below rowCount (λ n. not (isPubkey n) || eqb (countOf n) 5) tt row (pubkey-there row e)))
 
-pub whole-kind : (k : Kind) (fs : List Bytes) → wholeNo (rowOf k) (getD fs 3 []) (getD fs 4 []) ≡ wholeAnswer k fs
-unfolding wholeNo wholeAnswer
-whole-kind k fs = rw (of-kind (λ j. among j pubkeyKinds) false k)
+-- Issuer and Signature x and y, as the code has them
+pub whole-fields : (row : ℕ) (s : Bytes) (starts lens : List ℕ) (x y : Bytes) → isPubkey row ≡ true → x ≡ fieldAt s starts lens 4 → y ≡ fieldAt s starts lens 5
+    → wholeNo row (partsBy row s starts lens) ≡ cond (Bool·beq (eqb (length x) 0) (eqb (length y) 0)) 0 8
+unfolding fieldAt
+whole-fields row s starts lens x y e ex ey =
+    let n = pubkey-five row e in
+    whole-pubkey row (partsBy row s starts lens) e
+    ∙ rw (ex, ey, parts-at s starts lens (countOf row) 3 (omega (arith, n)), parts-at s starts lens (countOf row) 4 (omega (arith, n)))
 
--- Issuer and Signature are parts 4 and 5 of the body
-pub whole-parts : (k : Kind) (s b : Bytes) (row : ℕ) → row ≡ rowOf k → b ≡ body s → wholeNo row (partOf (markOf row) b 4) (partOf (markOf row) b 5) ≡ wholeAnswer k (fieldsIn k s)
-whole-parts k s b row e eb = rw (e, eb, of-kind mark 0 k, field-part k s 3, field-part k s 4) (whole-kind k (fieldsIn k s))
+-- ---- the fields each and together, by the row
 
--- ---- Issuer and Signature of a body b, whose part 4 starts at i, as the code cuts them
-module _ (row : ℕ) (b : Bytes) (m i : ℕ) (em : m ≡ markOf row) (q : i ≡ partStart m b 4) where
-  pub whole-past : isPubkey row ≡ true → length b < i → 0 ≡ wholeNo row (partOf (markOf row) b 4) (partOf (markOf row) b 5)
-  whole-past e h = rw (← em, ← parts-past m b 4 i 0 q (omega arith), ← parts-past m b 4 i 1 q (omega arith)) (sym (whole-empty row e))
+pub judged-none : (row : ℕ) (fs : List Bytes) → rowCount ≤ row → judgedBy row fs ≡ refused 2 0
+unfolding judgedBy
+judged-none row fs h = rw (past-rows some none row h)
 
-  pub whole-last : i ≤ length b → (last x y : Bytes) → last ≡ drop i b → x ≡ partOf m last 0 → y ≡ partOf m last 1
-      → wholeNo row x y ≡ wholeNo row (partOf (markOf row) b 4) (partOf (markOf row) b 5)
-  whole-last h last x y el ex ey = rw (ex, ey, el, ← em, parts-from m b 4 i 0 q h, parts-from m b 4 i 1 q h)
+pub judged-kind : (k : Kind) (row : ℕ) (fs : List Bytes) → row ≡ rowOf k → judgedBy row fs ≡ judged readIdentity k fs (accepted k fs)
+unfolding judgedBy
+judged-kind k row fs e = rw (e, of-kind some none k)
+
+-- the first field that is refused has number n
+module _ (row : ℕ) (fs : List Bytes) (h : row < rowCount) {n place : ℕ} (c : FirstRefused readIdentity row fs n place) where
+  its-row : row ≡ rowOf (kindAt row)
+  its-row = sym (row-at row h)
+
+  pub judged-field : (n ≡ 0 → ⊥) → judgedBy row fs ≡ refused n place
+  judged-field z = judged-kind (kindAt row) row fs its-row ∙ judged-first readIdentity (kindAt row) row fs n place its-row c _ ∙ passing-stop n place _ z
+
+  -- each is accepted, and the number of all is w
+  module _ (z : n ≡ 0) (w : ℕ) (ew : w ≡ wholeNo row fs) where
+    its-whole : w ≡ wholeAnswer (kindAt row) fs
+    unfolding wholeNo
+    its-whole = ew ∙ in-row (λ k. wholeAnswer k fs) 0 row h
+
+    pub judged-whole : (w ≡ 0 → ⊥) → judgedBy row fs ≡ refused w 0
+    judged-whole u = judged-kind (kindAt row) row fs its-row ∙ judged-first readIdentity (kindAt row) row fs n place its-row c _ ∙ passing-on n place _ z ∙ rw (← its-whole) (passing-stop w 0 _ u)
+
+    pub judged-all : w ≡ 0 → judgedBy row fs ≡ accepted (kindAt row) fs
+    judged-all u = judged-kind (kindAt row) row fs its-row ∙ judged-first readIdentity (kindAt row) row fs n place its-row c _ ∙ passing-on n place _ z ∙ rw (← its-whole) (passing-on w 0 _ u)
+
+-- the kinds of the fields by the row are those by the kind
+pub kinds-said : (row : ℕ) (fs : List Bytes) → row < rowCount → (kinds : List ℕ) → kinds ≡ seven missingRow (kindsWithin 0 (fieldsAt row) fs) → record { no = 0; field = 0; kinds = kinds } ≡ judgedSaid (accepted (kindAt row) fs)
+unfolding kindsOf
+kinds-said row fs h kinds e = ap made (e ∙ ap (λ (ts : List Field). seven missingRow (kindsWithin 0 ts fs)) (in-row fieldsOf [] row h))
+  where
+    made : List ℕ → Judged
+    made x = record { no = 0; field = 0; kinds = x }

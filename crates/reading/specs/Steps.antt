@@ -7,11 +7,14 @@ use mathlib.Core.List.{List}
 use lib.ListN.{length, drop}
 use lib.Dec.{eqb}
 use Rattle.text.specs.Text.{Bytes, TextType, Ident}
-use Rattle.format.specs.Numbers.{unknownKind, wrongCount}
+use Rattle.numbers.specs.Numbers.{unknownKind, wrongCount}
 use Rattle.format.specs.Kinds.{Field, Text, Identity, OrEmpty}
-use Rattle.format.specs.Read.{Outcome, passing, body, cut, each}
+use Rattle.format.specs.Read.{Outcome, passing, body, cut, each, fieldAnswer, wholeAnswer, readIdentity}
 use Rattle.frame.specs.Frame.{checkNo}
-use Rattle.table.specs.Table.{missingRow, markOf, countOf, fieldsAt}
+use Rattle.table.specs.Table.{missingRow, ofRow, markOf, countOf, fieldsAt}
+use Rattle.places.specs.Places.{seven, partsFrom}
+use Rattle.reading.specs.Reading.{kindWithin, kindsWithin}
+use Rattle.reading.specs.declared.FieldSaid.{FieldSaid}
 
 -- the fields of a body by the row of its kind
 abbrev pub fieldsBy : ℕ → Bytes → List Bytes
@@ -31,6 +34,23 @@ textIn (Text t) = t
 textIn (Identity ks) = Ident
 textIn (OrEmpty t) = textIn t
 
+-- a field f of type t: its number, and the kind of the identity in it
+abbrev pub fieldSaid : Field → Bytes → FieldSaid
+fieldSaid t f = record { no = fieldAnswer readIdentity t f; kind = kindWithin t f }
+
+-- the parts of s at the places of a kind's fields
+abbrev pub partsBy : ℕ → Bytes → List ℕ → List ℕ → List Bytes
+partsBy row s starts lens = partsFrom s starts lens 0 (countOf row)
+
 -- the first of the fields fs that is refused has this number and place; both are 0 where none is
 pub record FirstRefused (ask : Bytes → Outcome) (row : ℕ) (fs : List Bytes) (no place : ℕ) : Type 0 where
   pub first : (o : Outcome) → each ask 1 (fieldsAt row) fs o ≡ passing no place o
+
+-- and where none is, these are the kinds of the identities among them
+pub record Walked (row : ℕ) (fs : List Bytes) (no place : ℕ) (kinds : List ℕ) : Type 0 where
+  pub refusal : FirstRefused readIdentity row fs no place
+  pub all-kinds : no ≡ 0 → kinds ≡ seven missingRow (kindsWithin 0 (fieldsAt row) fs)
+
+-- the number of the fields together, by the row of their kind
+unfoldable pub wholeNo : ℕ → List Bytes → ℕ
+wholeNo row fs = ofRow (λ k. wholeAnswer k fs) 0 row

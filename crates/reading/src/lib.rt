@@ -1,54 +1,49 @@
 // The reading calls: document 01, "Numbers given back". Each takes any bytes; no public one has a `requires`. The order
-// is 1, 2, 3, 4, 5, then the fields from left to right (6, or 7 before 9), then 8: `form_no` has 2 to 5, `field_no` a
-// field's number, `whole_no` the number of the fields together.
+// is 1, 2, 3, 4, 5, then the fields from left to right (6, or 7 before 9), then 8: `form_no` has 2 to 5, `judge` the fields.
+// A record is walked over once for its fields' places: every test of a field, and every later use of one, goes by them.
 ghost use mathlib.Core.Path.{_≡_};
 ghost use mathlib.Core.Bool.{cond, _&&_};
-ghost use mathlib.Core.List.{List};
 ghost use Prim.Native.Nat.{_<_};
-ghost use lib.ListN.{length};
-ghost use Rattle.text.specs.Text.{Bytes, isOf};
-ghost use Rattle.format.specs.Numbers.{wrongText};
-ghost use Rattle.format.specs.Kinds.{Kind};
+ghost use Rattle.text.specs.Text.{isOf};
+ghost use Rattle.numbers.specs.Numbers.{wrongText};
 ghost use Rattle.format.specs.Build.{empty};
-ghost use Rattle.format.specs.Read.{accepted, refused, passing, fieldAnswer, identityAnswer, nobody, readIdentity, readOf, readRecord};
-ghost use Rattle.table.specs.Table.{rowOf, countOf, markOf, fieldType, mayBeEmpty, permitted, kindsFrom};
-ghost use Rattle.frame.specs.Frame.{partOf};
-ghost use Rattle.reading.specs.Reading.{answerOf, wholeNo};
-ghost use Rattle.reading.specs.Steps.{fieldsBy, formNo, textIn, FirstRefused};
-
-// ---- the numbers given back; frame has 3 and 4
-
-pub const ACCEPTED: u8 = 0;
-
-pub const TOO_LONG: u8 = 1;
-
-pub const UNKNOWN_KIND: u8 = 2;
-
-pub const WRONG_COUNT: u8 = 5;
-
-pub const WRONG_TEXT: u8 = 6;
-
-pub const WRONG_IDENTITY: u8 = 7;
-
-pub const UNPAIRED: u8 = 8;
-
-pub const WRONG_KIND: u8 = 9;
+ghost use Rattle.format.specs.Read.{refused, identityAnswer, nobody, readIdentity, readOf, readRecord};
+ghost use Rattle.table.specs.Table.{fieldType, mayBeEmpty, permitted, kindsFrom};
+ghost use Rattle.reading.specs.Reading.{kindSaid, answerOf, judgedSaid, judge};
+ghost use Rattle.reading.specs.Steps.{formNo, textIn, fieldSaid, partsBy, FirstRefused, Walked, wholeNo};
 
 const LONGEST: usize = 1024;
 
-// What a reading call answers: its number, the field's number (0 where none is named), and the kind's row in the table
-// (table::NONE with a refusal).
+// What a reading call answers: its number, the field's number (0 where none is named), the kind's row in the table, and of
+// each field, from left to right, where it starts in the bytes read, its length, and the row of the identity in it
+// (table::NONE where it is none). Past the last field, and with a refusal, start and length are 0 and the kind is NONE.
 #[repr(C)]
 pub struct Answer {
     pub no: u8,
     pub field: u8,
     pub kind: usize,
+    pub starts: [usize; 7],
+    pub lens: [usize; 7],
+    pub kinds: [usize; 7],
+}
+
+// What the fields of a record are answered: the number and the field's number, and the kinds of the identities among them.
+pub struct Judged {
+    pub no: u8,
+    pub field: u8,
+    pub kinds: [usize; 7],
 }
 
 // The first field that is refused; both are 0 where none is.
 struct Refusal {
     no: u8,
     field: u8,
+}
+
+// What one field is answered: its number, and the row of the identity in it.
+struct FieldSaid {
+    no: u8,
+    kind: usize,
 }
 
 fn refuse(no: u8, field: u8) -> Answer
@@ -58,20 +53,9 @@ fn refuse(no: u8, field: u8) -> Answer
         no,
         field,
         kind: table::NONE,
-    }
-}
-
-// Accepted as the kind of this row where the number is 0, and otherwise that refusal.
-fn answered(no: u8, field: u8, row: usize) -> Answer
-    ensures { λ r. ⌜ ((k : Kind) (fs : List Bytes) → row ≡ rowOf k → r ≡ answerOf (passing no field (accepted k fs))) ⌝ }
-{
-    if no != ACCEPTED {
-        return refuse(no, field);
-    }
-    Answer {
-        no: ACCEPTED,
-        field: 0,
-        kind: row,
+        starts: [0; 7],
+        lens: [0; 7],
+        kinds: [table::NONE; 7],
     }
 }
 
@@ -82,17 +66,17 @@ fn form_no(row: usize, s: &[u8]) -> u8
     ensures { λ r. ⌜ r ≡ formNo row (now (s .entry)) ⌝ }
 {
     if row == table::NONE {
-        return UNKNOWN_KIND;
+        return numbers::UNKNOWN_KIND;
     }
     let mark = table::mark_of(row);
     let no = frame::check_no(mark, s);
-    if no != ACCEPTED {
+    if no != numbers::ACCEPTED {
         return no;
     }
     if frame::count_fields(mark, frame::body_of(s)) != table::count_of(row) {
-        return WRONG_COUNT;
+        return numbers::WRONG_COUNT;
     }
-    ACCEPTED
+    numbers::ACCEPTED
 }
 
 // ---- a field that is a text: number 6
@@ -123,33 +107,29 @@ fn text_no(code: u8, field: &[u8]) -> u8
     ensures { λ r. ⌜ r ≡ cond (isOf (textIn (fieldType code)) (now (field .entry))) 0 wrongText ⌝ }
 {
     if is_text(code, field) {
-        return ACCEPTED;
+        return numbers::ACCEPTED;
     }
-    WRONG_TEXT
+    numbers::WRONG_TEXT
 }
 
 // ---- the identity call
 
 // The fields of an identity, which are texts, from left to right. The identity kinds are the rows below 3.
-fn identity_fields(row: usize, body: &[u8]) -> Refusal
-    requires { ⌜ (row < 3) × (length (fieldsBy row (now body)) ≡ countOf row) ⌝ }
-    ensures { λ r. ⌜ FirstRefused nobody row (fieldsBy row (now (body .entry))) (r .no) (r .field) ⌝ }
+fn identity_fields(row: usize, s: &[u8], starts: &[usize; 7], lens: &[usize; 7]) -> Refusal
+    requires { ⌜ row < 3 ⌝ }
+    ensures { λ r. ⌜ FirstRefused nobody row (partsBy row (now (s .entry)) (now (starts .entry)) (now (lens .entry))) (r .no) (r .field) ⌝ }
 {
-    let mark = table::mark_of(row);
     let count = table::count_of(row);
     let mut j: usize = 0;
-    let mut i = frame::next_mark(mark, body, 0) + 1;
     while j < count {
-        let end = frame::next_mark(mark, body, i);
-        let no = text_no(table::type_of(row, j), &body[i..end]);
+        let no = text_no(table::type_of(row, j), places::part_at(s, starts, lens, j));
         j += 1;
-        if no != ACCEPTED {
+        if no != numbers::ACCEPTED {
             return Refusal { no, field: j as u8 };
         }
-        i = end + 1;
     }
     Refusal {
-        no: ACCEPTED,
+        no: numbers::ACCEPTED,
         field: 0,
     }
 }
@@ -160,31 +140,55 @@ pub fn read_identity(identity: &[u8]) -> Answer
     ensures { λ r. ⌜ r ≡ answerOf (readIdentity (now (identity .entry))) ⌝ }
 {
     if LONGEST < identity.len() {
-        return refuse(TOO_LONG, 0);
+        return refuse(numbers::TOO_LONG, 0);
     }
     let row = table::identity_kind(frame::title_of(identity), frame::mark_after(identity));
     let no = form_no(row, identity);
-    if no != ACCEPTED {
+    if no != numbers::ACCEPTED {
         return refuse(no, 0);
     }
-    let first = identity_fields(row, frame::body_of(identity));
-    answered(first.no, first.field, row)
+    let body = frame::body_of(identity);
+    let found = places::places_of(table::mark_of(row), body);
+    let starts = found.starts;
+    let lens = found.lens;
+    let first = identity_fields(row, body, &starts, &lens);
+    if first.no != numbers::ACCEPTED {
+        return refuse(first.no, first.field);
+    }
+    Answer {
+        no: numbers::ACCEPTED,
+        field: 0,
+        kind: row,
+        starts,
+        lens,
+        kinds: [table::NONE; 7],
+    }
 }
 
 // ---- a field of a record
 
 // 7 where the field is no accepted identity, then 9 where its kind is not permitted here.
-fn identity_no(code: u8, field: &[u8]) -> u8
-    ensures { λ r. ⌜ r ≡ identityAnswer (permitted (fieldType code)) (readIdentity (now (field .entry))) ⌝ }
+fn identity_said(code: u8, field: &[u8]) -> FieldSaid
+    ensures { λ r. ⌜ r ≡ record { no = identityAnswer (permitted (fieldType code)) (readIdentity (now (field .entry))); kind = kindSaid (readIdentity (now (field .entry))) } ⌝ }
 {
     let inner = read_identity(field);
-    if inner.no != ACCEPTED {
-        return WRONG_IDENTITY;
+    let kind = inner.kind;
+    if inner.no != numbers::ACCEPTED {
+        return FieldSaid {
+            no: numbers::WRONG_IDENTITY,
+            kind,
+        };
     }
-    if table::does_permit(code, inner.kind) {
-        return ACCEPTED;
+    if table::does_permit(code, kind) {
+        return FieldSaid {
+            no: numbers::ACCEPTED,
+            kind,
+        };
     }
-    WRONG_KIND
+    FieldSaid {
+        no: numbers::WRONG_KIND,
+        kind,
+    }
 }
 
 // The field is empty and may be.
@@ -197,73 +201,99 @@ fn is_left_empty(code: u8, field: &[u8]) -> bool
     table::may_be_empty(code)
 }
 
-// The number of one field by the code of its type: 6 for a text, 7 or 9 for an identity, or 0. A field that may be empty
-// and is answers 0. Reader and builder both ask here.
-pub fn field_no(code: u8, field: &[u8]) -> u8
-    ensures { λ r. ⌜ r ≡ fieldAnswer readIdentity (fieldType code) (now (field .entry)) ⌝ }
+// One field by the code of its type: 6 for a text, 7 or 9 for an identity, or 0. A field that may be empty and is answers 0.
+fn field_said(code: u8, field: &[u8]) -> FieldSaid
+    ensures { λ r. ⌜ r ≡ fieldSaid (fieldType code) (now (field .entry)) ⌝ }
 {
     if is_left_empty(code, field) {
-        return ACCEPTED;
+        return FieldSaid {
+            no: numbers::ACCEPTED,
+            kind: table::NONE,
+        };
     }
     if table::is_identity(code) {
-        return identity_no(code, field);
+        return identity_said(code, field);
     }
-    text_no(code, field)
+    FieldSaid {
+        no: text_no(code, field),
+        kind: table::NONE,
+    }
 }
 
 // The fields of a record from left to right.
-fn record_fields(row: usize, body: &[u8]) -> Refusal
-    requires { ⌜ length (fieldsBy row (now body)) ≡ countOf row ⌝ }
-    ensures { λ r. ⌜ FirstRefused readIdentity row (fieldsBy row (now (body .entry))) (r .no) (r .field) ⌝ }
+fn record_fields(row: usize, s: &[u8], starts: &[usize; 7], lens: &[usize; 7]) -> Judged
+    ensures { λ r. ⌜ Walked row (partsBy row (now (s .entry)) (now (starts .entry)) (now (lens .entry))) (r .no) (r .field) (r .kinds) ⌝ }
 {
-    let mark = table::mark_of(row);
     let count = table::count_of(row);
+    let mut kinds = [table::NONE; 7];
     let mut j: usize = 0;
-    let mut i = frame::next_mark(mark, body, 0) + 1;
     while j < count {
-        let end = frame::next_mark(mark, body, i);
-        let no = field_no(table::type_of(row, j), &body[i..end]);
+        let said = field_said(table::type_of(row, j), places::part_at(s, starts, lens, j));
+        kinds[j] = said.kind;
         j += 1;
-        if no != ACCEPTED {
-            return Refusal { no, field: j as u8 };
+        if said.no != numbers::ACCEPTED {
+            return Judged {
+                no: said.no,
+                field: j as u8,
+                kinds,
+            };
         }
-        i = end + 1;
     }
-    Refusal {
-        no: ACCEPTED,
+    Judged {
+        no: numbers::ACCEPTED,
         field: 0,
+        kinds,
     }
 }
 
 // The number of the fields together, after each of them: 8 for a public key with only one of Issuer and Signature, or 0.
-// Reader and builder both ask here.
-pub fn whole_no(row: usize, issuer: &[u8], signature: &[u8]) -> u8
-    ensures { λ r. ⌜ r ≡ wholeNo row (now (issuer .entry)) (now (signature .entry)) ⌝ }
+fn whole_no(row: usize, s: &[u8], starts: &[usize; 7], lens: &[usize; 7]) -> u8
+    ensures { λ r. ⌜ r ≡ wholeNo row (partsBy row (now (s .entry)) (now (starts .entry)) (now (lens .entry))) ⌝ }
 {
     if !table::is_pubkey(row) {
-        return ACCEPTED;
+        return numbers::ACCEPTED;
     }
+    let issuer = places::field_at(s, starts, lens, table::PUBKEY_ISSUER);
+    let signature = places::field_at(s, starts, lens, table::PUBKEY_SIGNATURE);
     if (issuer.len() == 0) == (signature.len() == 0) {
-        return ACCEPTED;
+        return numbers::ACCEPTED;
     }
-    UNPAIRED
+    numbers::UNPAIRED
 }
 
-// Issuer and Signature are fields 4 and 5 of a public key, the last two: the body is walked over once to where they start.
-// No other kind's fields are looked for.
-fn body_no(row: usize, body: &[u8]) -> u8
-    ensures { λ r. ⌜ r ≡ wholeNo row (partOf (markOf row) (now (body .entry)) 4) (partOf (markOf row) (now (body .entry)) 5) ⌝ }
+// The answer that refuses a record's fields.
+fn deny(no: u8, field: u8) -> Judged
+    ensures { λ r. ⌜ r ≡ judgedSaid (refused no field) ⌝ }
 {
-    if !table::is_pubkey(row) {
-        return ACCEPTED;
+    Judged {
+        no,
+        field,
+        kinds: [table::NONE; 7],
     }
-    let mark = table::mark_of(row);
-    let start = frame::part_start(mark, body, 4);
-    if body.len() < start {
-        return ACCEPTED;
+}
+
+// The fields of the kind in this row that stand in s at these places: each of them, then all together. A row that is none
+// answers 2. Reader and builder both ask here, each with the places of its own bytes.
+pub fn judge(row: usize, s: &[u8], starts: &[usize; 7], lens: &[usize; 7]) -> Judged
+    ensures { λ r. ⌜ r ≡ judge row (now (s .entry)) (now (starts .entry)) (now (lens .entry)) ⌝ }
+{
+    if table::ROWS <= row {
+        return deny(numbers::UNKNOWN_KIND, 0);
     }
-    let last = &body[start..];
-    whole_no(row, frame::part(mark, last, 0), frame::part(mark, last, 1))
+    let first = record_fields(row, s, starts, lens);
+    if first.no != numbers::ACCEPTED {
+        return deny(first.no, first.field);
+    }
+    let no = whole_no(row, s, starts, lens);
+    if no != numbers::ACCEPTED {
+        return deny(no, 0);
+    }
+    let kinds = first.kinds;
+    Judged {
+        no: numbers::ACCEPTED,
+        field: 0,
+        kinds,
+    }
 }
 
 // ---- the record calls
@@ -274,24 +304,35 @@ pub fn read_of(from: usize, to: usize, record: &[u8]) -> Answer
     ensures { λ r. ⌜ r ≡ answerOf (readOf (kindsFrom from to) (now («record» .entry))) ⌝ }
 {
     if LONGEST < record.len() {
-        return refuse(TOO_LONG, 0);
+        return refuse(numbers::TOO_LONG, 0);
     }
     let row = table::record_kind(frame::title_of(record), frame::mark_after(record), from, to);
     let no = form_no(row, record);
-    if no != ACCEPTED {
+    if no != numbers::ACCEPTED {
         return refuse(no, 0);
     }
     let body = frame::body_of(record);
-    let first = record_fields(row, body);
-    if first.no != ACCEPTED {
-        return refuse(first.no, first.field);
+    let found = places::places_of(table::mark_of(row), body);
+    let starts = found.starts;
+    let lens = found.lens;
+    let judged = judge(row, body, &starts, &lens);
+    if judged.no != numbers::ACCEPTED {
+        return refuse(judged.no, judged.field);
     }
-    answered(body_no(row, body), 0, row)
+    let kinds = judged.kinds;
+    Answer {
+        no: numbers::ACCEPTED,
+        field: 0,
+        kind: row,
+        starts,
+        lens,
+        kinds,
+    }
 }
 
 // Reads a record of any of the four record kinds.
 pub fn read_record(record: &[u8]) -> Answer
     ensures { λ r. ⌜ r ≡ answerOf (readRecord (now («record» .entry))) ⌝ }
 {
-    read_of(table::ECDSA, table::NONE, record)
+    read_of(table::ECDSA, table::ROWS, record)
 }

@@ -41,11 +41,11 @@ fn print_fields(n: usize, s: &[u8]) {
     let mut no: u8 = 0;
     let mut field: u8 = 0;
     let of_identity = fields::identity_field(s, n, &mut no, &mut field);
-    if no == reading::ACCEPTED {
+    if no == numbers::ACCEPTED {
         print_field(n, of_identity);
     }
     let of_record = fields::record_field(s, n, &mut no, &mut field);
-    if no == reading::ACCEPTED {
+    if no == numbers::ACCEPTED {
         print_field(n, of_record);
     }
 }

@@ -11,7 +11,7 @@ use lib.Dec.{ltb, ltb→lt, lit<}
 use Rattle.text.specs.Text.{Ident}
 use Rattle.text.proofs.Tests.{less-or, at-every, allBelow, below}
 use Rattle.format.specs.Kinds.{Field, Text, name, fieldsOf, allKinds}
-use Rattle.table.specs.Table.{missingRow, ofRow, nameOf, fieldsAt, countOf, fieldType, TypeOf}
+use Rattle.table.specs.Table.{rowCount, ofRow, nameOf, fieldsAt, countOf, fieldType, TypeOf}
 use Rattle.table.proofs.Rows.{in-row, past-rows}
 use Rattle.table.proofs.Codes.{codeCount, codeOf}
 use Rattle.table.proofs.Pieces.{places, Piece, piece, piece-length, piece-entry}
@@ -22,7 +22,7 @@ use Rattle.table.proofs.Pieces.{places, Piece, piece, piece-length, pie
 abbrev pub starts : List ℕ
 starts = places 0 (map name allKinds)
 
-pub name-piece : (row : ℕ) → row < missingRow → Piece (flatten (map name allKinds)) (nameOf row) (getD starts row 0) (getD starts (row + 1) 0)
+pub name-piece : (row : ℕ) → row < rowCount → Piece (flatten (map name allKinds)) (nameOf row) (getD starts row 0) (getD starts (row + 1) 0)
 unfolding ofRow
 name-piece row h = rw add-one (piece (map name allKinds) row h)
 
@@ -30,15 +30,15 @@ name-piece row h = rw add-one (piece (map name allKinds) row h)
 
 pub count-fields : (row : ℕ) → countOf row ≡ length (fieldsAt row)
 count-fields row =
-    less-or row missingRow
+    less-or row rowCount
     (λ h. in-row (λ k. length (fieldsOf k)) 0 row h ∙ ap length (sym (in-row fieldsOf [] row h)))
     (λ h. past-rows (λ k. length (fieldsOf k)) 0 row h ∙ ap length (sym (past-rows fieldsOf [] row h)))
 
 pub count-few : (row : ℕ) → countOf row < 8
 unfolding allBelow ofRow
 count-few row =
-    less-or row missingRow
-    (λ h. ltb→lt (countOf row) 8 (below missingRow (λ n. ltb (countOf n) 8) tt row h))
+    less-or row rowCount
+    (λ h. ltb→lt (countOf row) 8 (below rowCount (λ n. ltb (countOf n) 8) tt row h))
     (λ h. omega (arith, past-rows (λ k. length (fieldsOf k)) 0 row h))
 
 -- the types of all rows, where those of each row start, and their codes
@@ -46,7 +46,7 @@ abbrev pub allTypes : List Field
 allTypes = flatten (map fieldsOf allKinds)
 
 abbrev pub firsts : List ℕ
-firsts = take missingRow (places 0 (map fieldsOf allKinds))
+firsts = take rowCount (places 0 (map fieldsOf allKinds))
 
 abbrev pub codes : List ℕ
 codes = map codeOf allTypes
@@ -61,12 +61,12 @@ unfolding flatten codeOf
 codes-small i = ltb→lt (getD codes i 0) codeCount (at-every (λ c. ltb c codeCount) 0 tt codes tt i)
 
 module _ (row j : ℕ) (h : j < countOf row) where
-  pub row-there : row < missingRow
-  row-there = less-or row missingRow (λ l. l) (λ l. absurd (omega (arith, past-rows (λ k. length (fieldsOf k)) 0 row l)))
+  pub row-there : row < rowCount
+  row-there = less-or row rowCount (λ l. l) (λ l. absurd (omega (arith, past-rows (λ k. length (fieldsOf k)) 0 row l)))
 
   types : Piece allTypes (fieldsAt row) (getD firsts row 0) (getD (places 0 (map fieldsOf allKinds)) (suc row) 0)
   unfolding ofRow
-  types = rw (getD-take missingRow (places 0 (map fieldsOf allKinds)) row 0 row-there) (piece (map fieldsOf allKinds) row row-there)
+  types = rw (getD-take rowCount (places 0 (map fieldsOf allKinds)) row 0 row-there) (piece (map fieldsOf allKinds) row row-there)
 
   pub type-within : getD firsts row 0 + j < 33
   unfolding flatten

@@ -14,7 +14,7 @@ use Rattle.text.specs.Text.{same, allOf}
 use Rattle.text.proofs.Tests.{allBelow, below, less-or, same→eq}
 use Rattle.format.specs.Kinds.{Kind, SMMAN, name, allKinds, pubkeyKinds, among}
 use Rattle.format.proofs.Table.{name-inj, every-kind}
-use Rattle.table.specs.Table.{rowOf, missingRow, rowFor, ofRow, isPubkey, rowAmong}
+use Rattle.table.specs.Table.{rowOf, missingRow, rowCount, rowFor, ofRow, isPubkey, rowAmong}
 
 -- ---- the kind of a row
 
@@ -24,12 +24,12 @@ kindAt row = getD allKinds row SMMAN
 pub at-row : (k : Kind) → kindAt (rowOf k) ≡ k
 at-row k = name-inj (kindAt (rowOf k)) k (same→eq _ _ (every-kind (λ j. same (name (kindAt (rowOf j))) (name j)) tt k))
 
-pub row-small : (k : Kind) → rowOf k < missingRow
-row-small k = ltb→lt (rowOf k) missingRow (every-kind (λ j. ltb (rowOf j) missingRow) tt k)
+pub row-small : (k : Kind) → rowOf k < rowCount
+row-small k = ltb→lt (rowOf k) rowCount (every-kind (λ j. ltb (rowOf j) rowCount) tt k)
 
-pub row-at : (row : ℕ) → row < missingRow → rowOf (kindAt row) ≡ row
+pub row-at : (row : ℕ) → row < rowCount → rowOf (kindAt row) ≡ row
 unfolding allBelow
-row-at row h = eqb→eq (rowOf (kindAt row)) row (below missingRow (λ n. eqb (rowOf (kindAt n)) n) tt row h)
+row-at row h = eqb→eq (rowOf (kindAt row)) row (below rowCount (λ n. eqb (rowOf (kindAt n)) n) tt row h)
 
 pub row-inj : (k j : Kind) → rowOf k ≡ rowOf j → k ≡ j
 row-inj k j e = sym (at-row k) ∙ ap kindAt e ∙ at-row j
@@ -38,7 +38,7 @@ row-inj k j e = sym (at-row k) ∙ ap kindAt e ∙ at-row j
 
 module _ {ℓ} {A : Type ℓ} (f : Kind → A) (z : A) where
   -- an entry that is there is the same whatever stands for one that is not
-  pub in-row : (row : ℕ) → row < missingRow → ofRow f z row ≡ f (kindAt row)
+  pub in-row : (row : ℕ) → row < rowCount → ofRow f z row ≡ f (kindAt row)
   unfolding ofRow
   in-row row h =
       ap (λ (l : List A). getD l 0 z) (sym (drop-cons (map f allKinds) row z h) ∙ drop-cons (map f allKinds) row (f SMMAN) h)
@@ -47,7 +47,7 @@ module _ {ℓ} {A : Type ℓ} (f : Kind → A) (z : A) where
   pub of-kind : (k : Kind) → ofRow f z (rowOf k) ≡ f k
   of-kind k = in-row (rowOf k) (row-small k) ∙ ap f (at-row k)
 
-  pub past-rows : (row : ℕ) → missingRow ≤ row → ofRow f z row ≡ z
+  pub past-rows : (row : ℕ) → rowCount ≤ row → ofRow f z row ≡ z
   unfolding ofRow
   past-rows row h = List·getD-eq-default (map f allKinds) z h
 
@@ -73,11 +73,11 @@ same-bools false false t = refl
 pub pubkey-rows : (row : ℕ) → (eqb row 3 || eqb row 4) ≡ isPubkey row
 unfolding allBelow ofRow
 pubkey-rows row =
-    less-or row missingRow
-    (λ h. same-bools (eqb row 3 || eqb row 4) (isPubkey row) (below missingRow (λ n. Bool·beq (eqb n 3 || eqb n 4) (isPubkey n)) tt row h))
+    less-or row rowCount
+    (λ h. same-bools (eqb row 3 || eqb row 4) (isPubkey row) (below rowCount (λ n. Bool·beq (eqb n 3 || eqb n 4) (isPubkey n)) tt row h))
     (past row)
   where
-    past : (n : ℕ) → missingRow ≤ n → (eqb n 3 || eqb n 4) ≡ isPubkey n
+    past : (n : ℕ) → rowCount ≤ n → (eqb n 3 || eqb n 4) ≡ isPubkey n
     past n l = rw (ne-eqb n 3 (λ z. omega arith), ne-eqb n 4 (λ z. omega arith), past-rows (λ k. among k pubkeyKinds) false n l)
 
 -- no two kinds have one name: a test of each kind against each

@@ -12,7 +12,7 @@ use lib.Seq.{drop-cons, drop-drop, getD-take}
 use Rattle.text.specs.Text.{Bytes, same}
 use Rattle.format.specs.Kinds.{Kind, SMMAN, name, recordKinds, allKinds}
 use Rattle.format.specs.Read.{kindIn}
-use Rattle.table.specs.Table.{missingRow, rowFor, ofRow, isKind, named, kindsFrom}
+use Rattle.table.specs.Table.{missingRow, rowCount, rowFor, ofRow, isKind, named, kindsFrom}
 use Rattle.table.proofs.Rows.{kindAt, row-at, in-row}
 
 -- f finds the first kind that passes p
@@ -30,15 +30,15 @@ module _ (p : Kind → Bool) (f : List Kind → Option Kind) (w : Search p f) (t
   abbrev rows : List Kind
   rows = take to allKinds
 
-  look : row < missingRow → row < to → f (drop row rows) ≡ cond (ofRow p false row) (some (kindAt row)) (f (drop (row + 1) rows))
+  look : row < rowCount → row < to → f (drop row rows) ≡ cond (ofRow p false row) (some (kindAt row)) (f (drop (row + 1) rows))
   look h l =
       rw (drop-cons rows row SMMAN (omega (arith, length-take to allKinds)), getD-take to allKinds row SMMAN l, add-one, in-row p false row h)
       (w .step (kindAt row) _)
 
-  pub search-hit : row < missingRow → row < to → ofRow p false row ≡ true → row ≡ rowFor (f (drop row rows))
+  pub search-hit : row < rowCount → row < to → ofRow p false row ≡ true → row ≡ rowFor (f (drop row rows))
   search-hit h l e = sym (ap rowFor (rw e at (look h l)) ∙ row-at row h)
 
-  pub search-on : row < missingRow → row < to → ofRow p false row ≡ false → f (drop (row + 1) rows) ≡ f (drop row rows)
+  pub search-on : row < rowCount → row < to → ofRow p false row ≡ false → f (drop (row + 1) rows) ≡ f (drop row rows)
   search-on h l e = sym (rw e at (look h l))
 
   none-left : length rows ≤ row → missingRow ≡ rowFor (f (drop row rows))
@@ -47,7 +47,7 @@ module _ (p : Kind → Bool) (f : List Kind → Option Kind) (w : Search p f) (t
   pub search-end : to ≤ row → missingRow ≡ rowFor (f (drop row rows))
   search-end h = none-left (omega (arith, length-take to allKinds))
 
-  pub search-past : missingRow ≤ row → missingRow ≡ rowFor (f (drop row rows))
+  pub search-past : rowCount ≤ row → missingRow ≡ rowFor (f (drop row rows))
   search-past h = none-left (omega (arith, length-take to allKinds))
 
 -- ---- the record kinds in a range of rows: the first is row 3

@@ -22,9 +22,12 @@ rowOf ECDH = 4
 rowOf REQ = 5
 rowOf RESP = 6
 
--- the number of rows, which is no row's number
+abbrev pub rowCount : ℕ
+rowCount = length allKinds
+
+-- where there is no kind: a number that no row will ever take
 abbrev pub missingRow : ℕ
-missingRow = 7
+missingRow = 255
 
 -- the row of the kind that was found
 abbrev pub rowFor : Option Kind → ℕ
@@ -34,6 +37,9 @@ rowFor (some k) = rowOf k
 -- what f says of the kind of a row, and z for a row that is not there
 unfoldable pub ofRow {ℓ} : {A : Type ℓ} → (Kind → A) → A → ℕ → A
 ofRow f z row = getD (map f allKinds) row z
+
+abbrev pub kindOf : ℕ → Option Kind
+kindOf row = ofRow some none row
 
 abbrev pub nameOf : ℕ → Bytes
 nameOf row = ofRow name [] row

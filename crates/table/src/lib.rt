@@ -8,7 +8,7 @@ ghost use lib.ListN.{take, drop};
 ghost use Rattle.text.specs.Text.{same};
 ghost use Rattle.format.specs.Kinds.{name, identityKinds, allKinds};
 ghost use Rattle.format.specs.Read.{kindIn};
-ghost use Rattle.table.specs.Table.{missingRow, rowFor, ofRow, markOf, countOf, isPubkey, isKind, named, kindsFrom, fieldType, TypeOf, isIdentity, mayBeEmpty, permitted, rowAmong};
+ghost use Rattle.table.specs.Table.{rowCount, rowFor, ofRow, markOf, countOf, isPubkey, isKind, named, kindsFrom, fieldType, TypeOf, isIdentity, mayBeEmpty, permitted, rowAmong};
 
 // ---- the rows
 
@@ -26,8 +26,54 @@ pub const REQ: usize = 5;
 
 pub const RESP: usize = 6;
 
-// The number of rows, which is no row's number.
-pub const NONE: usize = 7;
+pub const ROWS: usize = 7;
+
+// Where there is no kind: a number that no row will ever take.
+pub const NONE: usize = 255;
+
+// ---- the fields by their numbers, from 1: an identity's, a public key's, a request's, a response's
+
+pub const IDENTITY_MANUFACTURER: usize = 1;
+
+pub const IDENTITY_MID: usize = 2;
+
+pub const IDENTITY_GNT: usize = 3;
+
+pub const IDENTITY_FINGERPRINT: usize = 4;
+
+pub const PUBKEY_SUBJECT: usize = 1;
+
+pub const PUBKEY_Q: usize = 2;
+
+pub const PUBKEY_EXPIRY: usize = 3;
+
+pub const PUBKEY_ISSUER: usize = 4;
+
+pub const PUBKEY_SIGNATURE: usize = 5;
+
+pub const REQ_ID_SM: usize = 1;
+
+pub const REQ_ID_KMC: usize = 2;
+
+pub const REQ_TVP: usize = 3;
+
+pub const REQ_HWID: usize = 4;
+
+pub const REQ_FWID: usize = 5;
+
+pub const REQ_QE: usize = 6;
+
+pub const REQ_MAC_TAG: usize = 7;
+
+pub const RESP_ID_KMC: usize = 1;
+
+pub const RESP_ID_SM: usize = 2;
+
+pub const RESP_TVP: usize = 3;
+
+pub const RESP_MAC_TAG: usize = 4;
+
+// ---- the columns
 
 // The names one after another, where each starts, and where the last ends.
 const NAMES: [u8; 64] = *b"SMMAN.1SMID.1KMCID.1PK.ECDSA.1PK.ECDH.1VKLOAD.REQ.1VKLOAD.RESP.1";
@@ -114,7 +160,7 @@ const TYPES: [u8; 33] = [
 pub fn mark_of(row: usize) -> u8
     ensures { λ r. ⌜ r ≡ markOf row ⌝ }
 {
-    if row < NONE {
+    if row < ROWS {
         return MARKS[row];
     }
     0
@@ -124,7 +170,7 @@ pub fn mark_of(row: usize) -> u8
 pub fn count_of(row: usize) -> usize
     ensures { λ r. ⌜ r ≡ countOf row ⌝ }
 {
-    if row < NONE {
+    if row < ROWS {
         return COUNTS[row];
     }
     0
@@ -154,7 +200,7 @@ pub fn is_pubkey(row: usize) -> bool
 // ---- the row that has a name
 
 fn is_named(row: usize, title: &[u8]) -> bool
-    requires { ⌜ row < missingRow ⌝ }
+    requires { ⌜ row < rowCount ⌝ }
     ensures { λ r. ⌜ r ≡ ofRow (λ k. same (now (title .entry)) (name k)) false row ⌝ }
 {
     let start = STARTS[row];
@@ -163,7 +209,7 @@ fn is_named(row: usize, title: &[u8]) -> bool
 }
 
 fn is_kind(row: usize, title: &[u8], mark: u8) -> bool
-    requires { ⌜ row < missingRow ⌝ }
+    requires { ⌜ row < rowCount ⌝ }
     ensures { λ r. ⌜ r ≡ ofRow (isKind (now (title .entry)) mark) false row ⌝ }
 {
     if !is_named(row, title) {
@@ -177,7 +223,7 @@ pub fn row_in(title: &[u8], mark: u8, from: usize, to: usize) -> usize
     ensures { λ r. ⌜ r ≡ rowFor (kindIn (drop from (take to allKinds)) (now (title .entry)) mark) ⌝ }
 {
     let mut row = from;
-    while row < NONE {
+    while row < ROWS {
         if to <= row {
             return NONE;
         }
@@ -211,7 +257,7 @@ pub fn kind_named(title: &[u8]) -> usize
     ensures { λ r. ⌜ r ≡ rowFor (named allKinds (now (title .entry))) ⌝ }
 {
     let mut row: usize = 0;
-    while row < NONE {
+    while row < ROWS {
         if is_named(row, title) {
             return row;
         }

@@ -5,7 +5,7 @@ use crate::value::Text;
 // ---- reading
 
 fn is_identity(s: &[u8]) -> bool {
-    reading::read_identity(s).no == reading::ACCEPTED
+    reading::read_identity(s).no == numbers::ACCEPTED
 }
 
 fn accepted(answer: reading::Answer) -> Text {
@@ -44,7 +44,7 @@ fn rebuild(s: &[u8]) -> Text {
     let mut k: usize = 0;
     while k < 8 {
         let part = field(of_identity, s, k + 1, &mut no);
-        if no != reading::ACCEPTED {
+        if no != numbers::ACCEPTED {
             break;
         }
         lens[k] = part.len();

@@ -52,14 +52,14 @@ fn refusal(no: u8) -> Text {
 }
 
 pub(crate) fn of_part(no: u8, part: &[u8]) -> Text {
-    if no != reading::ACCEPTED {
+    if no != numbers::ACCEPTED {
         return refusal(no);
     }
     add(none(), part)
 }
 
 pub(crate) fn of_text(no: u8, text: &[u8]) -> Text {
-    if no != reading::ACCEPTED {
+    if no != numbers::ACCEPTED {
         return refusal(no);
     }
     hex(text)

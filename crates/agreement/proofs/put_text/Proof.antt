@@ -14,10 +14,10 @@ use Rattle.agreement.proofs.put_text.Statement.{statement}
 use Rattle.agreement.proofs.put_text.Tie as tie
 
 abbrev Inv-loop : tie.InvT-loop
-Inv-loop out₀ label fields request starts next at₀ i₀ out at i = Entered out₀ at₀ fields (fieldsIn REQ request) out at i
+Inv-loop out₀ label fields request starts lens next at₀ i₀ out at i = Entered out₀ at₀ fields (fieldsIn REQ request) out at i
 
 abbrev μ-loop : tie.MeasureT-loop
-μ-loop out₀ label fields request starts next at₀ i₀ out at i = length fields - i
+μ-loop out₀ label fields request starts lens next at₀ i₀ out at i = length fields - i
 
 add-put-byte : tie.Need-add-put-byte Inv-loop μ-loop
 add-put-byte c = search needs
@@ -42,6 +42,9 @@ loop-holds c =
     let first = put-of (omega (arith, s .pre .3)) (c .before .before .before .before .before .before .put-byte .ensures) in
     let second = c .before .before .put-item .ensures in
     entered-none (omega (arith, l, s .pre .3, first .next, put-length first, second .next, put-length second))
+
+mul-put-field : tie.Need-mul-put-field Inv-loop μ-loop
+mul-put-field c = search needs
 
 shared-slice-read-put-field : tie.Need-shared-slice-read-put-field Inv-loop μ-loop
 shared-slice-read-put-field c = search needs
@@ -80,6 +83,7 @@ put-text-spec =
     put-byte-requires
     put-item-requires
     loop-holds
+    mul-put-field
     shared-slice-read-put-field
     put-field-requires
     add-i

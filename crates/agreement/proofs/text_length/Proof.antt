@@ -11,16 +11,19 @@ use Rattle.agreement.proofs.text_length.Statement.{statement}
 use Rattle.agreement.proofs.text_length.Tie as tie
 
 abbrev Inv-loop : tie.InvT-loop
-Inv-loop label fields request starts total₀ i₀ total i = Counted label fields (fieldsIn REQ request) total i
+Inv-loop label fields request starts lens total₀ i₀ total i = Counted label fields (fieldsIn REQ request) total i
 
 abbrev μ-loop : tie.MeasureT-loop
-μ-loop label fields request starts total₀ i₀ total i = length fields - i
+μ-loop label fields request starts lens total₀ i₀ total i = length fields - i
 
 add-total : tie.Need-add-total Inv-loop μ-loop
 add-total c = search needs
 
 loop-holds : tie.Need-loop-holds Inv-loop μ-loop
 loop-holds c = counted-none (c .before .before .before .pre .0) (c .before .before .before .pre .2)
+
+mul-field-length : tie.Need-mul-field-length Inv-loop μ-loop
+mul-field-length c = search needs
 
 shared-slice-read-field-length : tie.Need-shared-slice-read-field-length Inv-loop μ-loop
 shared-slice-read-field-length c = search needs
@@ -54,6 +57,7 @@ text-length-spec =
     μ-loop
     add-total
     loop-holds
+    mul-field-length
     shared-slice-read-field-length
     field-length-requires
     add-total-2

@@ -3,7 +3,7 @@
 use denote.Ref.{now}
 use native.Mathlib.Omega.{arith}
 use Rattle.agreement.specs.Steps.{itemsBy}
-use Rattle.agreement.proofs.Request.{request-read, request-suited, request-seven}
+use Rattle.agreement.proofs.Request.{request-read, request-suited, request-places}
 use Rattle.agreement.proofs.Texts.{text-refused, text-none, text-written}
 use borrow.Author.Needs.{needs}
 use Rattle.agreement.proofs.write_text.Statement.{statement}
@@ -20,36 +20,34 @@ returns c =
     let a = c .before .before .before .before .before .before .before .before .args in
     text-refused (itemsBy (now (a .label)) (now (a .fields))) (now (a .request)) _ _ (c .before .before .before .read-of .ensures) (c .before .if1 .taken) _ (c .refuse .ensures)
 
-starts-of-requires : tie.Need-starts-of-requires
-starts-of-requires c κs = request-seven (now (c .before .before .before .before .before .before .before .args .request)) _ (c .before .before .read-of .ensures) (c .if1 .left)
-
 text-length-requires : tie.Need-text-length-requires
 text-length-requires c κs =
-    let s = c .before .before .before .before .before .before .before .before .before in
-    (s .pre, c .before .starts-of .ensures, request-suited (now (s .args .request)) _ (c .before .before .before .before .read-of .ensures) (c .before .before .if1 .left))
+    let s = c .before .before .before .before .before .before .before .before .before .before .before in
+    let request = now (s .args .request) in let answered = c .before .before .before .before .before .before .read-of .ensures in let accepted = c .before .before .before .before .if1 .left in
+    (s .pre, request-places request _ answered accepted, request-suited request _ answered accepted)
 
 refuse-requires-2 : tie.Need-refuse-requires-2
 refuse-requires-2 c κs = search needs
 
 returns-2 : tie.Need-returns-2
 returns-2 c =
-    let a = c .before .before .before .before .before .before .before .before .before .before .before .before .args in
-    let e = request-read (now (a .request)) _ (c .before .before .before .before .before .before .before .read-of .ensures) (c .before .before .before .before .before .if1 .left) in
+    let a = c .before .before .before .before .before .before .before .before .before .before .before .before .before .before .args in
+    let e = request-read (now (a .request)) _ (c .before .before .before .before .before .before .before .before .before .read-of .ensures) (c .before .before .before .before .before .before .before .if1 .left) in
     text-none (itemsBy (now (a .label)) (now (a .fields))) (now (a .request)) _ _ e (omega (arith, c .before .before .text-length .ensures, c .before .if2 .taken)) _ (c .refuse2 .ensures)
 
 put-text-requires : tie.Need-put-text-requires
 put-text-requires c κs =
-    let s = c .before .before .before .before .before .before .before .before .before .before .before .before .before in
-    let t = request-suited (now (s .args .request)) _ (c .before .before .before .before .before .before .before .before .read-of .ensures) (c .before .before .before .before .before .before .if1 .left) in
-    (s .pre, c .before .before .before .before .before .starts-of .ensures, t, omega (arith, c .before .before .before .text-length .ensures, c .before .before .if2 .left))
+    let s = c .before .before .before .before .before .before .before .before .before .before .before .before .before .before .before .before in
+    let request = now (s .args .request) in let answered = c .before .before .before .before .before .before .before .before .before .before .before .read-of .ensures in let accepted = c .before .before .before .before .before .before .before .before .before .if1 .left in
+    (s .pre, request-places request _ answered accepted, request-suited request _ answered accepted, omega (arith, c .before .before .before .before .text-length .ensures, c .before .before .before .if2 .left))
 
 same-length : tie.Need-same-length
 same-length c = search needs
 
 returns-3 : tie.Need-returns-3
 returns-3 c =
-    let a = c .before .before .before .before .before .before .before .before .before .before .before .before .before .before .before .before .args in
-    let e = request-read (now (a .request)) _ (c .before .before .before .before .before .before .before .before .before .before .before .read-of .ensures) (c .before .before .before .before .before .before .before .before .before .if1 .left) in
+    let a = c .before .before .before .before .before .before .before .before .before .before .before .before .before .before .before .before .before .before .before .args in
+    let e = request-read (now (a .request)) _ (c .before .before .before .before .before .before .before .before .before .before .before .before .before .before .read-of .ensures) (c .before .before .before .before .before .before .before .before .before .before .before .before .if1 .left) in
     text-written (itemsBy (now (a .label)) (now (a .fields))) (now (a .request)) _ _ e (c .before .before .put-text .ensures)
 
 pub write-text-spec : {M : Type 1} → statement M
@@ -59,7 +57,6 @@ write-text-spec =
     read-of-requires
     refuse-requires
     returns
-    starts-of-requires
     text-length-requires
     refuse-requires-2
     returns-2

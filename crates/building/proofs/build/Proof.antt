@@ -3,7 +3,7 @@
 use denote.Ref.{now}
 use native.Mathlib.Omega.{arith}
 use Rattle.put.proofs.Pieces.{put-as}
-use Rattle.building.proofs.Calls.{Begun, call-form, call-kind, call-counted, call-few, call-record, call-field, call-whole, call-narrow, call-fits, call-denied, call-made}
+use Rattle.building.proofs.Calls.{Begun, call-form, call-kind, call-counted, call-few, call-lie, call-parts, call-record, call-fields, call-narrow, call-fits, call-denied, call-made}
 use borrow.Author.Needs.{needs}
 use Rattle.building.proofs.build.Statement.{statement}
 use Rattle.building.proofs.build.Tie as tie
@@ -24,62 +24,50 @@ refuse-requires c κs = search needs
 returns : tie.Need-returns
 returns c = call-denied _ _ _ _ (call-form (start (c .before .before)) _ (c .before .if1 .taken)) (c .refuse .ensures)
 
-fields-no-requires : tie.Need-fields-no-requires
-fields-no-requires c κs = call-counted (start (c .before)) (c .if1 .left)
+places-by-requires : tie.Need-places-by-requires
+places-by-requires c κs = let n = call-counted (start (c .before)) (c .if1 .left) in (omega (arith, call-few (start (c .before)) (c .if1 .left)), n .1)
+
+judge-requires : tie.Need-judge-requires
+judge-requires c κs = search needs
 
 refuse-requires-2 : tie.Need-refuse-requires-2
 refuse-requires-2 c κs = search needs
 
 returns-2 : tie.Need-returns-2
-returns-2 c = call-denied _ _ _ _ (call-field (start (c .before .before .before .before .before)) (c .before .before .before .before .if1 .left) _ (c .before .before .before .fields-no .ensures) (c .before .if2 .taken)) (c .refuse2 .ensures)
+returns-2 c = call-denied _ _ _ _ (call-fields (start (c .before .before .before .before .before .before .before .before .before .before)) (c .before .before .before .before .before .before .before .before .before .if1 .left) _ (call-parts (start (c .before .before .before .before .before .before .before .before .before .before)) (c .before .before .before .before .before .before .before .before .before .if1 .left) _ (c .before .before .before .before .before .before .before .before .places-by .ensures)) _ (c .before .before .before .judge .ensures) _ (c .before .if2 .taken)) (c .refuse2 .ensures)
 
-piece-requires : tie.Need-piece-requires
-piece-requires c κs = call-counted (start (c .before .before .before .before)) (c .before .before .before .if1 .left) .1
+add-if3 : tie.Need-add-if3
+add-if3 c = omega (arith, call-few (start (c .before .before .before .before .before .before .before .before .before)) (c .before .before .before .before .before .before .before .before .if1 .left))
 
-piece-requires-2 : tie.Need-piece-requires-2
-piece-requires-2 c κs = call-counted (start (c .before .before .before .before .before)) (c .before .before .before .before .if1 .left) .1
+add-if3-2 : tie.Need-add-if3-2
+add-if3-2 c = omega (arith, call-few (start (c .before .before .before .before .before .before .before .before .before)) (c .before .before .before .before .before .before .before .before .if1 .left))
 
-whole-no-requires : tie.Need-whole-no-requires
-whole-no-requires c κs = search needs
+add-if3-3 : tie.Need-add-if3-3
+add-if3-3 c = omega (arith, call-few (start (c .before .before .before .before .before .before .before .before .before)) (c .before .before .before .before .before .before .before .before .if1 .left))
+
+add-if3-4 : tie.Need-add-if3-4
+add-if3-4 c = omega (arith, call-few (start (c .before .before .before .before .before .before .before .before .before)) (c .before .before .before .before .before .before .before .before .if1 .left))
 
 refuse-requires-3 : tie.Need-refuse-requires-3
 refuse-requires-3 c κs = search needs
 
 returns-3 : tie.Need-returns-3
-returns-3 c = call-denied _ _ _ _ (call-whole (start (c .before .before .before .before .before .before .before .before .before)) (c .before .before .before .before .before .before .before .before .if1 .left) _ (c .before .before .before .before .before .before .before .fields-no .ensures) (c .before .before .before .before .before .if2 .left) (c .before .before .before .before .piece .ensures) (c .before .before .before .piece2 .ensures) (c .before .before .whole-no .ensures) (c .before .if3 .taken)) (c .refuse3 .ensures)
-
-add-if4 : tie.Need-add-if4
-add-if4 c = omega (arith, call-few (start (c .before .before .before .before .before .before .before .before)) (c .before .before .before .before .before .before .before .if1 .left))
-
-add-if4-2 : tie.Need-add-if4-2
-add-if4-2 c = omega (arith, call-few (start (c .before .before .before .before .before .before .before .before)) (c .before .before .before .before .before .before .before .if1 .left))
-
-add-if4-3 : tie.Need-add-if4-3
-add-if4-3 c = omega (arith, call-few (start (c .before .before .before .before .before .before .before .before)) (c .before .before .before .before .before .before .before .if1 .left))
-
-add-if4-4 : tie.Need-add-if4-4
-add-if4-4 c = omega (arith, call-few (start (c .before .before .before .before .before .before .before .before)) (c .before .before .before .before .before .before .before .if1 .left))
-
-refuse-requires-4 : tie.Need-refuse-requires-4
-refuse-requires-4 c κs = search needs
-
-returns-4 : tie.Need-returns-4
-returns-4 c = call-denied _ _ _ _ (call-narrow (start (c .before .before .before .before .before .before .before .before .before .before)) (c .before .before .before .before .before .before .before .before .before .if1 .left) _ (c .before .before .before .before .before .before .before .before .fields-no .ensures) (c .before .before .before .before .before .before .if2 .left) (c .before .before .before .before .before .piece .ensures) (c .before .before .before .before .piece2 .ensures) (c .before .before .before .whole-no .ensures) (c .before .before .if3 .left) (c .before .if4 .taken)) (c .refuse4 .ensures)
+returns-3 c = call-denied _ _ _ _ (call-narrow (start (c .before .before .before .before .before .before .before .before .before .before .before)) (c .before .before .before .before .before .before .before .before .before .before .if1 .left) _ (call-parts (start (c .before .before .before .before .before .before .before .before .before .before .before)) (c .before .before .before .before .before .before .before .before .before .before .if1 .left) _ (c .before .before .before .before .before .before .before .before .before .places-by .ensures)) _ (c .before .before .before .before .judge .ensures) (c .before .before .if2 .left) _ (c .before .if3 .taken)) (c .refuse3 .ensures)
 
 mark-of-requires : tie.Need-mark-of-requires
 mark-of-requires c κs = search needs
 
 put-record-requires : tie.Need-put-record-requires
-put-record-requires c κs = (call-counted (start (c .before .before .before .before .before .before .before .before .before .before .before)) (c .before .before .before .before .before .before .before .before .before .before .if1 .left) .1, c .before .before .if4 .left)
+put-record-requires c κs = (call-counted (start (c .before .before .before .before .before .before .before .before .before .before .before .before .before .before)) (c .before .before .before .before .before .before .before .before .before .before .before .before .before .if1 .left) .1, call-lie (start (c .before .before .before .before .before .before .before .before .before .before .before .before .before .before)) (c .before .before .before .before .before .before .before .before .before .before .before .before .before .if1 .left) _ (c .before .before .before .before .before .before .before .before .before .before .before .before .places-by .ensures), c .before .before .before .before .if3 .left)
 
 same-length : tie.Need-same-length
 same-length c = search needs
 
-returns-5 : tie.Need-returns-5
-returns-5 c =
-    let b = start (c .before .before .before .before .before .before .before .before .before .before .before .before .before .before) in let z = c .before .before .before .before .before .before .before .before .before .before .before .before .before .if1 .left in
-    call-made _ _ _ (call-kind b z .kind) _ (call-fits b z _ (c .before .before .before .before .before .before .before .before .before .before .before .before .fields-no .ensures) (c .before .before .before .before .before .before .before .before .before .before .if2 .left) (c .before .before .before .before .before .before .before .before .before .piece .ensures) (c .before .before .before .before .before .before .before .before .piece2 .ensures) (c .before .before .before .before .before .before .before .whole-no .ensures) (c .before .before .before .before .before .before .if3 .left) (c .before .before .before .before .before .if4 .left))
-    (put-as (call-record b z _ (c .before .before .before .mark-of .ensures)) (c .before .before .put-record .ensures))
+returns-4 : tie.Need-returns-4
+returns-4 c =
+    let b = start (c .before .before .before .before .before .before .before .before .before .before .before .before .before .before .before .before .before) in let z = c .before .before .before .before .before .before .before .before .before .before .before .before .before .before .before .before .if1 .left in
+    call-made _ _ _ (call-kind b z .kind) _ (call-fits b z _ (call-parts b z _ (c .before .before .before .before .before .before .before .before .before .before .before .before .before .before .before .places-by .ensures)) _ (c .before .before .before .before .before .before .before .before .before .before .judge .ensures) (c .before .before .before .before .before .before .before .before .if2 .left) _ (c .before .before .before .before .before .before .before .if3 .left))
+    (put-as (call-record b z _ (c .before .before .before .before .before .mark-of .ensures)) (c .before .before .put-record .ensures))
 
 pub build-spec : {M : Type 1} → statement M
 build-spec =
@@ -89,21 +77,17 @@ build-spec =
     form-no-requires
     refuse-requires
     returns
-    fields-no-requires
+    places-by-requires
+    judge-requires
     refuse-requires-2
     returns-2
-    piece-requires
-    piece-requires-2
-    whole-no-requires
+    add-if3
+    add-if3-2
+    add-if3-3
+    add-if3-4
     refuse-requires-3
     returns-3
-    add-if4
-    add-if4-2
-    add-if4-3
-    add-if4-4
-    refuse-requires-4
-    returns-4
     mark-of-requires
     put-record-requires
     same-length
-    returns-5)
+    returns-4)

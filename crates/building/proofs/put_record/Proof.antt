@@ -8,7 +8,7 @@ use Rattle.building.proofs.put_record.Tie as tie
 
 -- the name and its mark are written
 head : (c : tie.After-put-byte) → Headed (now (c .before .before .before .before .before .before .before .before .before .before .args .out)) (now (c .before .before .before .before .before .before .before .before .before .before .args .kind)) (now (c .before .before .before .before .before .before .before .before .before .before .args .bytes)) (now (c .before .before .before .before .before .before .before .before .before .before .args .lens)) (c .before .before .before .before .before .before .before .before .before .before .args .mark) (c .put-byte .last .0) (c .put-byte .result)
-head c = headed _ _ _ _ _ (c .before .before .before .before .before .before .before .before .before .before .pre .0) (c .before .before .before .before .before .before .before .before .before .before .pre .1) (c .before .before .before .before .put .ensures) (c .put-byte .ensures)
+head c = headed _ _ _ _ _ (c .before .before .before .before .before .before .before .before .before .before .pre .0) (c .before .before .before .before .before .before .before .before .before .before .pre .2) (c .before .before .before .before .put .ensures) (c .put-byte .ensures)
 
 put-requires : tie.Need-put-requires
 put-requires c κs = search needs
@@ -17,7 +17,7 @@ put-byte-requires : tie.Need-put-byte-requires
 put-byte-requires c κs = search needs
 
 put-fields-requires : tie.Need-put-fields-requires
-put-fields-requires c κs = (c .before .before .before .before .before .before .before .before .before .before .before .before .before .pre .0, headed-room (head (c .before .before .before)))
+put-fields-requires c κs = (c .before .before .before .before .before .before .before .before .before .before .before .before .before .pre .0, c .before .before .before .before .before .before .before .before .before .before .before .before .before .pre .1, headed-room (head (c .before .before .before)))
 
 sub-crc-of : tie.Need-sub-crc-of
 sub-crc-of c = search needs

@@ -12,7 +12,7 @@ place-from-requires : tie.Need-place-from-requires
 place-from-requires c κs = search needs
 
 returns : tie.Need-returns
-returns c = c .place-from .ensures _ identity (c .before .read-identity .ensures)
+returns c = c .place-from .ensures _ _ identity (c .before .read-identity .ensures)
 
 pub identity-place-spec : {M : Type 1} → statement M
 identity-place-spec = tie.close (tie.spec read-identity-requires place-from-requires returns)

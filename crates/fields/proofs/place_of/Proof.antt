@@ -12,7 +12,7 @@ place-from-requires : tie.Need-place-from-requires
 place-from-requires c κs = search needs
 
 returns : tie.Need-returns
-returns c = c .place-from .ensures _ (records _) (c .before .read-of .ensures)
+returns c = c .place-from .ensures _ _ (records _) (c .before .read-of .ensures)
 
 pub place-of-spec : {M : Type 1} → statement M
 place-of-spec = tie.close (tie.spec read-of-requires place-from-requires returns)

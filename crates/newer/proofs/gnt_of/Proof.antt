@@ -2,15 +2,10 @@
 -- Assumes nothing.
 use mathlib.Core.Path.{ap, _∙_}
 use Rattle.text.specs.Text.{Bytes}
-use Rattle.format.specs.Read.{body}
 use Rattle.frame.specs.Frame.{partOf}
-use Rattle.subjects.specs.Subjects.{identityPart}
 use borrow.Author.Needs.{needs}
 use Rattle.newer.proofs.gnt_of.Statement.{statement}
 use Rattle.newer.proofs.gnt_of.Tie as tie
-
-subject-of-requires : tie.Need-subject-of-requires
-subject-of-requires c κs = search needs
 
 body-of-requires : tie.Need-body-of-requires
 body-of-requires c κs = search needs
@@ -19,10 +14,7 @@ part-requires : tie.Need-part-requires
 part-requires c κs = search needs
 
 returns : tie.Need-returns
-returns c =
-    c .part .ensures
-    ∙ ap (λ (b : Bytes). partOf 58 b 3) (c .before .body-of .ensures)
-    ∙ ap (λ (s : Bytes). identityPart s 3) (c .before .before .subject-of .ensures)
+returns c = c .part .ensures ∙ ap (λ (b : Bytes). partOf 58 b 3) (c .before .body-of .ensures)
 
 pub gnt-of-spec : {M : Type 1} → statement M
-gnt-of-spec = tie.close (tie.spec subject-of-requires body-of-requires part-requires returns)
+gnt-of-spec = tie.close (tie.spec body-of-requires part-requires returns)

@@ -1,13 +1,14 @@
 -- `reading::read_identity` meets its contract: the call step by step.
 -- Assumes nothing.
 use denote.Ref.{now}
-use mathlib.Core.Path.{sym, ap, _∙_}
+use mathlib.Core.Path.{_≡_, sym, ap, _∙_}
 use Rattle.format.specs.Kinds.{identityKinds}
+use Rattle.format.specs.Read.{accepted, readIdentity, nobody}
+use Rattle.format.proofs.Exactly.{identity-exact, its-parts}
 use Rattle.reading.specs.Reading.{answerOf}
-use Rattle.format.specs.Read.{nobody}
+use Rattle.reading.proofs.Answers.{taken-so}
 use Rattle.reading.proofs.Outcomes.{over-long}
-use Rattle.reading.proofs.Form.{form-counted}
-use Rattle.reading.proofs.Calls.{Begun, begun, call-form, call-kind, call-parts, call-plain, identity-is, identity-below, identity-plain}
+use Rattle.reading.proofs.Calls.{Begun, begun, call-form, call-kind, call-parts, call-field, call-accepted, call-starts, call-lens, identity-is, identity-below, identity-plain, identity-kinds}
 use borrow.Author.Needs.{needs}
 use Rattle.reading.proofs.read_identity.Statement.{statement}
 use Rattle.reading.proofs.read_identity.Tie as tie
@@ -43,17 +44,30 @@ returns-2 c = c .refuse2 .ensures ∙ sym (ap answerOf (identity-is _ ∙ call-f
 body-of-requires : tie.Need-body-of-requires
 body-of-requires c κs = search needs
 
-identity-fields-requires : tie.Need-identity-fields-requires
-identity-fields-requires c κs = (identity-below (start (c .before .before)) (c .before .if2 .left), form-counted _ (now (c .before .before .before .before .before .before .before .before .args .identity)) _ (c .body-of .ensures) (sym (c .before .before .form-no .ensures) ∙ c .before .if2 .left))
+mark-of-requires : tie.Need-mark-of-requires
+mark-of-requires c κs = search needs
 
-answered-requires : tie.Need-answered-requires
-answered-requires c κs = search needs
+places-of-requires : tie.Need-places-of-requires
+places-of-requires c κs = search needs
+
+identity-fields-requires : tie.Need-identity-fields-requires
+identity-fields-requires c κs = identity-below (start (c .before .before .before .before .before .before .before .before)) (c .before .before .before .before .before .before .before .if2 .left)
+
+refuse-requires-3 : tie.Need-refuse-requires-3
+refuse-requires-3 c κs = search needs
 
 returns-3 : tie.Need-returns-3
-returns-3 c =
-    let s = start (c .before .before .before .before) in let z = c .before .before .before .if2 .left in let k = call-kind nobody s z in
-    c .answered .ensures (k .kind) (call-parts nobody s z) (k .at)
-    ∙ sym (ap answerOf (identity-is _ ∙ call-plain nobody s z _ (c .before .before .body-of .ensures) (c .before .identity-fields .ensures) (identity-plain s z)))
+returns-3 c = c .refuse3 .ensures ∙ sym (ap answerOf (identity-is _ ∙ call-field nobody (start (c .before .before .before .before .before .before .before .before .before .before .before .before)) (c .before .before .before .before .before .before .before .before .before .before .before .if2 .left) _ (c .before .before .before .before .before .before .before .before .before .before .body-of .ensures) _ (c .before .before .before .before .before .before .before .before .before .mark-of .ensures) _ (c .before .before .before .before .before .before .before .before .places-of .ensures) (c .before .before .before .identity-fields .ensures) (c .before .if3 .taken)))
+
+returns-4 : tie.Need-returns-4
+returns-4 c =
+    let s = start (c .before .before .before .before .before .before .before .before .before .before .before) in let z = c .before .before .before .before .before .before .before .before .before .before .if2 .left in
+    let read : readIdentity (now (c .before .before .before .before .before .before .before .before .before .before .before .before .before .before .before .before .before .args .identity)) ≡ accepted (call-kind nobody s z .kind) (call-parts nobody s z) = identity-is _ ∙ call-accepted nobody s z _ (c .before .before .before .before .before .before .before .before .before .body-of .ensures) _ (c .before .before .before .before .before .before .before .before .mark-of .ensures) _ (c .before .before .before .before .before .before .before .places-of .ensures) (c .before .before .identity-fields .ensures) (c .if3 .left) (identity-plain s z) in
+    taken-so _ _ _ _ _ _ (call-kind nobody s z .at)
+    (call-starts nobody s z _ (c .before .before .before .before .before .before .before .before .before .body-of .ensures) _ (c .before .before .before .before .before .before .before .before .mark-of .ensures) _ (c .before .before .before .before .before .before .before .places-of .ensures) (its-parts (identity-exact _ _ _ .0 read)))
+    (call-lens nobody s z _ (c .before .before .before .before .before .before .before .before .before .body-of .ensures) _ (c .before .before .before .before .before .before .before .before .mark-of .ensures) _ (c .before .before .before .before .before .before .before .places-of .ensures))
+    (identity-kinds s z)
+    ∙ sym (ap answerOf read)
 
 pub read-identity-spec : {M : Type 1} → statement M
 read-identity-spec =
@@ -68,6 +82,9 @@ read-identity-spec =
     refuse-requires-2
     returns-2
     body-of-requires
+    mark-of-requires
+    places-of-requires
     identity-fields-requires
-    answered-requires
-    returns-3)
+    refuse-requires-3
+    returns-3
+    returns-4)

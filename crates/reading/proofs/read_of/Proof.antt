@@ -1,14 +1,14 @@
 -- `reading::read_of` meets its contract: the call step by step.
 -- Assumes nothing.
 use denote.Ref.{now}
-use mathlib.Core.Path.{sym, ap, _∙_}
-use Rattle.format.specs.Read.{readIdentity}
+use mathlib.Core.Path.{_≡_, sym, ap, _∙_}
+use Rattle.format.specs.Read.{accepted, readIdentity, readOf}
+use Rattle.format.proofs.Exactly.{read-exact, its-parts}
 use Rattle.table.specs.Table.{kindsFrom}
 use Rattle.reading.specs.Reading.{answerOf}
-use Rattle.reading.proofs.Outcomes.{passing-as, over-long}
-use Rattle.reading.proofs.Form.{form-counted}
-use Rattle.reading.proofs.Whole.{whole-parts}
-use Rattle.reading.proofs.Calls.{Begun, begun, call-form, call-kind, call-parts, call-field, call-whole, of-is}
+use Rattle.reading.proofs.Answers.{taken-so}
+use Rattle.reading.proofs.Outcomes.{over-long}
+use Rattle.reading.proofs.Calls.{Begun, begun, call-form, call-kind, call-parts, call-places, call-starts, call-lens, of-is, record-refused, record-accepted, record-kinds}
 use borrow.Author.Needs.{needs}
 use Rattle.reading.proofs.read_of.Statement.{statement}
 use Rattle.reading.proofs.read_of.Tie as tie
@@ -44,29 +44,31 @@ returns-2 c = c .refuse2 .ensures ∙ sym (ap answerOf (of-is _ _ ∙ call-form 
 body-of-requires : tie.Need-body-of-requires
 body-of-requires c κs = search needs
 
-record-fields-requires : tie.Need-record-fields-requires
-record-fields-requires c κs = form-counted _ (now (c .before .before .before .before .before .before .before .before .args .«record»)) _ (c .body-of .ensures) (sym (c .before .before .form-no .ensures) ∙ c .before .if2 .left)
+mark-of-requires : tie.Need-mark-of-requires
+mark-of-requires c κs = search needs
+
+places-of-requires : tie.Need-places-of-requires
+places-of-requires c κs = search needs
+
+judge-requires : tie.Need-judge-requires
+judge-requires c κs = search needs
 
 refuse-requires-3 : tie.Need-refuse-requires-3
 refuse-requires-3 c κs = search needs
 
 returns-3 : tie.Need-returns-3
-returns-3 c =
-    c .refuse3 .ensures
-    ∙ sym (ap answerOf (of-is _ _ ∙ call-field readIdentity (start (c .before .before .before .before .before .before)) (c .before .before .before .before .before .if2 .left) _ (c .before .before .before .before .body-of .ensures) (c .before .before .before .record-fields .ensures) (c .before .if3 .taken)))
-
-body-no-requires : tie.Need-body-no-requires
-body-no-requires c κs = search needs
-
-answered-requires : tie.Need-answered-requires
-answered-requires c κs = search needs
+returns-3 c = c .refuse3 .ensures ∙ sym (ap answerOf (record-refused (start (c .before .before .before .before .before .before .before .before .before .before .before .before)) (c .before .before .before .before .before .before .before .before .before .before .before .if2 .left) _ (call-places readIdentity (start (c .before .before .before .before .before .before .before .before .before .before .before .before)) (c .before .before .before .before .before .before .before .before .before .before .before .if2 .left) _ (c .before .before .before .before .before .before .before .before .before .before .body-of .ensures) _ (c .before .before .before .before .before .before .before .before .before .mark-of .ensures) _ (c .before .before .before .before .before .before .before .before .places-of .ensures)) _ (c .before .before .before .judge .ensures) (c .before .if3 .taken)))
 
 returns-4 : tie.Need-returns-4
 returns-4 c =
-    let s = start (c .before .before .before .before .before .before .before) in let z = c .before .before .before .before .before .before .if2 .left in let k = call-kind readIdentity s z in
-    c .answered .ensures (k .kind) (call-parts readIdentity s z) (k .at)
-    ∙ ap answerOf (passing-as 0 _ (c .before .body-no .ensures ∙ whole-parts (k .kind) (now (c .before .before .before .before .before .before .before .before .before .before .before .before .before .args .«record»)) _ _ (k .at) (c .before .before .before .before .before .body-of .ensures)))
-    ∙ sym (ap answerOf (of-is _ _ ∙ call-whole readIdentity s z _ (c .before .before .before .before .before .body-of .ensures) (c .before .before .before .before .record-fields .ensures) (c .before .before .if3 .left)))
+    let s = start (c .before .before .before .before .before .before .before .before .before .before .before .before) in let z = c .before .before .before .before .before .before .before .before .before .before .before .if2 .left in
+    let fields = call-places readIdentity s z _ (c .before .before .before .before .before .before .before .before .before .before .body-of .ensures) _ (c .before .before .before .before .before .before .before .before .before .mark-of .ensures) _ (c .before .before .before .before .before .before .before .before .places-of .ensures) in
+    let read = record-accepted s z _ fields _ (c .before .before .before .judge .ensures) (c .before .if3 .left) in
+    taken-so _ _ _ _ _ _ (call-kind readIdentity s z .at)
+    (call-starts readIdentity s z _ (c .before .before .before .before .before .before .before .before .before .before .body-of .ensures) _ (c .before .before .before .before .before .before .before .before .before .mark-of .ensures) _ (c .before .before .before .before .before .before .before .before .places-of .ensures) (its-parts (read-exact _ _ _ _ .0 read)))
+    (call-lens readIdentity s z _ (c .before .before .before .before .before .before .before .before .before .before .body-of .ensures) _ (c .before .before .before .before .before .before .before .before .before .mark-of .ensures) _ (c .before .before .before .before .before .before .before .before .places-of .ensures))
+    (record-kinds s z _ fields _ (c .before .before .before .judge .ensures) (c .before .if3 .left))
+    ∙ sym (ap answerOf read)
 
 pub read-of-spec : {M : Type 1} → statement M
 read-of-spec =
@@ -81,9 +83,9 @@ read-of-spec =
     refuse-requires-2
     returns-2
     body-of-requires
-    record-fields-requires
+    mark-of-requires
+    places-of-requires
+    judge-requires
     refuse-requires-3
     returns-3
-    body-no-requires
-    answered-requires
     returns-4)

@@ -1,81 +1,64 @@
--- `reading::record_fields` meets its contract. The loop's invariant: the fields before j are accepted, and field j starts at i.
+-- `reading::record_fields` meets its contract. The loop's invariant: the fields before j are accepted, and the kinds are all there
+-- once those from field j on are written.
 -- Assumes nothing.
 use denote.Ref.{now}
 use Prim.Native.Nat.{_-_, _≤_}
+use mathlib.Core.Path.{ap, _∙_}
 use native.Mathlib.Omega.{arith}
 use Rattle.format.specs.Read.{readIdentity}
-use Rattle.frame.proofs.Parts.{next-within}
-use Rattle.reading.proofs.Places.{Head, Going, Turn, loop-start, loop-few, loop-done, turn-from, turn-within, turn-stop, turn-on}
+use Rattle.table.specs.Table.{fieldType}
+use Rattle.reading.specs.Reading.{kindWithin}
+use Rattle.reading.specs.Steps.{partsBy}
+use Rattle.reading.proofs.Fields.{Passed, passed-none}
+use Rattle.reading.proofs.Loops.{few-fields, turn-done, turn-stop, turn-on, its-part, its-no, its-kind, Kinds, kinds-none, kinds-on, kinds-done}
 use borrow.Author.Needs.{needs}
 use Rattle.reading.proofs.record_fields.Statement.{statement}
 use Rattle.reading.proofs.record_fields.Tie as tie
 
 abbrev Inv-loop : tie.InvT-loop
-Inv-loop row body mark count j₀ i₀ j i = Going readIdentity row body j i × (j ≤ count)
+Inv-loop row s starts lens count kinds₀ j₀ kinds j = Passed readIdentity row (partsBy row s starts lens) j × Kinds row (partsBy row s starts lens) kinds j × (j ≤ count)
 
 abbrev μ-loop : tie.MeasureT-loop
-μ-loop row body mark count j₀ i₀ j i = count - j
-
--- before the loop: what the table answered
-head : (c : tie.After-next-mark Inv-loop μ-loop) → Head (c .before .before .before .before .args .row) (now (c .before .before .before .before .args .body)) (c .before .before .mark-of .result) (c .before .count-of .result)
-head c = record { its-mark = c .before .before .mark-of .ensures; its-count = c .before .count-of .ensures; all = c .before .before .before .before .pre }
-
-turn : (c : tie.After-next-mark2 Inv-loop μ-loop) → Turn readIdentity (c .before .before .before .before .before .before .before .args .row) (now (c .before .before .before .before .before .before .before .args .body)) (c .before .before .before .before .before .mark-of .result) (c .before .before .before .before .count-of .result) (c .before .before .loop .j) (c .before .before .loop .i) (c .next-mark2 .result)
-turn c = record { head = head (c .before .before .before); going = c .before .before .loop .inv .0; more = c .before .loop-test .taken; ends = c .next-mark2 .ensures }
-
-mark-of-requires : tie.Need-mark-of-requires Inv-loop μ-loop
-mark-of-requires c κs = search needs
+μ-loop row s starts lens count kinds₀ j₀ kinds j = count - j
 
 count-of-requires : tie.Need-count-of-requires Inv-loop μ-loop
 count-of-requires c κs = search needs
 
-next-mark-requires : tie.Need-next-mark-requires Inv-loop μ-loop
-next-mark-requires c κs = search needs
-
-add-i : tie.Need-add-i Inv-loop μ-loop
-add-i c = omega (arith, c .next-mark .ensures, next-within (c .before .before .mark-of .result) (now (c .before .before .before .before .args .body)) 0 (omega arith))
-
 loop-holds : tie.Need-loop-holds Inv-loop μ-loop
-loop-holds c = (loop-start (head c) readIdentity _ (c .next-mark .ensures), omega arith)
-
-next-mark-requires-2 : tie.Need-next-mark-requires-2 Inv-loop μ-loop
-next-mark-requires-2 c κs = search needs
+loop-holds c = (passed-none _ _ _, kinds-none _ _, omega arith)
 
 type-of-requires : tie.Need-type-of-requires Inv-loop μ-loop
 type-of-requires c κs = search needs
 
-sub-field-no : tie.Need-sub-field-no Inv-loop μ-loop
-sub-field-no c = turn-from (turn (c .before))
+part-at-requires : tie.Need-part-at-requires Inv-loop μ-loop
+part-at-requires c κs = search needs
 
-part-field-no-start : tie.Need-part-field-no-start Inv-loop μ-loop
-part-field-no-start c = turn-from (turn (c .before))
+field-said-requires : tie.Need-field-said-requires Inv-loop μ-loop
+field-said-requires c κs = search needs
 
-part-field-no-end : tie.Need-part-field-no-end Inv-loop μ-loop
-part-field-no-end c = turn-within (turn (c .before))
+mul-kinds : tie.Need-mul-kinds Inv-loop μ-loop
+mul-kinds c = omega (arith, few-fields _ _ (c .before .before .before .before .before .count-of .ensures), c .before .before .before .loop-test .taken)
 
-field-no-requires : tie.Need-field-no-requires Inv-loop μ-loop
-field-no-requires c κs = search needs
+array-write-kinds : tie.Need-array-write-kinds Inv-loop μ-loop
+array-write-kinds c = omega (arith, few-fields _ _ (c .before .before .before .before .before .count-of .ensures), c .before .before .before .loop-test .taken, c .before .before .before .before .loop .inv .1 .seven-kinds)
 
 add-j : tie.Need-add-j Inv-loop μ-loop
-add-j c = omega (arith, loop-few (head (c .before .before .before .before .before .before)))
+add-j c = omega (arith, few-fields _ _ (c .before .before .before .before .before .count-of .ensures))
 
-cast-t16 : tie.Need-cast-t16 Inv-loop μ-loop
-cast-t16 c = omega (arith, loop-few (head (c .before .before .before .before .before .before .before)))
+cast-t15 : tie.Need-cast-t15 Inv-loop μ-loop
+cast-t15 c = omega (arith, few-fields _ _ (c .before .before .before .before .before .before .before .count-of .ensures))
 
 returns : tie.Need-returns Inv-loop μ-loop
-returns c = turn-stop (turn (c .before .before .before .before)) (c .before .before .before .type-of .ensures) (c .before .field-no .ensures) (c .if1 .taken)
-
-add-i-2 : tie.Need-add-i-2 Inv-loop μ-loop
-add-i-2 c = omega (arith, turn-within (turn (c .before .before .before .before)))
+returns c = record { refusal = turn-stop readIdentity _ _ _ _ _ (c .before .before .before .before .before .before .before .count-of .ensures) _ (c .before .before .before .before .before .before .loop .inv .0) (c .before .before .before .before .before .loop-test .taken) _ (c .before .before .before .part-at .ensures) (c .before .before .before .before .type-of .ensures) (its-no _ _ _ (c .before .before .field-said .ensures)) (c .if1 .taken); all-kinds = λ z. absurd (c .if1 .taken z) }
 
 loop-less : tie.Need-loop-less Inv-loop μ-loop
 loop-less c = search needs
 
 loop-again : tie.Need-loop-again Inv-loop μ-loop
-loop-again c = (turn-on (turn (c .before .before .before .before)) (c .before .before .before .type-of .ensures) (c .before .field-no .ensures) (c .if1 .left), omega arith)
+loop-again c = (turn-on readIdentity _ _ _ _ _ (c .before .before .before .before .before .before .before .count-of .ensures) _ (c .before .before .before .before .before .before .loop .inv .0) (c .before .before .before .before .before .loop-test .taken) _ (c .before .before .before .part-at .ensures) (c .before .before .before .before .type-of .ensures) (its-no _ _ _ (c .before .before .field-said .ensures)) (c .if1 .left), kinds-on (c .before .before .before .before .before .before .loop .inv .1) (omega (arith, c .before .before .before .before .before .before .before .count-of .ensures, c .before .before .before .before .before .loop-test .taken)) _ _ (c .before .before .before .before .type-of .ensures) (its-kind _ _ _ (c .before .before .field-said .ensures) ∙ ap (kindWithin (fieldType (c .before .before .before .before .type-of .result))) (its-part readIdentity _ _ _ _ _ (c .before .before .before .before .before .before .before .count-of .ensures) _ (c .before .before .before .before .before .before .loop .inv .0) (c .before .before .before .before .before .loop-test .taken) _ (c .before .before .before .part-at .ensures))), omega arith)
 
 returns-2 : tie.Need-returns-2 Inv-loop μ-loop
-returns-2 c = loop-done (head (c .before .before)) (c .before .loop .inv .0) (c .loop-test .left)
+returns-2 c = record { refusal = turn-done readIdentity _ _ _ _ _ (c .before .before .count-of .ensures) _ (c .before .loop .inv .0) (c .loop-test .left); all-kinds = λ z. kinds-done (c .before .loop .inv .1) (omega (arith, c .before .before .count-of .ensures, c .loop-test .left)) }
 
 pub record-fields-spec : {M : Type 1} → statement M
 record-fields-spec =
@@ -83,21 +66,16 @@ record-fields-spec =
     (tie.spec
     Inv-loop
     μ-loop
-    mark-of-requires
     count-of-requires
-    next-mark-requires
-    add-i
     loop-holds
-    next-mark-requires-2
     type-of-requires
-    sub-field-no
-    part-field-no-start
-    part-field-no-end
-    field-no-requires
+    part-at-requires
+    field-said-requires
+    mul-kinds
+    array-write-kinds
     add-j
-    cast-t16
+    cast-t15
     returns
-    add-i-2
     loop-less
     loop-again
     returns-2)

@@ -9,14 +9,14 @@ use borrow.Author.Tests.{not-true, not-false}
 use Rattle.text.proofs.Tests.{and-stop, and-on}
 use Rattle.text.specs.Text.{Bytes, same}
 use Rattle.format.specs.Kinds.{name, mark}
-use Rattle.table.specs.Table.{missingRow, ofRow, markOf, isKind}
+use Rattle.table.specs.Table.{rowCount, ofRow, markOf, isKind}
 use Rattle.table.proofs.Rows.{in-row}
 use borrow.Author.Needs.{needs}
 use Rattle.table.proofs.is_kind.Statement.{statement}
 use Rattle.table.proofs.is_kind.Tie as tie
 
 -- the test of a row, by its name and its mark
-both : (row : ℕ) (t : Bytes) (m : ℕ) → row < missingRow → ofRow (isKind t m) false row ≡ (ofRow (λ k. same t (name k)) false row && eqb m (markOf row))
+both : (row : ℕ) (t : Bytes) (m : ℕ) → row < rowCount → ofRow (isKind t m) false row ≡ (ofRow (λ k. same t (name k)) false row && eqb m (markOf row))
 both row t m h = in-row (isKind t m) false row h ∙ sym (ap₂ (λ (x : Bool) (y : ℕ). x && eqb m y) (in-row (λ k. same t (name k)) false row h) (in-row mark 0 row h))
 
 is-named-requires : tie.Need-is-named-requires

@@ -6,7 +6,7 @@ use mathlib.Core.Path.{_≡_, refl, sym, ap, _∙_}
 use lib.ListN.{take, drop}
 use Rattle.format.specs.Kinds.{allKinds}
 use Rattle.format.specs.Read.{kindIn}
-use Rattle.table.specs.Table.{missingRow, rowFor}
+use Rattle.table.specs.Table.{rowCount, rowFor}
 use Rattle.table.proofs.Search.{kind-search, search-hit, search-on, search-end, search-past}
 use borrow.Author.Needs.{needs}
 use Rattle.table.proofs.row_in.Statement.{statement}
@@ -16,7 +16,7 @@ abbrev Inv-loop : tie.InvT-loop
 Inv-loop title mark from to row₀ row = kindIn (drop row (take to allKinds)) title mark ≡ kindIn (drop from (take to allKinds)) title mark
 
 abbrev μ-loop : tie.MeasureT-loop
-μ-loop title mark from to row₀ row = missingRow - row
+μ-loop title mark from to row₀ row = rowCount - row
 
 loop-holds : tie.Need-loop-holds Inv-loop μ-loop
 loop-holds c = refl

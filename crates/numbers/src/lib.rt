@@ -1,0 +1,29 @@
+// The numbers given back: document 01, "Numbers given back". specs/Numbers.antt has them for definitions.
+
+pub const ACCEPTED: u8 = 0;
+
+pub const TOO_LONG: u8 = 1;
+
+pub const UNKNOWN_KIND: u8 = 2;
+
+pub const MISSING_CHECK: u8 = 3;
+
+pub const WRONG_CHECK: u8 = 4;
+
+pub const WRONG_COUNT: u8 = 5;
+
+pub const WRONG_TEXT: u8 = 6;
+
+pub const WRONG_IDENTITY: u8 = 7;
+
+pub const UNPAIRED: u8 = 8;
+
+pub const WRONG_KIND: u8 = 9;
+
+pub const SHORT_OUTPUT: u8 = 10;
+
+pub const UNFINISHED: u8 = 11;
+
+pub const MISSING_ITEM: u8 = 12;
+
+pub const NOT_ALIKE: u8 = 13;

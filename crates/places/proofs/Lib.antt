@@ -1,0 +1,3 @@
+pub mod Seven
+mod Walk
+pub mod Stands

@@ -1,0 +1,57 @@
+-- Where the fields of a record stand: document 01, "Seven kinds of record". Fields are handed back as parts of the caller's own
+-- bytes, each behind the kind's name and the fields before it, with their marks.
+-- Assumes nothing.
+use Prim.Native.Nat.{ℕ, zero, suc, _+_}
+use mathlib.Core.Bool.{cond, _&&_}
+use mathlib.Core.List.{List, [], _∷_}
+use lib.ListN.{length, take, drop, getD, replicate}
+use lib.Seq.{sets}
+use lib.Dec.{leb, ltb}
+use Rattle.text.specs.Text.{Bytes}
+use Rattle.format.specs.Kinds.{Kind, name}
+use Rattle.format.specs.Read.{cut}
+use Rattle.frame.specs.Frame.{nextMark}
+use Rattle.places.specs.declared.Places.{Places}
+
+-- ---- starts and lengths
+
+-- of the fields fs, each with its mark behind it, where the first starts at i
+abbrev pub startsFrom : ℕ → List Bytes → List ℕ
+startsFrom i [] = []
+startsFrom i (f ∷ fs) = i ∷ startsFrom (i + length f + 1) fs
+
+abbrev pub lengths : List Bytes → List ℕ
+lengths [] = []
+lengths (f ∷ fs) = length f ∷ lengths fs
+
+-- seven numbers, d where ns has no more
+abbrev pub seven : ℕ → List ℕ → List ℕ
+seven d ns = sets (replicate 7 d) 0 ns
+
+-- the first field stands behind the kind's name and its mark
+abbrev pub startsOf : Kind → List Bytes → List ℕ
+startsOf k fs = seven 0 (startsFrom (length (name k) + 1) fs)
+
+abbrev pub lensOf : List Bytes → List ℕ
+lensOf fs = seven 0 (lengths fs)
+
+-- ---- the calls
+
+-- the places of the parts of the body b but for the first
+unfoldable pub placesOf : ℕ → Bytes → Places
+placesOf m b = record { starts = seven 0 (startsFrom (nextMark m b 0 + 1) (drop 1 (cut m b))); lens = lensOf (drop 1 (cut m b)) }
+
+-- what stands at place j, from 0; empty where that is no part of s
+unfoldable pub partAt : Bytes → List ℕ → List ℕ → ℕ → Bytes
+partAt s starts lens j =
+    cond (ltb j 7 && leb (getD starts j 0 + getD lens j 0) (length s)) (take (getD lens j 0) (drop (getD starts j 0) s)) []
+
+-- the field of this number, from 1
+unfoldable pub fieldAt : Bytes → List ℕ → List ℕ → ℕ → Bytes
+fieldAt s starts lens zero = []
+fieldAt s starts lens (suc j) = partAt s starts lens j
+
+-- the parts at n places from place j on
+abbrev pub partsFrom : Bytes → List ℕ → List ℕ → ℕ → ℕ → List Bytes
+partsFrom s starts lens j zero = []
+partsFrom s starts lens j (suc n) = partAt s starts lens j ∷ partsFrom s starts lens (suc j) n

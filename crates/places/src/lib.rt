@@ -1,0 +1,64 @@
+// Where the fields of a record stand: their starts and their lengths in the caller's bytes, found in one walk. Whoever needs
+// a field of what was read takes it from there. No call has a `requires`.
+ghost use mathlib.Core.Path.{_≡_};
+ghost use Rattle.places.specs.Places.{placesOf, partAt, fieldAt};
+
+// No kind has more fields.
+pub const MOST: usize = 7;
+
+// The starts and the lengths of the fields from left to right; 0 where there is no more field.
+pub struct Places {
+    pub starts: [usize; 7],
+    pub lens: [usize; 7],
+}
+
+// The places of the fields of a body: of its parts but for the first, which is the kind's name. Where there are more than
+// seven, the first seven.
+pub fn places_of(mark: u8, body: &[u8]) -> Places
+    ensures { λ r. ⌜ r ≡ placesOf mark (now (body .entry)) ⌝ }
+{
+    let mut starts = [0; 7];
+    let mut lens = [0; 7];
+    let mut j: usize = 0;
+    let mut i = frame::next_mark(mark, body, 0) + 1;
+    while j < MOST {
+        if body.len() <= i {
+            return Places { starts, lens };
+        }
+        let end = frame::next_mark(mark, body, i);
+        starts[j] = i;
+        lens[j] = end - i;
+        j += 1;
+        i = end + 1;
+    }
+    Places { starts, lens }
+}
+
+// The part of s that stands at place j, from 0; an empty one where there is no such place, or where it is none of s.
+pub fn part_at<'a>(s: &'a [u8], starts: &[usize; 7], lens: &[usize; 7], j: usize) -> &'a [u8]
+    ensures { λ r. ⌜ now r ≡ partAt (now (s .entry)) (now (starts .entry)) (now (lens .entry)) j ⌝ }
+{
+    if MOST <= j {
+        return &s[0..0];
+    }
+    let start = starts[j];
+    let len = lens[j];
+    if s.len() < start {
+        return &s[0..0];
+    }
+    if s.len() - start < len {
+        return &s[0..0];
+    }
+    let end = start + len;
+    &s[start..end]
+}
+
+// The field of this number, from 1 as document 01 counts; an empty part where there is none.
+pub fn field_at<'a>(s: &'a [u8], starts: &[usize; 7], lens: &[usize; 7], number: usize) -> &'a [u8]
+    ensures { λ r. ⌜ now r ≡ fieldAt (now (s .entry)) (now (starts .entry)) (now (lens .entry)) number ⌝ }
+{
+    if number == 0 {
+        return &s[0..0];
+    }
+    part_at(s, starts, lens, number - 1)
+}
