@@ -67,7 +67,7 @@ pub fn identity_place(identity: &[u8], wanted: usize) -> Place
 }
 
 // The same of a record of the kinds in the table's rows from `from` to before `to`.
-pub fn place_of(from: usize, to: usize, record: &[u8], wanted: usize) -> Place
+fn place_of(from: usize, to: usize, record: &[u8], wanted: usize) -> Place
     ensures { λ r. ⌜ Placed (readOf (kindsFrom from to) (now («record» .entry))) wanted (now («record» .entry)) r ⌝ }
 {
     place_from(reading::read_of(from, to, record), wanted)
@@ -105,7 +105,7 @@ pub fn identity_field<'a>(
 }
 
 // The same of a record, with the numbers that `read_of` answers.
-pub fn field_of<'a>(
+fn field_of<'a>(
     from: usize,
     to: usize,
     record: &'a [u8],

@@ -120,7 +120,7 @@ pub fn count_fields(mark: u8, body: &[u8]) -> usize
 
 // Where part n, from 0, begins: behind the parts before it, each with its mark. Where there are not so many, behind the
 // last.
-pub fn part_start(mark: u8, s: &[u8], n: usize) -> usize
+fn part_start(mark: u8, s: &[u8], n: usize) -> usize
     ensures { λ r. ⌜ r ≡ partStart mark (now (s .entry)) n ⌝ }
 {
     let mut k: usize = 0;

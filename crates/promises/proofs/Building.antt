@@ -12,7 +12,8 @@ use Rattle.format.specs.Read.{Outcome, accepted, refused, answer}
 use Rattle.format.proofs.Exactly.{identity-exact, record-exact}
 use Rattle.put.specs.Made.{Made, made, says, leaves, Writes}
 use Rattle.put.specs.declared.Written.{Written}
-use Rattle.building.specs.Building.{run, lengths, buildOf, recordMade, build}
+use Rattle.building.specs.Building.{run, buildOf, recordMade, build}
+use Rattle.places.specs.Places.{lengths}
 use Rattle.building.proofs.Exact.{build-exact, build-honest, rebuilt}
 use Rattle.promises.specs.Building.{BuildSaid, Building}
 

@@ -15,7 +15,8 @@ use Rattle.format.specs.Build.{recordOf, Permitted}
 use Rattle.format.specs.Read.{accepted, readIdentity, readRecord}
 use Rattle.put.specs.Made.{made}
 use Rattle.put.specs.declared.Written.{Written}
-use Rattle.building.specs.Building.{run, lengths, build, Builds}
+use Rattle.building.specs.Building.{run, build, Builds}
+use Rattle.places.specs.Places.{lengths}
 use Rattle.building.proofs.build.Reads as call
 use Rattle.promises.specs.Calls.{Holds}
 

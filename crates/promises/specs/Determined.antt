@@ -24,7 +24,6 @@ use Rattle.table.proofs.mark_of.Reads as mark-of
 use Rattle.table.proofs.count_of.Reads as count-of
 use Rattle.table.proofs.type_of.Reads as type-of
 use Rattle.table.proofs.is_pubkey.Reads as is-pubkey
-use Rattle.table.proofs.row_in.Reads as row-in
 use Rattle.table.proofs.identity_kind.Reads as identity-kind
 use Rattle.table.proofs.record_kind.Reads as record-kind
 use Rattle.table.proofs.kind_named.Reads as kind-named
@@ -35,20 +34,19 @@ use Rattle.frame.proofs.title_of.Reads as title-of
 use Rattle.frame.proofs.mark_after.Reads as mark-after
 use Rattle.frame.proofs.next_mark.Reads as next-mark
 use Rattle.frame.proofs.count_fields.Reads as count-fields
-use Rattle.frame.proofs.part_start.Reads as part-start
 use Rattle.frame.proofs.part.Reads as part
 use Rattle.frame.proofs.body_of.Reads as body-of
 use Rattle.frame.proofs.check_no.Reads as check-no
+use Rattle.places.proofs.places_of.Reads as places-of
+use Rattle.places.proofs.part_at.Reads as part-at
+use Rattle.places.proofs.field_at.Reads as field-at
 use Rattle.reading.proofs.read_identity.Reads as read-identity
-use Rattle.reading.proofs.field_no.Reads as field-no
-use Rattle.reading.proofs.whole_no.Reads as whole-no
+use Rattle.reading.proofs.judge.Reads as judge
 use Rattle.reading.proofs.read_of.Reads as read-of
 use Rattle.reading.proofs.read_record.Reads as read-record
 use Rattle.fields.proofs.identity_place.Reads as identity-place
-use Rattle.fields.proofs.place_of.Reads as place-of
 use Rattle.fields.proofs.record_place.Reads as record-place
 use Rattle.fields.proofs.identity_field.Reads as identity-field
-use Rattle.fields.proofs.field_of.Reads as field-of
 use Rattle.fields.proofs.record_field.Reads as record-field
 use Rattle.put.proofs.put.Reads as put
 use Rattle.put.proofs.put_byte.Reads as put-byte
@@ -106,7 +104,6 @@ pub record Determined : Type 0 where
   pub count-of : OneAnswer count-of.Post
   pub type-of : OneAnswer type-of.Post
   pub is-pubkey : OneAnswer is-pubkey.Post
-  pub row-in : OneAnswer row-in.Post
   pub identity-kind : OneAnswer identity-kind.Post
   pub record-kind : OneAnswer record-kind.Post
   pub kind-named : OneAnswer kind-named.Post
@@ -118,25 +115,24 @@ pub record Determined : Type 0 where
   pub mark-after : OneAnswer mark-after.Post
   pub next-mark : OneAnswer next-mark.Post
   pub count-fields : OneAnswer count-fields.Post
-  pub part-start : OneAnswer part-start.Post
   pub part : OnePart part.Post
   pub body-of : OnePart body-of.Post
   pub check-no : OneAnswer check-no.Post
+  -- places
+  pub places-of : OneAnswer places-of.Post
+  pub part-at : OnePart part-at.Post
+  pub field-at : OnePart field-at.Post
   -- reading
   pub read-identity : OneAnswer read-identity.Post
-  pub field-no : OneAnswer field-no.Post
-  pub whole-no : OneAnswer whole-no.Post
+  pub judge : OneAnswer judge.Post
   pub read-of : OneAnswer read-of.Post
   pub read-record : OneAnswer read-record.Post
+  -- fields
   pub identity-place : OneAnswer identity-place.Post
-  pub place-of : OneAnswer place-of.Post
   pub record-place : OneAnswer record-place.Post
   pub identity-field-part : OnePart identity-field.Post
   pub identity-field-no : OneLeft identity-field.Post (λ κs s. now (s .1 .1 .0))
   pub identity-field-field : OneLeft identity-field.Post (λ κs s. now (s .1 .1 .1 .0))
-  pub field-of-part : OnePart field-of.Post
-  pub field-of-no : OneLeft field-of.Post (λ κs s. now (s .1 .1 .1 .1 .0))
-  pub field-of-field : OneLeft field-of.Post (λ κs s. now (s .1 .1 .1 .1 .1 .0))
   pub record-field-part : OnePart record-field.Post
   pub record-field-no : OneLeft record-field.Post (λ κs s. now (s .1 .1 .0))
   pub record-field-field : OneLeft record-field.Post (λ κs s. now (s .1 .1 .1 .0))
@@ -164,12 +160,12 @@ pub record Determined : Type 0 where
   pub line-at : OneAnswer line-at.Post
   pub count : OneAnswer count.Post
   pub step-from : OneAnswer step-from.Post
-  -- listing
+  -- list_text
   pub line-text-said : OneAnswer line-text.Post
   pub line-text-out : OneLeft line-text.Post (λ κs s. now (s .1 .1 .1 .1 .0))
   pub end-text-said : OneAnswer end-text.Post
   pub end-text-out : OneLeft end-text.Post (λ κs s. now (s .1 .1 .0))
-  -- printing
+  -- list_printing
   pub print-list : OneAnswer print-list.Post
   -- subjects
   pub are-alike : OneAnswer are-alike.Post

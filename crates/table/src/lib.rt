@@ -219,7 +219,7 @@ fn is_kind(row: usize, title: &[u8], mark: u8) -> bool
 }
 
 // The row from `from` to before `to` that has this name and this mark, or NONE.
-pub fn row_in(title: &[u8], mark: u8, from: usize, to: usize) -> usize
+fn row_in(title: &[u8], mark: u8, from: usize, to: usize) -> usize
     ensures { λ r. ⌜ r ≡ rowFor (kindIn (drop from (take to allKinds)) (now (title .entry)) mark) ⌝ }
 {
     let mut row = from;
