@@ -21,7 +21,7 @@ use Rattle.table.specs.Table.{rowOf, countOf}
 use Rattle.table.proofs.Rows.{of-kind}
 use Rattle.table.proofs.Arrays.{count-few}
 use Rattle.places.specs.Places.{startsOf, lensOf}
-use Rattle.places.proofs.Stands.{record-start, record-len, record-stands}
+use Rattle.places.proofs.Stands.{record-start, record-place}
 use Rattle.reading.specs.Reading.{answerOf}
 use Rattle.fields.specs.Fields.{wantedPart, wantedNo, wantedStart, Placed, FieldSaid}
 use Rattle.fields.specs.Steps.{Reads, identity, records, Handed}
@@ -106,12 +106,8 @@ module _ (s : Bytes) (wanted : ℕ) where
     here (suc v) h =
         let e : suc v - 1 ≡ v = omega arith in
         let l : v < length fs = omega (arith, leb→le (suc v) (length fs) (and-yes (leb 1 (suc v)) (leb (suc v) (length fs)) h .1)) in
-        let stands = record-stands k s fs few (its-parts b) v l in
-        record {
-          start = rw e (record-start k s fs few (its-parts b) v l);
-          within = rw (e, record-len k s fs few (its-parts b) v) (stands .within);
-          bytes = rw (e, record-len k s fs few (its-parts b) v) (stands .bytes);
-        }
+        let place = record-place k s fs few (its-parts b) v in
+        record { start = rw e (record-start k s fs few (its-parts b) v l); within = rw e (place .0); bytes = rw e (place .1) }
 
   there-said : (o : Outcome) (ks : List Kind) → Honest (Built ks s) o → (a : Answer) → a ≡ answerOf o → wantedNo o wanted ≡ 0 → (i n : ℕ)
       → i ≡ getD (a .starts) (wanted - 1) 0 → n ≡ getD (a .lens) (wanted - 1) 0

@@ -104,22 +104,18 @@ module _ (s : Bytes) (ss : List ℕ) (fs : List Bytes) (few : length fs ≤ 7) (
   pub len-at : (j : ℕ) → getD (lensOf fs) j 0 ≡ length (getD fs j [])
   len-at j = seven-at 0 (lengths fs) (omega (arith, lengths-count fs)) j ∙ lengths-at fs j
 
-  pub part-at : (j : ℕ) → partAt s (seven 0 ss) (lensOf fs) j ≡ getD fs j []
-  part-at j = less-or j (length fs) there past
+  -- behind the last field stand start 0 and length 0
+  pub place-at : (j : ℕ) → (getD (seven 0 ss) j 0 + getD (lensOf fs) j 0 ≤ length s) × (take (getD (lensOf fs) j 0) (drop (getD (seven 0 ss) j 0) s) ≡ getD fs j [])
+  place-at j = rw (start-at j, len-at j) (less-or j (length fs) (λ h. (all j h .within, all j h .bytes)) past)
     where
-      there : j < length fs → partAt s (seven 0 ss) (lensOf fs) j ≡ getD fs j []
-      there h =
-          sym (at-there s (seven 0 ss) (lensOf fs) j (omega (arith, few)) (rw (start-at j, len-at j) (all j h .within)))
-          ∙ rw (start-at j, len-at j) (all j h .bytes)
+      past : length fs ≤ j → (getD ss j 0 + length (getD fs j []) ≤ length s) × (take (length (getD fs j [])) (drop (getD ss j 0) s) ≡ getD fs j [])
+      past h = rw (List·getD-eq-default fs [] {n = j} h, List·getD-eq-default ss 0 {n = j} (omega (arith, as-many))) (omega arith, refl)
 
-      -- behind the last field stand start 0 and length 0
-      past : length fs ≤ j → partAt s (seven 0 ss) (lensOf fs) j ≡ getD fs j []
-      past h =
-          let z : getD fs j [] ≡ [] = List·getD-eq-default fs [] {n = j} h in
-          let y : getD ss j 0 ≡ 0 = List·getD-eq-default ss 0 {n = j} (omega (arith, as-many)) in
-          less-or j 7
-          (λ l. sym (at-there s (seven 0 ss) (lensOf fs) j l (rw (start-at j, len-at j, z, y) (omega arith))) ∙ rw (len-at j, z))
-          (λ l. sym (at-past s (seven 0 ss) (lensOf fs) j l) ∙ sym z)
+  pub part-at : (j : ℕ) → partAt s (seven 0 ss) (lensOf fs) j ≡ getD fs j []
+  part-at j =
+      less-or j 7
+      (λ l. sym (at-there s (seven 0 ss) (lensOf fs) j l (place-at j .0)) ∙ place-at j .1)
+      (λ l. sym (at-past s (seven 0 ss) (lensOf fs) j l) ∙ sym (List·getD-eq-default fs [] {n = j} (omega (arith, few))))
 
 -- ---- the parts at several places
 
@@ -184,8 +180,8 @@ module _ (k : Kind) (s : Bytes) (fs : List Bytes) (few : length fs ≤ 7) (parts
   pub record-len : (j : ℕ) → getD (lensOf fs) j 0 ≡ length (getD fs j [])
   record-len = len-at s (startsFrom (length (name k) + 1) fs) fs few (starts-count _ fs) in-record
 
-  pub record-stands : (j : ℕ) → j < length fs → Stands s (getD (startsOf k fs) j 0) (getD fs j [])
-  record-stands j h = rw (start-at s (startsFrom (length (name k) + 1) fs) fs few (starts-count _ fs) in-record j) (in-record j h)
+  pub record-place : (j : ℕ) → (getD (startsOf k fs) j 0 + getD (lensOf fs) j 0 ≤ length s) × (take (getD (lensOf fs) j 0) (drop (getD (startsOf k fs) j 0) s) ≡ getD fs j [])
+  record-place = place-at s (startsFrom (length (name k) + 1) fs) fs few (starts-count _ fs) in-record
 
   -- the part at place j is field j, and empty where there is none
   pub record-part : (j : ℕ) → partAt s (startsOf k fs) (lensOf fs) j ≡ getD fs j []

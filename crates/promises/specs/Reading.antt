@@ -8,14 +8,15 @@ use mathlib.Core.Path.{_≡_}
 use mathlib.Core.Logic.{_↔_, _≢_}
 use mathlib.Core.Bool.{cond, not}
 use mathlib.Core.List.{List, [], _∷_}
-use lib.ListN.{length, getD}
+use lib.ListN.{length, take, drop, getD, replicate}
 use lib.Dec.{T}
 use denote.Ref.{RefT, now}
-use Rattle.text.specs.Text.{Bytes, between}
+use Rattle.text.specs.Text.{Bytes, between, Ident}
 use Rattle.numbers.specs.Numbers.{missingItem}
-use Rattle.format.specs.Kinds.{Kind, name, identityKinds, recordKinds, pubkeyKinds, among}
+use Rattle.format.specs.Kinds.{Kind, Text, name, fieldsOf, identityKinds, recordKinds, pubkeyKinds, among}
 use Rattle.format.specs.Build.{recordOf, empty, Permitted, Built}
-use Rattle.table.specs.Table.{rowOf}
+use Rattle.table.specs.Table.{rowOf, missingRow}
+use Rattle.reading.specs.Reading.{kindWithin}
 use Rattle.reading.specs.declared.Answer.{Answer}
 use Rattle.reading.proofs.read_identity.Reads as read-identity
 use Rattle.reading.proofs.read_record.Reads as read-record
@@ -31,6 +32,21 @@ Exactly {K} {A} {S} Q bytes ks =
 abbrev pub SaysKind : {K : Type 0} {A S : K → Type 0} → ((κs : K) → A κs → Answer → S κs → Type 0) → ((κs : K) → A κs → Bytes) → List Kind → Type 0
 SaysKind {K} {A} {S} Q bytes ks =
     (κs : K) (a : A κs) (r : Answer) (s : S κs) → Q κs a r s → (k : Kind) (fs : List Bytes) → Built ks (bytes κs a) k fs → r .kind ≡ rowOf k
+
+-- and the places of all fields: at each stands the field, and nothing past the last; the kind of each identity is told
+abbrev pub SaysPlaces : {K : Type 0} {A S : K → Type 0} → ((κs : K) → A κs → Answer → S κs → Type 0) → ((κs : K) → A κs → Bytes) → List Kind → Type 0
+SaysPlaces {K} {A} {S} Q bytes ks =
+    (κs : K) (a : A κs) (r : Answer) (s : S κs) → Q κs a r s → (k : Kind) (fs : List Bytes) → Built ks (bytes κs a) k fs
+    → (j : ℕ)
+    → (getD (r .starts) j 0 + getD (r .lens) j 0 ≤ length (bytes κs a))
+    × (take (getD (r .lens) j 0) (drop (getD (r .starts) j 0) (bytes κs a)) ≡ getD fs j [])
+    × (getD (r .kinds) j missingRow ≡ kindWithin (getD (fieldsOf k) j (Text Ident)) (getD fs j []))
+
+-- demand 1: with another number than 0 all of them are 0, and no kind is told
+abbrev pub NoPlaces : {K : Type 0} {A S : K → Type 0} → ((κs : K) → A κs → Answer → S κs → Type 0) → Type 0
+NoPlaces {K} {A} {S} Q =
+    (κs : K) (a : A κs) (r : Answer) (s : S κs) → Q κs a r s → r .no ≢ 0
+    → (r .kind ≡ missingRow) × (r .starts ≡ replicate 7 0) × (r .lens ≡ replicate 7 0) × (r .kinds ≡ replicate 7 missingRow)
 
 -- the call Q for the field number `wanted` hands back that field, with number 0, and nothing, with 12, where the kind hasn't it
 abbrev pub HandsBack : {K : Type 0} {A S : K → Type 0} → ((κs : K) → A κs → RefT Bytes → S κs → Type 0)
@@ -48,6 +64,10 @@ pub record Reading : Type 0 where
   pub record-exactly : Exactly read-record.Post (λ κs a. now (a .0)) recordKinds
   pub identity-kind : SaysKind read-identity.Post (λ κs a. now (a .0)) identityKinds
   pub record-kind : SaysKind read-record.Post (λ κs a. now (a .0)) recordKinds
+  pub identity-places : SaysPlaces read-identity.Post (λ κs a. now (a .0)) identityKinds
+  pub record-places : SaysPlaces read-record.Post (λ κs a. now (a .0)) recordKinds
+  pub identity-no-places : NoPlaces read-identity.Post
+  pub record-no-places : NoPlaces read-record.Post
   pub identity-fields : HandsBack identity-field.Post (λ κs a. now (a .0)) (λ κs a. a .1 .0) (λ κs s. now (s .1 .1 .0)) identityKinds
   pub record-fields : HandsBack record-field.Post (λ κs a. now (a .0)) (λ κs a. a .1 .0) (λ κs s. now (s .1 .1 .0)) recordKinds
   pub identity-nothing : NothingRefused identity-field.Post (λ κs s. now (s .1 .1 .0))

@@ -1,10 +1,11 @@
 -- One field by the code of its type: what a text is answered, and an identity.
 -- Assumes nothing.
-use Prim.Native.Nat.{ℕ, _≤_, _<_}
+use Prim.Native.Nat.{ℕ, zero, suc, _+_, _≤_, _<_}
 use mathlib.Core.Path.{_≡_, refl, ap, sym, _∙_}
 use mathlib.Core.Bool.{Bool, true, false, true≢false, false≢true, cond, not, _&&_, and-true, and-false}
 use mathlib.Core.List.{List, [], _∷_}
 use native.Mathlib.Omega.{arith}
+use native.Mathlib.Nat.{add-zero}
 use lib.ListN.{length, getD}
 use lib.Dec.{T, eqb, eqb·suc-zero}
 use mir.Facts.{and-yes}
@@ -16,10 +17,12 @@ use Rattle.format.specs.Build.{empty}
 use Rattle.format.specs.Read.{Outcome, accepted, refused, fieldAnswer, identityAnswer, readOver, readIdentity}
 use Rattle.format.proofs.Table.{identity-row}
 use Rattle.format.proofs.Outcomes.{Honest}
-use Rattle.table.specs.Table.{missingRow, fieldsAt, fieldType, TypeOf, isIdentity, mayBeEmpty, permitted, rowAmong}
-use Rattle.table.proofs.Rows.{kindAt, in-row, among-row}
+use Rattle.table.specs.Table.{rowOf, missingRow, fieldsAt, fieldType, TypeOf, isIdentity, mayBeEmpty, permitted, rowAmong}
+use Rattle.table.proofs.Rows.{kindAt, in-row, of-kind, among-row}
+use Rattle.table.proofs.Arrays.{count-few}
 use Rattle.table.proofs.Codes.{codeCount, past-codes, identity-codes}
-use Rattle.reading.specs.Reading.{kindSaid, kindWithin, answerOf}
+use Rattle.places.proofs.Seven.{seven-at}
+use Rattle.reading.specs.Reading.{kindSaid, kindWithin, kindsWithin, kindsOf, answerOf}
 use Rattle.reading.specs.Steps.{textIn}
 use Rattle.reading.specs.declared.Answer.{Answer}
 use Rattle.reading.proofs.Answers.{taken, untaken}
@@ -72,6 +75,23 @@ module _ (f : Bytes) where
   kind-text (Text t) e = refl
   kind-text (Identity ks) e = absurd (true≢false e)
   kind-text (OrEmpty t) e = kind-text t e
+
+kinds-from : (i : ℕ) (ts : List Field) (fs : List Bytes) (j : ℕ) → getD (kindsWithin i ts fs) j missingRow ≡ kindWithin (getD ts j (Text Ident)) (getD fs (i + j) [])
+unfolding kindWithin
+kinds-from i [] fs j = refl
+kinds-from i (t ∷ ts) fs zero = rw add-zero
+kinds-from i (t ∷ ts) fs (suc j) = let e : i + suc j ≡ suc i + j = omega arith in rw e (kinds-from (suc i) ts fs j)
+
+kinds-count : (i : ℕ) (ts : List Field) (fs : List Bytes) → length (kindsWithin i ts fs) ≡ length ts
+kinds-count i [] fs = refl
+kinds-count i (t ∷ ts) fs = ap suc (kinds-count (suc i) ts fs)
+
+pub kinds-at : (k : Kind) (fs : List Bytes) (j : ℕ) → getD (kindsOf k fs) j missingRow ≡ kindWithin (getD (fieldsOf k) j (Text Ident)) (getD fs j [])
+unfolding kindsOf
+kinds-at k fs j =
+    let e : 0 + j ≡ j = omega arith in
+    seven-at missingRow (kindsWithin 0 (fieldsOf k) fs) (omega (arith, kinds-count 0 (fieldsOf k) fs, of-kind (λ i. length (fieldsOf i)) 0 k, count-few (rowOf k))) j
+    ∙ rw e at (kinds-from 0 (fieldsOf k) fs j)
 
 -- ---- the fields of an identity are texts
 
