@@ -43,11 +43,12 @@ const fn eight(mut state: u16) -> u16 {
 fn crc_of(bytes: &[u8]) -> u16 {
     let mut steps = bytes.chunks_exact(STEP);
     let state = steps.by_ref().fold(0xFFFF_u16, |state, step| {
+        // What does not wait for the state before goes first.
+        let rest = TABLES[..STEP - 2].iter().rev().zip(&step[2..]);
+        let mixed = rest.fold(0, |mixed, (table, &byte)| mixed ^ table[usize::from(byte)]);
         let [low, high] = state.to_le_bytes();
-        let mixed =
-            TABLES[15][usize::from(step[0] ^ low)] ^ TABLES[14][usize::from(step[1] ^ high)];
-        let rest = TABLES[..14].iter().rev().zip(&step[2..]);
-        rest.fold(mixed, |mixed, (table, &byte)| mixed ^ table[usize::from(byte)])
+        let (first, second) = (usize::from(step[0] ^ low), usize::from(step[1] ^ high));
+        mixed ^ (TABLES[STEP - 1][first] ^ TABLES[STEP - 2][second])
     });
     let rest = steps.remainder().iter();
     rest.fold(state, |state, &byte| (state >> 8) ^ TABLES[0][usize::from(state as u8 ^ byte)])
