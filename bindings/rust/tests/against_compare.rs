@@ -347,8 +347,11 @@ fn items() {
                 random.bytes(length)
             })
             .collect();
-        let items: Vec<&[u8]> = items.iter().map(Vec::as_slice).collect();
-        let mut text = agreement::join(&items);
+        let mut text = vec![count as u8];
+        for item in &items {
+            text.push(item.len() as u8);
+            text.extend_from_slice(item);
+        }
         match random.below(4) {
             0 => text = sample::damaged_anywhere(&mut random, &text, 1),
             1 => text.truncate(random.below(text.len() + 1)),
