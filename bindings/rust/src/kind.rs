@@ -1,9 +1,17 @@
 //! The kinds of record.
 
-use std::fmt;
+use core::fmt;
 
 /// A kind of record, in the order of the table of kinds.
+///
+/// ```
+/// use obscurlane::Kind;
+///
+/// assert_eq!(Kind::Response.name(), "VKLOAD.RESP.1");
+/// assert_eq!(Kind::Response.fields(), ["ID_KMC", "ID_SM", "TVP", "MacTag"]);
+/// ```
 #[derive(Clone, Copy, Debug, PartialEq, Eq, PartialOrd, Ord, Hash)]
+#[non_exhaustive]
 pub enum Kind {
     /// `SMMAN.1`, the identity of a manufacturer.
     Smman,
@@ -22,8 +30,8 @@ pub enum Kind {
 }
 
 impl Kind {
-    /// All kinds, each at the index of its row.
-    pub const ALL: [Kind; 7] = [
+    /// All kinds, each at the index that is its number in the C interface.
+    pub const ALL: &'static [Kind] = &[
         Kind::Smman,
         Kind::Smid,
         Kind::Kmcid,
@@ -33,9 +41,9 @@ impl Kind {
         Kind::Response,
     ];
 
-    /// The name that stands at the front of a record and that [`build`](crate::build) is given.
+    /// The name that stands at the front of a record.
     #[must_use]
-    pub fn name(self) -> &'static str {
+    pub const fn name(self) -> &'static str {
         match self {
             Kind::Smman => "SMMAN.1",
             Kind::Smid => "SMID.1",
@@ -47,16 +55,23 @@ impl Kind {
         }
     }
 
-    /// The row in the table of kinds.
+    /// The names of the fields, in order: the first is field 1.
     #[must_use]
-    pub fn row(self) -> usize {
-        self as usize
+    pub const fn fields(self) -> &'static [&'static str] {
+        match self {
+            Kind::Smman | Kind::Smid | Kind::Kmcid => {
+                &["Manufacturer", "MID", "GNT", "Fingerprint"]
+            }
+            Kind::Ecdsa | Kind::Ecdh => &["Subject", "Q", "Expiry", "Issuer", "Signature"],
+            Kind::Request => &["ID_SM", "ID_KMC", "TVP", "HWID", "FWID", "QE", "MacTag"],
+            Kind::Response => &["ID_KMC", "ID_SM", "TVP", "MacTag"],
+        }
     }
 
-    /// The kind of this row.
-    #[must_use]
-    pub fn from_row(row: usize) -> Option<Kind> {
-        Kind::ALL.get(row).copied()
+    /// The kind of this number of the C interface; none for a number that is no kind's.
+    #[inline]
+    pub(crate) fn from_number(number: usize) -> Option<Kind> {
+        Kind::ALL.get(number).copied()
     }
 }
 

@@ -19,9 +19,3 @@ pub const LONGEST_SHARED_INFO: usize = header::LONGEST_SHARED_INFO;
 pub const LONGEST_MODULE_TEXT: usize = header::LONGEST_MODULE_TEXT;
 /// The longest centre text.
 pub const LONGEST_CENTRE_TEXT: usize = header::LONGEST_CENTRE_TEXT;
-/// The longest line of a list, its line feed included.
-pub const LONGEST_LINE_TEXT: usize = header::LONGEST_LINE_TEXT;
-/// The longest end of a list, its line feed included.
-pub const LONGEST_END_TEXT: usize = header::LONGEST_END_TEXT;
-/// The longest file that is listed.
-pub const LONGEST_LISTED: usize = header::LONGEST_LISTED;

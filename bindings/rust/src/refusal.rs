@@ -1,12 +1,20 @@
-//! The numbers given back.
+//! Why a call refuses.
 
-use std::error::Error;
-use std::fmt;
-use std::num::NonZeroU8;
+use core::error::Error;
+use core::fmt;
 
-/// Why a call refuses: the numbers of the record layer, 1 to 13.
+/// Why a call refuses: the numbers of the record layer, from 1.
+///
+/// ```
+/// use obscurlane::Reason;
+///
+/// assert_eq!(Reason::WrongCheck.number(), 4);
+/// assert_eq!(Reason::WrongCheck.to_string(), "the check differs");
+/// assert_eq!(Reason::from_number(4), Some(Reason::WrongCheck));
+/// ```
 #[derive(Clone, Copy, Debug, PartialEq, Eq, PartialOrd, Ord, Hash)]
 #[repr(u8)]
+#[non_exhaustive]
 pub enum Reason {
     /// 1: the record or identity to read is longer than 1,024 bytes.
     TooLong = 1,
@@ -39,7 +47,7 @@ pub enum Reason {
 
 impl Reason {
     /// All reasons, in the order of their numbers.
-    pub const ALL: [Reason; 13] = [
+    pub const ALL: &'static [Reason] = &[
         Reason::TooLong,
         Reason::UnknownKind,
         Reason::MissingCheck,
@@ -55,67 +63,86 @@ impl Reason {
         Reason::NotAlike,
     ];
 
-    /// The number, 1 to 13.
+    /// The number, from 1.
     #[must_use]
-    pub fn number(self) -> u8 {
+    pub const fn number(self) -> u8 {
         self as u8
     }
 
-    /// The reason of this number; none for 0, which is accepted, and beyond 13.
+    /// The reason of this number; none for 0, which is accepted, and for a number that no reason has.
     #[must_use]
     pub fn from_number(number: u8) -> Option<Reason> {
         let index = usize::from(number).checked_sub(1)?;
         Reason::ALL.get(index).copied()
     }
+
+    /// What is wrong, as a sentence without its point.
+    #[must_use]
+    pub const fn sentence(self) -> &'static str {
+        match self {
+            Reason::TooLong => "the record is longer than 1,024 bytes",
+            Reason::UnknownKind => "it is of no kind that is read or built here",
+            Reason::MissingCheck => {
+                "it does not end in its mark and a check of four HEX characters"
+            }
+            Reason::WrongCheck => "the check differs",
+            Reason::WrongCount => "the number of fields is wrong, or their lengths do not add up",
+            Reason::WrongText => "a field is not of its text type",
+            Reason::WrongIdentity => "an identity field is not an accepted identity",
+            Reason::Unpaired => "one of Issuer and Signature is empty and the other is not",
+            Reason::WrongKind => "an identity field is of a kind not permitted there",
+            Reason::ShortOutput => "the output is too short",
+            Reason::Unfinished => "the last line of the file has no line feed",
+            Reason::MissingItem => {
+                "there is no such field or item, or the bytes are no key agreement text"
+            }
+            Reason::NotAlike => "the Subjects of the two keys differ in kind, Manufacturer or MID",
+        }
+    }
 }
 
 impl fmt::Display for Reason {
     fn fmt(&self, f: &mut fmt::Formatter<'_>) -> fmt::Result {
-        f.write_str(match self {
-            Reason::TooLong => "longer than 1,024 bytes",
-            Reason::UnknownKind => "no kind that is read here",
-            Reason::MissingCheck => "no check at the end",
-            Reason::WrongCheck => "the check differs",
-            Reason::WrongCount => "wrong number of fields",
-            Reason::WrongText => "a field is not of its text type",
-            Reason::WrongIdentity => "a field is not an accepted identity",
-            Reason::Unpaired => "one of Issuer and Signature is empty",
-            Reason::WrongKind => "an identity of a kind not permitted there",
-            Reason::ShortOutput => "the output is too short",
-            Reason::Unfinished => "the last line has no line feed",
-            Reason::MissingItem => "no such item or field",
-            Reason::NotAlike => "the Subjects differ",
-        })
+        f.write_str(self.sentence())
     }
 }
 
 /// A refusal: its reason, and the field that it is about where it is about one.
 ///
 /// ```
-/// use obscurlane::{read_record, Reason};
+/// use obscurlane::{field, Reason, Record, Refusal};
 ///
-/// let refusal = read_record(b"PK.ECDH.1|x").unwrap_err();
-/// assert_eq!(refusal.reason, Reason::MissingCheck);
-/// assert_eq!(refusal.reason.number(), 3);
-/// assert_eq!(refusal.to_string(), "3: no check at the end");
+/// let refusal = Record::read(b"PK.ECDH.1|0000").unwrap_err();
+/// assert_eq!(refusal, Refusal { reason: Reason::WrongCheck, field: None });
+/// assert_eq!(refusal.to_string(), "4: the check differs");
+///
+/// let fields = b"PrismSerial 720180120T090000Z320C265FDC769D3E";
+/// let refusal = obscurlane::build(b"SMID.1", fields, &[5, 8, 16, 16], &mut [0; 64]).unwrap_err();
+/// assert_eq!(refusal.field, Some(field::identity::MID));
+/// assert_eq!(refusal.to_string(), "6: a field is not of its text type (field 2)");
 /// ```
 #[derive(Clone, Copy, Debug, PartialEq, Eq, Hash)]
 pub struct Refusal {
     /// Why the call refuses.
     pub reason: Reason,
-    /// The number of the field, counted from 1.
-    pub field: Option<NonZeroU8>,
+    /// The number of the field, counted from 1: [`field`](crate::field) has the names.
+    pub field: Option<usize>,
 }
 
 impl Refusal {
     /// The answer of a call by its number: nothing to say for 0.
     #[inline]
     pub(crate) fn check(number: u8, field: u8) -> Result<(), Refusal> {
-        if number == 0 {
-            return Ok(());
+        match number {
+            0 => Ok(()),
+            _ => Err(Refusal::new(number, field)),
         }
-        let reason = Reason::from_number(number).expect("the library answers 0 to 13");
-        Err(Refusal { reason, field: NonZeroU8::new(field) })
+    }
+
+    #[cold]
+    pub(crate) fn new(number: u8, field: u8) -> Refusal {
+        let reason = Reason::from_number(number).expect("the library gives the numbers of Reason");
+        Refusal { reason, field: (field != 0).then_some(usize::from(field)) }
     }
 }
 

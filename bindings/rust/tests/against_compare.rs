@@ -4,20 +4,19 @@
 
 mod held;
 
-use compare::kind::Kind;
+use compare::kind::{FieldType, Kind};
 use compare::random::Random;
 use compare::refusal::Refusal as Expected;
 use compare::sample::{self, Signed, Subject};
 use compare::{agreement, file, record, text};
 use held::{
-    expect_share, expected, expected_at, expected_line, line_numbers, numbers, place, rounds,
-    same_result, Numbers, Seen,
+    expect_share, expected, expected_at, expected_line, line_numbers, numbers, of_refusal, place,
+    rounds, same_output, Numbers, Seen,
 };
-use obscurlane::{Refusal, LONGEST_RECORD};
-
-fn row(record: record::Record<'_>) -> usize {
-    record.kind as usize
-}
+use obscurlane::{
+    Crc, Identity, InnerIdentity, NewerRefusal, PublicKey, Record, Refusal, Request, Response,
+    View, LONGEST_RECORD,
+};
 
 #[test]
 fn text_types() {
@@ -59,19 +58,105 @@ fn text_types() {
 }
 
 #[test]
+fn check_by_its_state() {
+    let mut random = Random::with_seed(31);
+    for _ in 0..rounds() {
+        let length = random.below(60);
+        let bytes = random.bytes(length);
+        let mut crc = Crc::begin();
+        for end in 0..length {
+            assert_eq!(crc.end(), compare::crc::crc16(&bytes[..end]), "{:?}", &bytes[..end]);
+            crc = crc.add(bytes[end]);
+        }
+        assert_eq!(crc.end(), compare::crc::crc16(&bytes), "{bytes:?}");
+        assert_eq!(crc.end(), obscurlane::crc_of(&bytes), "{bytes:?}");
+    }
+}
+
+/// A field: its number, its name, its place, and the name of the kind of identity that it is.
+type FieldNumbers = (usize, &'static str, (*const u8, usize), Option<&'static str>);
+/// The name of a record's kind, and its fields.
+type ReadNumbers = (&'static str, Vec<FieldNumbers>);
+
+/// The fields by name, each with the kind of identity that it is.
+fn by_name<'a>(record: &Record<'a>) -> Vec<(&'a [u8], Option<obscurlane::Kind>)> {
+    let text = |text: &'a [u8]| (text, None);
+    let inner = |inner: InnerIdentity<'a>| (inner.bytes, Some(inner.kind));
+    match record.view() {
+        View::Identity(Identity { kind, manufacturer, mid, gnt, fingerprint }) => {
+            assert_eq!(kind, record.kind());
+            [manufacturer, mid, gnt, fingerprint].map(text).to_vec()
+        }
+        View::PublicKey(PublicKey { kind, subject, q, expiry, issuer, signature }) => {
+            assert_eq!(kind, record.kind());
+            let (issuer, signature) = (issuer.map_or(text(b""), inner), signature.unwrap_or(b""));
+            vec![inner(subject), text(q), text(expiry), issuer, text(signature)]
+        }
+        View::Request(Request { id_sm, id_kmc, tvp, hwid, fwid, qe, mac_tag }) => {
+            let texts = [tvp, hwid, fwid, qe, mac_tag].map(text);
+            [inner(id_sm), inner(id_kmc)].into_iter().chain(texts).collect()
+        }
+        View::Response(Response { id_kmc, id_sm, tvp, mac_tag }) => {
+            vec![inner(id_kmc), inner(id_sm), text(tvp), text(mac_tag)]
+        }
+        other => panic!("{other:?} is not tried"),
+    }
+}
+
+/// What the crate read: the same by number, by name, and in order.
+fn read_numbers(record: &Record<'_>) -> ReadNumbers {
+    assert!(record.fields().map(|field| (field.bytes, field.identity)).eq(by_name(record)));
+    let fields = record.fields().map(|field| {
+        assert_eq!(record.field(field.number).map(place), Some(place(field.bytes)));
+        (field.number, field.name, place(field.bytes), field.identity.map(|kind| kind.name()))
+    });
+    (record.kind().name(), fields.collect())
+}
+
+/// What `compare/` read.
+fn expected_read(record: record::Record<'_>) -> ReadNumbers {
+    let entries = record.kind.fields().iter().zip(&record.fields);
+    let fields = (1..).zip(entries).map(|(number, (entry, field))| {
+        let is_identity = matches!(entry.field_type, FieldType::Identity(_)) && !field.is_empty();
+        let inner = is_identity.then(|| record::read_identity(field).expect("accepted with it"));
+        (number, entry.name, place(field), inner.map(|inner| inner.kind.name()))
+    });
+    (record.kind.name(), fields.collect())
+}
+
+#[test]
 fn reading() {
     let mut random = Random::with_seed(2);
     let mut seen = Seen::default();
     for _ in 0..rounds() {
         let bytes = sample::anything(&mut random);
-        let identity = numbers(obscurlane::read_identity(&bytes).map(obscurlane::Kind::row));
-        assert_eq!(identity, expected(record::read_identity(&bytes).map(row)), "{bytes:?}");
-        let read = numbers(obscurlane::read_record(&bytes).map(obscurlane::Kind::row));
-        assert_eq!(read, expected(record::read_record(&bytes).map(row)), "{bytes:?}");
+        let identity = numbers(Record::read_identity(&bytes)).map(|read| read_numbers(&read));
+        assert_eq!(
+            identity,
+            expected(record::read_identity(&bytes)).map(expected_read),
+            "{bytes:?}"
+        );
+        let read = numbers(Record::read(&bytes)).map(|read| read_numbers(&read));
+        assert_eq!(read, expected(record::read_record(&bytes)).map(expected_read), "{bytes:?}");
         seen.add(&identity);
         seen.add(&read);
     }
     seen.expect(0..=9, 9);
+}
+
+#[test]
+fn fields_that_are_not_there() {
+    let mut random = Random::with_seed(12);
+    for kind in Kind::ALL {
+        let bytes = sample::record(&mut random, kind);
+        let read =
+            Record::read(&bytes).or_else(|_| Record::read_identity(&bytes)).expect("accepted");
+        for number in [0, kind.fields().len() + 1, 8, usize::MAX] {
+            assert_eq!(read.field(number), None, "field {number} of {read:?}");
+        }
+        assert_eq!(read.fields().len(), kind.fields().len());
+        assert!(read.fields().rev().eq(read.fields().collect::<Vec<_>>().into_iter().rev()));
+    }
 }
 
 #[test]
@@ -94,6 +179,22 @@ fn fields() {
     }
 }
 
+/// Fields of a kind, some of them wrong, or one too few or too many.
+fn any_fields(random: &mut Random, kind: Kind) -> Vec<Vec<u8>> {
+    let signed = random.one_of(&[Signed::Yes, Signed::No]);
+    let mut fields = sample::fields(random, kind, signed);
+    let index = random.below(fields.len());
+    match random.below(8) {
+        0 => fields[index] = sample::damaged_anywhere(random, &fields[index], 1),
+        1 => fields[index].clear(),
+        2 => fields[index] = sample::record(random, Kind::Smid),
+        3 if random.once_in(2) => drop(fields.pop()),
+        3 => fields.push(Vec::new()),
+        _ => {}
+    }
+    fields
+}
+
 /// What a build may be handed.
 #[derive(Debug)]
 struct Order {
@@ -113,22 +214,12 @@ impl Order {
 
     fn any(random: &mut Random) -> Order {
         let kind = random.one_of(&Kind::ALL);
-        let signed = random.one_of(&[Signed::Yes, Signed::No]);
-        let mut fields = sample::fields(random, kind, signed);
-        let index = random.below(fields.len());
-        match random.below(6) {
-            0 => fields[index] = sample::damaged_anywhere(random, &fields[index], 1),
-            1 => fields[index].clear(),
-            2 => fields[index] = sample::record(random, Kind::Smid),
-            _ => {}
-        }
-        let mut order = Order::of(kind, &fields);
+        let mut order = Order::of(kind, &any_fields(random, kind));
+        let index = random.below(order.lens.len());
         match random.below(12) {
             0 => order.kind = sample::damaged_anywhere(random, &order.kind, 1),
             1 => order.lens[index] = random.one_of(&[0, 1, usize::MAX, usize::MAX / 2 + 1]),
-            2 => drop(order.lens.pop()),
-            3 => order.lens.push(0),
-            4 => order.bytes = random.bytes(30),
+            2 => order.bytes = random.bytes(30),
             _ => {}
         }
         order
@@ -138,9 +229,9 @@ impl Order {
     fn build(&self, room: usize) -> Result<usize, Numbers> {
         let Order { kind, bytes, lens } = self;
         let wide: Vec<u64> = lens.iter().map(|&len| len as u64).collect();
-        same_result(
+        same_output(
             room,
-            |out| obscurlane::build(kind, bytes, lens, out).map(<[u8]>::len),
+            |out| obscurlane::build(kind, bytes, lens, out),
             |out| compare::build::build(kind, bytes, &wide, out),
             self,
         )
@@ -173,12 +264,35 @@ fn building_with_every_room() {
             }
             let mut out = vec![0; record.len()];
             let built = obscurlane::build(&order.kind, &order.bytes, &order.lens, &mut out);
-            assert_eq!(built, Ok(&record[..]));
+            assert_eq!((built, out), (Ok(record.len()), record));
         }
     }
 }
 
-type Ours = for<'o> fn(&[u8], &'o mut [u8]) -> Result<&'o [u8], Refusal>;
+#[cfg(feature = "alloc")]
+#[test]
+fn building_from_parts() {
+    let mut random = Random::with_seed(13);
+    let mut seen = Seen::default();
+    for _ in 0..rounds() {
+        let index = random.below(Kind::ALL.len());
+        let (kind, ours) = (Kind::ALL[index], obscurlane::Kind::ALL[index]);
+        let fields = any_fields(&mut random, kind);
+        let parts: Vec<&[u8]> = fields.iter().map(Vec::as_slice).collect();
+        let lens: Vec<u64> = fields.iter().map(|field| field.len() as u64).collect();
+        let room = random.one_of(&[0, 60, 300, LONGEST_RECORD]);
+        let answer = same_output(
+            room,
+            |out| obscurlane::build_parts(ours, &parts, out),
+            |out| compare::build::build(kind.name().as_bytes(), &fields.concat(), &lens, out),
+            &parts,
+        );
+        seen.add(&answer);
+    }
+    seen.expect([0, 5, 6, 7, 8, 9, 10], 9);
+}
+
+type Ours = fn(&[u8], &mut [u8]) -> Result<usize, Refusal>;
 type Theirs = fn(&[u8], &mut [u8]) -> Result<usize, Expected>;
 
 const TEXTS: [(Ours, Theirs, usize); 3] = [
@@ -189,8 +303,7 @@ const TEXTS: [(Ours, Theirs, usize); 3] = [
 
 /// Makes a text with so much room on both sides, and compares the answers and every byte of the outputs.
 fn same_text(ours: Ours, theirs: Theirs, request: &[u8], room: usize) -> Result<usize, Numbers> {
-    let ours = |out: &mut [u8]| ours(request, out).map(<[u8]>::len);
-    same_result(room, ours, |out| theirs(request, out), &request)
+    same_output(room, |out| ours(request, out), |out| theirs(request, out), &request)
 }
 
 #[test]
@@ -234,8 +347,11 @@ fn items() {
                 random.bytes(length)
             })
             .collect();
-        let items: Vec<&[u8]> = items.iter().map(Vec::as_slice).collect();
-        let mut text = agreement::join(&items);
+        let mut text = vec![count as u8];
+        for item in &items {
+            text.push(item.len() as u8);
+            text.extend_from_slice(item);
+        }
         match random.below(4) {
             0 => text = sample::damaged_anywhere(&mut random, &text, 1),
             1 => text.truncate(random.below(text.len() + 1)),
@@ -257,9 +373,17 @@ fn files() {
     let mut random = Random::with_seed(9);
     for _ in 0..rounds() {
         let file = sample::file(&mut random);
-        let ours: Vec<_> = obscurlane::lines(&file).map(|line| line_numbers(&file, line)).collect();
-        let theirs: Vec<_> = file::lines(&file).map(expected_line).collect();
-        assert_eq!(ours, theirs, "{file:?}");
+        let mut lines = obscurlane::lines(&file);
+        for theirs in file::lines(&file) {
+            let line = lines.next().map(|line| line_numbers(&file, line));
+            assert_eq!(line, Some(expected_line(theirs)), "{file:?}");
+            assert_eq!(lines.place(), theirs.next as usize, "{file:?}");
+        }
+        assert_eq!(
+            (lines.next(), lines.next(), lines.place()),
+            (None, None, file.len()),
+            "{file:?}"
+        );
 
         let totals = obscurlane::count(&file);
         assert_eq!((totals.lines, totals.accepted), file::count(&file), "{file:?}");
@@ -270,6 +394,29 @@ fn files() {
             assert_eq!(line, expected_at(&file, at), "place {at} of {file:?}");
         }
     }
+}
+
+/// A refusal and the record that it is about: 1 or 2, 0 where it is about both.
+type NamedNumbers = (u8, Numbers);
+
+fn named(refusal: NewerRefusal) -> NamedNumbers {
+    match refusal {
+        NewerRefusal::First(refusal) => (1, of_refusal(refusal)),
+        NewerRefusal::Second(refusal) => (2, of_refusal(refusal)),
+        other => (0, (other.reason().number(), 0)),
+    }
+}
+
+/// What `compare/` chooses. A key beside itself is refused only where it is none.
+fn expected_newer(first: &[u8], second: &[u8]) -> Result<(*const u8, usize), NamedNumbers> {
+    let is_key = |record| compare::newer::newer(record, record).is_ok();
+    let refused = match (is_key(first), is_key(second)) {
+        (false, _) => 1,
+        (true, false) => 2,
+        (true, true) => 0,
+    };
+    let chosen = expected(compare::newer::newer(first, second));
+    chosen.map(place).map_err(|refusal| (refused, refusal))
 }
 
 #[test]
@@ -290,29 +437,10 @@ fn newer() {
             keys[random.below(2)] = sample::anything(&mut random);
         }
         let [first, second] = &keys;
-        let ours = numbers(obscurlane::newer(first, second)).map(place);
-        assert_eq!(ours, expected(compare::newer::newer(first, second)).map(place), "{keys:?}");
-        seen.add(&ours);
+        let ours = obscurlane::newer(first, second).map(place).map_err(named);
+        assert_eq!(ours, expected_newer(first, second), "{keys:?}");
+        seen.add(&ours.map_err(|(_, refusal)| refusal));
     }
     seen.expect([0], 300);
-    seen.expect([13], 60);
-}
-
-#[test]
-fn the_list() {
-    let mut random = Random::with_seed(11);
-    for _ in 0..rounds() {
-        let mut number = || random.number() as usize >> random.below(64);
-        let (a, b, c) = (number(), number(), number());
-        let no = random.byte();
-        let wanted = file::line_text(a as u64, b as u64, c as u64, no);
-        let mut out = [0; obscurlane::LONGEST_LINE_TEXT];
-        assert_eq!(obscurlane::line_text(a, b, c, no, &mut out), Ok(wanted.as_bytes()));
-        let short = &mut out[..wanted.len() - 1];
-        assert_eq!(numbers(obscurlane::line_text(a, b, c, no, short)), Err((10, 0)));
-        let wanted = file::end_text(a as u64, b as u64);
-        assert_eq!(obscurlane::end_text(a, b, &mut out), Ok(wanted.as_bytes()));
-        let short = &mut out[..wanted.len() - 1];
-        assert_eq!(numbers(obscurlane::end_text(a, b, short)), Err((10, 0)));
-    }
+    seen.expect([2, 13], 60);
 }

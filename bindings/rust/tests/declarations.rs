@@ -1,22 +1,23 @@
-//! The declarations of the C interface, in the header and in `sys`, are those that the signatures in `crates/exports` ask for,
-//! and the header's numbers are those of the crates.
+//! The C interface is declared, in the header and in `sys`, as the signatures and structs of the crates ask for; the header's
+//! numbers are those of the crates, and the crate's names and words those of the header.
 
-use obscurlane::table::FieldType;
 use obscurlane::{Kind, Reason};
 use std::collections::{BTreeMap, BTreeSet};
 use std::fs;
 use std::path::{Path, PathBuf};
 
-/// A function of the interface, by its signature in `crates/exports`.
-struct Function {
-    /// The file that has it, without its extension.
-    file: String,
-    name: String,
-    /// Names and types.
-    parameters: Vec<(String, String)>,
-    /// The type of the answer; nothing where it answers nothing.
-    answer: Option<String>,
-}
+/// The structs that answers are: as `crates/exports` names them, and in C. `sys` has them by the last word of the latter.
+const ANSWERS: [(&str, &str); 7] = [
+    ("reading::Answer", "obscurlane_answer"),
+    ("fields::Place", "obscurlane_place"),
+    ("put::Written", "obscurlane_written"),
+    ("items::Place", "obscurlane_item"),
+    ("Found", "obscurlane_line"),
+    ("files::Totals", "obscurlane_totals"),
+    ("newer::Choice", "obscurlane_choice"),
+];
+
+// ---- the files
 
 fn in_root(path: &str) -> PathBuf {
     Path::new(env!("CARGO_MANIFEST_DIR")).join("../..").join(path)
@@ -27,126 +28,20 @@ fn read(path: &str) -> String {
     fs::read_to_string(&path).unwrap_or_else(|error| panic!("{}: {error}", path.display()))
 }
 
-/// The files of a folder in the order of their names: each without its extension, and its text.
-fn files(folder: &str) -> Vec<(String, String)> {
+/// All files of a folder that have this extension, one after another in the order of their names.
+fn read_all(folder: &str, extension: &str) -> String {
     let entries = fs::read_dir(in_root(folder)).expect("a folder");
     let mut paths: Vec<PathBuf> = entries.map(|entry| entry.expect("an entry").path()).collect();
+    paths.retain(|path| path.extension().is_some_and(|of| of == extension));
     paths.sort();
-    let text = |path: &PathBuf| fs::read_to_string(path).expect("a file of text");
-    let name = |path: &PathBuf| path.file_stem().expect("a name").to_string_lossy().into_owned();
-    paths.iter().map(|path| (name(path), text(path))).collect()
+    paths.iter().map(|path| fs::read_to_string(path).expect("a file of text")).collect()
 }
 
 /// The text without comments at the ends of lines, and with single spaces.
 fn flat(text: &str) -> String {
     let lines = text.lines().map(|line| line.split("//").next().unwrap_or_default());
     let words: Vec<&str> = lines.flat_map(str::split_whitespace).collect();
-    words.join(" ").replace("( ", "(").replace(", )", ")").replace(" )", ")")
-}
-
-/// The names and numbers in a text.
-fn words(text: &str) -> impl Iterator<Item = &str> {
-    text.split(|c: char| c != '_' && !c.is_ascii_alphanumeric())
-}
-
-/// The functions of the interface, file by file.
-fn functions() -> Vec<Function> {
-    let mut functions = Vec::new();
-    for (file, text) in files("crates/exports/src") {
-        let source = flat(&text);
-        let signatures = source.split("pub extern \"C\" fn ").skip(1);
-        functions.extend(signatures.map(|signature| function(&file, signature)));
-    }
-    functions
-}
-
-fn function(file: &str, signature: &str) -> Function {
-    let signature = signature.split(" ensures").next().unwrap_or_default();
-    let (name, rest) = signature.split_once('(').expect("parameters");
-    let (parameters, answer) = rest.split_once(')').expect("the end of the parameters");
-    let parameters = parameters.split(", ").filter(|parameter| !parameter.is_empty());
-    let parameters = parameters.map(|parameter| {
-        let (name, of_type) = parameter.split_once(": ").expect("a type");
-        (name.to_owned(), of_type.to_owned())
-    });
-    Function {
-        file: file.to_owned(),
-        name: name.to_owned(),
-        parameters: parameters.collect(),
-        answer: answer.strip_prefix(" -> ").map(str::to_owned),
-    }
-}
-
-/// How a parameter is handed over, with the type of what it is or points to.
-enum Form<'a> {
-    Number(&'a str),
-    /// A pointer to one number.
-    Lent(&'a str),
-    /// A pointer to so many.
-    Array(&'a str, &'a str),
-    /// A pointer and a length, to read.
-    Slice(&'a str),
-    /// A pointer and a length, to write.
-    Output(&'a str),
-}
-
-fn form(of_type: &str) -> Form<'_> {
-    if let Some(part) = of_type.strip_prefix("&[") {
-        return Form::Slice(part.trim_end_matches(']'));
-    }
-    if let Some(part) = of_type.strip_prefix("&mut [") {
-        let part = part.trim_end_matches(']');
-        return match part.split_once("; ") {
-            Some((part, length)) => Form::Array(part, length),
-            None => Form::Output(part),
-        };
-    }
-    of_type.strip_prefix("&mut ").map_or(Form::Number(of_type), Form::Lent)
-}
-
-fn in_c(of_type: &str) -> &str {
-    match of_type {
-        "u8" => "uint8_t",
-        "u16" => "uint16_t",
-        "usize" => "size_t",
-        "bool" => "bool",
-        other => panic!("no type of C for {other}"),
-    }
-}
-
-/// The declaration of the function in C.
-fn c_declaration(function: &Function) -> String {
-    let answer = function.answer.as_deref().map_or("void", in_c);
-    let parameters: Vec<String> = function.parameters.iter().map(c_parameter).collect();
-    let parameters = if parameters.is_empty() { "void".to_owned() } else { parameters.join(", ") };
-    format!("{answer} {}({parameters})", function.name)
-}
-
-fn c_parameter((name, of_type): &(String, String)) -> String {
-    match form(of_type) {
-        Form::Number(part) => format!("{} {name}", in_c(part)),
-        Form::Lent(part) => format!("{} *{name}", in_c(part)),
-        Form::Array(part, length) => format!("{} {name}[{length}]", in_c(part)),
-        Form::Slice(part) => format!("const {} *{name}, size_t {name}_len", in_c(part)),
-        Form::Output(part) => format!("{} *{name}, size_t {name}_len", in_c(part)),
-    }
-}
-
-/// The declaration of the function in Rust.
-fn rust_declaration(function: &Function) -> String {
-    let answer = function.answer.as_ref().map_or(String::new(), |answer| format!(" -> {answer}"));
-    let parameters: Vec<String> = function.parameters.iter().map(rust_parameter).collect();
-    format!("{}({}){answer};", function.name, parameters.join(", "))
-}
-
-fn rust_parameter((name, of_type): &(String, String)) -> String {
-    match form(of_type) {
-        Form::Number(part) => format!("{name}: {part}"),
-        Form::Lent(part) => format!("{name}: *mut {part}"),
-        Form::Array(part, length) => format!("{name}: *mut [{part}; {length}]"),
-        Form::Slice(part) => format!("{name}: *const {part}, {name}_len: usize"),
-        Form::Output(part) => format!("{name}: *mut {part}, {name}_len: usize"),
-    }
+    words.join(" ").replace("( ", "(").replace(", )", ")").replace(" )", ")").replace(", }", " }")
 }
 
 /// The text of a C file without its comments and directives.
@@ -157,36 +52,83 @@ fn without_comments(text: &str) -> String {
     lines.flat_map(|line| [line, "\n"]).collect()
 }
 
-/// The declarations of functions in the header.
-fn header_declarations() -> Vec<String> {
-    let header = flat(&without_comments(&read("bindings/c/obscurlane.h")));
-    let statements = header.split(';').map(str::trim);
-    statements.filter(|line| line.contains("obscurlane_")).map(str::to_owned).collect()
+/// The names and numbers in a text.
+fn words(text: &str) -> impl Iterator<Item = &str> {
+    text.split(|c: char| c != '_' && !c.is_ascii_alphanumeric())
 }
 
-/// The header's names, without `OBSCURLANE_`, and what each is set to.
-fn header_names() -> Vec<(String, String)> {
-    let header = flat(&without_comments(&read("bindings/c/obscurlane.h")));
-    let entries = header.split(['{', '}', ',']).filter_map(|entry| entry.trim().split_once(" = "));
-    let names = entries.map(|(name, set)| {
-        let name = name.strip_prefix("OBSCURLANE_").expect("a name of the interface");
-        (name.to_owned(), set.to_owned())
+// ---- what the crates have
+
+/// A name and its type.
+type Typed = (String, String);
+
+/// A function of the interface, by its signature in `crates/exports`.
+struct Function {
+    name: String,
+    parameters: Vec<Typed>,
+    answer: String,
+}
+
+fn functions() -> Vec<Function> {
+    let source = flat(&read_all("crates/exports/src", "rt"));
+    source.split("pub extern \"C\" fn ").skip(1).map(function).collect()
+}
+
+fn function(signature: &str) -> Function {
+    let signature = signature.split(" ensures").next().unwrap_or_default();
+    let (name, rest) = signature.split_once('(').expect("parameters");
+    let (parameters, answer) = rest.split_once(')').expect("the end of the parameters");
+    let answer = answer.strip_prefix(" -> ").expect("every function answers");
+    Function { name: name.to_owned(), parameters: typed(parameters), answer: answer.to_owned() }
+}
+
+/// The names and types of parameters, or of a struct's fields.
+fn typed(list: &str) -> Vec<Typed> {
+    let entries = list.split(", ").filter(|entry| !entry.is_empty());
+    let typed = entries.map(|entry| {
+        let (name, of_type) = entry.split_once(": ").expect("a type");
+        (name.trim_start_matches("pub ").to_owned(), of_type.to_owned())
     });
-    names.collect()
+    typed.collect()
 }
 
-/// The crates that the archive is made of.
-fn linked_crates() -> Vec<String> {
+/// The structs of C's layout in a source of Rattle or Rust, which write them alike.
+fn structs(source: &str) -> BTreeMap<String, Vec<Typed>> {
+    let source = flat(source);
+    let found = source.split("#[repr(C)] pub struct ").skip(1).map(|rest| {
+        let (name, rest) = rest.split_once(" { ").expect("fields");
+        let (fields, _) = rest.split_once(" }").expect("the end of the fields");
+        (name.to_owned(), typed(fields))
+    });
+    found.collect()
+}
+
+/// The fields of an answer, in the crate that has it.
+fn answer_fields(path: &str) -> Vec<Typed> {
+    let (crate_name, name) = path.split_once("::").unwrap_or(("exports", path));
+    let source = read_all(&format!("crates/{crate_name}/src"), "rt");
+    structs(&source).remove(name).unwrap_or_else(|| panic!("{path} is no struct of C's layout"))
+}
+
+/// The crates that the archive is made of: those that `exports` needs, and that these need.
+fn linked_crates() -> BTreeSet<String> {
     let list = read("crates.txt");
-    let needed = list.lines().find_map(|line| line.strip_prefix("exports:")).expect("exports");
-    let crates = needed.split_whitespace().filter(|name| in_root("crates").join(name).is_dir());
-    crates.map(str::to_owned).collect()
+    let needed_by = |name: &str| {
+        let line = list.lines().find_map(|line| line.strip_prefix(name)?.strip_prefix(':'));
+        line.unwrap_or_default().split_whitespace()
+    };
+    let (mut found, mut open) = (BTreeSet::new(), vec!["exports"]);
+    while let Some(name) = open.pop() {
+        if found.insert(name.to_owned()) {
+            open.extend(needed_by(name).filter(|name| in_root("crates").join(name).is_dir()));
+        }
+    }
+    found
 }
 
 /// The names and values of a crate's constants that are numbers.
 fn constants(crate_name: &str) -> Vec<(String, usize)> {
-    let sources = files(&format!("crates/{crate_name}/src"));
-    let source: String = sources.iter().map(|(_, text)| flat(text)).collect();
+    let source = flat(&read_all(&format!("crates/{crate_name}/src"), "rt"));
     let constants = source.split("const ").skip(1).filter_map(|rest| {
         let (name, rest) = rest.split_once(": ")?;
         let (_, value) = rest.split_once(';')?.0.split_once(" = ")?;
@@ -197,24 +139,163 @@ fn constants(crate_name: &str) -> Vec<(String, usize)> {
 
 /// What the crates set a name of the header to, which is the name of a constant in one of them or in several.
 fn in_the_crates(name: &str) -> BTreeSet<usize> {
-    let of_table = ["KIND_", "TYPE_"].iter().find_map(|group| name.strip_prefix(group));
-    let crates = if of_table.is_some() { vec!["table".to_owned()] } else { linked_crates() };
+    let kind = name.strip_prefix("KIND_");
+    let crates = if kind.is_some() { BTreeSet::from(["table".into()]) } else { linked_crates() };
     let all = crates.iter().flat_map(|crate_name| constants(crate_name));
-    all.filter(|(constant, _)| constant == of_table.unwrap_or(name)).map(|(_, set)| set).collect()
+    all.filter(|(constant, _)| constant == kind.unwrap_or(name)).map(|(_, set)| set).collect()
 }
 
-/// The declarations in `sys`, each with its file.
-fn sys_declarations() -> Vec<(String, String)> {
-    let mut declarations = Vec::new();
-    for (file, text) in files("bindings/rust/src/sys") {
-        let source = flat(&text);
-        let blocks = source.split("extern \"C\" {").skip(1);
-        let blocks = blocks.map(|block| block.split('}').next().unwrap_or_default());
-        let declared = blocks.flat_map(|block| block.split("fn ").skip(1));
-        declarations.extend(declared.map(|line| (file.clone(), line.trim().to_owned())));
-    }
-    declarations
+// ---- how C and Rust write it
+
+/// How a parameter is handed over, with the type of what it is or points to.
+enum Form<'a> {
+    Number(&'a str),
+    /// A pointer to one number, to write.
+    Lent(&'a str),
+    /// A pointer and a length, to read.
+    Slice(&'a str),
+    /// A pointer and a length, to write.
+    Output(&'a str),
 }
+
+fn form(of_type: &str) -> Form<'_> {
+    let part = |rest: &'_ str| rest.trim_end_matches(']').len();
+    if let Some(rest) = of_type.strip_prefix("&[") {
+        return Form::Slice(&rest[..part(rest)]);
+    }
+    if let Some(rest) = of_type.strip_prefix("&mut [") {
+        return Form::Output(&rest[..part(rest)]);
+    }
+    of_type.strip_prefix("&mut ").map_or(Form::Number(of_type), Form::Lent)
+}
+
+fn in_c(of_type: &str) -> &str {
+    let number = match of_type {
+        "u8" => Some("uint8_t"),
+        "u16" => Some("uint16_t"),
+        "usize" => Some("size_t"),
+        "bool" => Some("bool"),
+        _ => None,
+    };
+    let answer = || ANSWERS.iter().find(|(path, _)| *path == of_type).map(|(_, name)| *name);
+    number.or_else(answer).unwrap_or_else(|| panic!("no type of C for {of_type}"))
+}
+
+/// The name of a type in `sys`: `Answer` for `obscurlane_answer`, and a number's own.
+fn in_sys(of_type: &str) -> String {
+    match in_c(of_type).strip_prefix("obscurlane_") {
+        Some(name) => in_rust(name),
+        None => of_type.to_owned(),
+    }
+}
+
+/// A name of C as a name of Rust: `WrongText` for `WRONG_TEXT`.
+fn in_rust(name: &str) -> String {
+    let words = name.split('_').map(|word| {
+        let (first, rest) = word.split_at(1);
+        first.to_uppercase() + &rest.to_lowercase()
+    });
+    words.collect()
+}
+
+fn c_declaration(function: &Function) -> String {
+    let parameters: Vec<String> = function.parameters.iter().map(c_parameter).collect();
+    let parameters = if parameters.is_empty() { "void".to_owned() } else { parameters.join(", ") };
+    format!("{} {}({parameters})", in_c(&function.answer), function.name)
+}
+
+fn c_parameter((name, of_type): &Typed) -> String {
+    match form(of_type) {
+        Form::Number(part) => format!("{} {name}", in_c(part)),
+        Form::Lent(part) => format!("{} *{name}", in_c(part)),
+        Form::Slice(part) => format!("const {} *{name}, size_t {name}_len", in_c(part)),
+        Form::Output(part) => format!("{} *{name}, size_t {name}_len", in_c(part)),
+    }
+}
+
+/// A field of a struct in C; an array's length stands behind the name.
+fn c_field((name, of_type): &Typed) -> String {
+    let array = of_type.strip_prefix('[').and_then(|rest| rest.strip_suffix(']')?.split_once("; "));
+    match array {
+        Some((part, length)) => format!("{} {name}[{length}];", in_c(part)),
+        None => format!("{} {name};", in_c(of_type)),
+    }
+}
+
+fn rust_declaration(function: &Function) -> String {
+    let parameters: Vec<String> = function.parameters.iter().map(rust_parameter).collect();
+    format!("{}({}) -> {};", function.name, parameters.join(", "), in_sys(&function.answer))
+}
+
+fn rust_parameter((name, of_type): &Typed) -> String {
+    match form(of_type) {
+        Form::Number(part) => format!("{name}: {part}"),
+        Form::Lent(part) => format!("{name}: *mut {part}"),
+        Form::Slice(part) => format!("{name}: *const {part}, {name}_len: usize"),
+        Form::Output(part) => format!("{name}: *mut {part}, {name}_len: usize"),
+    }
+}
+
+// ---- what the header and `sys` have
+
+fn header() -> String {
+    flat(&without_comments(&read("bindings/c/obscurlane.h")))
+}
+
+/// The structs of the header: each name, and its fields as they stand there.
+fn header_structs() -> Vec<(String, String)> {
+    let header = header();
+    let found = header.split("typedef struct { ").skip(1).map(|rest| {
+        let (fields, rest) = rest.split_once(" } ").expect("the end of the fields");
+        let (name, _) = rest.split_once(';').expect("the end of the struct");
+        (name.to_owned(), fields.to_owned())
+    });
+    found.collect()
+}
+
+/// The declarations of functions in the header.
+fn header_declarations() -> Vec<String> {
+    let header = header();
+    let statements = header.split(';').map(str::trim);
+    statements.filter(|line| line.ends_with(')')).map(str::to_owned).collect()
+}
+
+/// The functions of `names.c`, which is compiled with a program of C and is no part of the archive.
+fn functions_of_c() -> Vec<String> {
+    let source = without_comments(&read("bindings/c/names.c"));
+    let heads = source.lines().filter(|line| line.starts_with("const char *obscurlane_"));
+    heads.map(|line| line.trim_end_matches([' ', '{']).to_owned()).collect()
+}
+
+/// The header's names, without `OBSCURLANE_`, and what each is set to.
+fn header_names() -> Vec<(String, String)> {
+    let header = header();
+    let entries = header.split(['{', '}', ',']).filter_map(|entry| entry.trim().split_once(" = "));
+    let names = entries.map(|(name, set)| {
+        let name = name.strip_prefix("OBSCURLANE_").expect("a name of the interface");
+        (name.to_owned(), set.to_owned())
+    });
+    names.collect()
+}
+
+/// The numbers of a group of the header's names, by the rest of each name.
+fn header_numbers(group: &str) -> BTreeMap<String, usize> {
+    let of_group = header_names().into_iter().filter_map(|(name, set)| {
+        let rest = name.strip_prefix(group)?.to_owned();
+        Some((rest, set.parse().ok()?))
+    });
+    of_group.collect()
+}
+
+/// The declarations of functions in `sys`.
+fn sys_declarations() -> Vec<String> {
+    let source = flat(&read("bindings/rust/src/sys.rs"));
+    let (_, rest) = source.split_once("extern \"C\" { ").expect("a block of declarations");
+    let (block, _) = rest.split_once(" }").expect("the end of the block");
+    block.split("fn ").skip(1).map(|line| line.trim().to_owned()).collect()
+}
+
+// ---- the declarations
 
 /// That the same things are declared as exported, each once.
 fn hold<T: Ord + std::fmt::Debug>(declared: Vec<T>, exported: Vec<T>) {
@@ -229,21 +310,38 @@ fn hold<T: Ord + std::fmt::Debug>(declared: Vec<T>, exported: Vec<T>) {
 
 #[test]
 fn the_header_declares_every_function() {
-    hold(header_declarations(), functions().iter().map(c_declaration).collect());
+    let mut there: Vec<String> = functions().iter().map(c_declaration).collect();
+    assert_eq!(there.len(), 25);
+    there.extend(functions_of_c());
+    hold(header_declarations(), there);
 }
 
 #[test]
-fn sys_declares_every_function_in_the_file_of_its_module() {
-    let exported = |function: &Function| (function.file.clone(), rust_declaration(function));
-    hold(sys_declarations(), functions().iter().map(exported).collect());
+fn the_header_has_every_answer() {
+    let structs = ANSWERS.map(|(path, name)| {
+        let fields: Vec<String> = answer_fields(path).iter().map(c_field).collect();
+        (name.to_owned(), fields.join(" "))
+    });
+    hold(header_structs(), structs.into());
+}
+
+#[test]
+fn sys_declares_every_function() {
+    hold(sys_declarations(), functions().iter().map(rust_declaration).collect());
+}
+
+#[test]
+fn sys_has_every_answer() {
+    let declared = structs(&read("bindings/rust/src/sys.rs"));
+    let exported = ANSWERS.map(|(path, _)| (in_sys(path), answer_fields(path)));
+    hold(declared.into_iter().collect(), exported.into());
 }
 
 #[test]
 fn every_function_is_called_from_c() {
-    let test = ["every.c", "parts.c"].map(|file| read(&format!("bindings/c/{file}"))).concat();
-    assert_eq!(functions().len(), 58);
+    let programs = read_all("bindings/c", "c");
     for Function { name, .. } in functions() {
-        assert!(test.contains(&format!("{name}(")), "every.c and parts.c do not call {name}");
+        assert!(programs.contains(&format!("{name}(")), "no program in bindings/c calls {name}");
     }
 }
 
@@ -255,20 +353,31 @@ fn every_function_has_its_line_in_the_page() {
     }
 }
 
+// ---- names, numbers and words
+
 /// So that no name of the header escapes the tests below.
 #[test]
 fn the_header_sets_every_name_once_and_in_an_enumeration() {
-    let header = read("bindings/c/obscurlane.h");
-    let defined: Vec<&str> = header.lines().filter(|line| line.starts_with("#define")).collect();
-    assert_eq!(defined, ["#define OBSCURLANE_H"]);
-
     let names: Vec<String> = header_names().into_iter().map(|(name, _)| name).collect();
     let set = BTreeSet::from_iter(&names);
     assert_eq!(names.len(), set.len(), "a name is set twice");
-    let code = without_comments(&header);
-    for name in words(&code).filter_map(|word| word.strip_prefix("OBSCURLANE_")) {
+    for name in words(&header()).filter_map(|word| word.strip_prefix("OBSCURLANE_")) {
         assert!(set.contains(&name.to_owned()), "{name} is not set to a number");
     }
+}
+
+#[test]
+fn the_header_defines_only_itself_and_the_version() {
+    let header = read("bindings/c/obscurlane.h");
+    let defined = header.lines().filter_map(|line| line.strip_prefix("#define OBSCURLANE_"));
+    let version = env!("CARGO_PKG_VERSION");
+    let mut parts = version.split('.');
+    let mut wanted = vec!["H".to_owned(), format!("VERSION \"{version}\"")];
+    for name in ["MAJOR", "MINOR", "PATCH"] {
+        wanted.push(format!("VERSION_{name} {}", parts.next().expect("three numbers")));
+    }
+    assert_eq!(defined.collect::<Vec<_>>(), wanted);
+    assert_eq!(header.matches("#define").count(), wanted.len());
 }
 
 #[test]
@@ -281,51 +390,74 @@ fn numbers_are_the_crates() {
     }
 }
 
-/// A name of the header as a name of Rust: `IdSmid` for `ID_SMID`.
-fn in_rust(name: &str) -> String {
-    let words = name.split('_').map(|word| {
-        let (first, rest) = word.split_at(1);
-        first.to_owned() + &rest.to_lowercase()
-    });
-    words.collect()
+const FIELDS: [(&str, &[Kind]); 4] = [
+    ("IDENTITY_", &[Kind::Smman, Kind::Smid, Kind::Kmcid]),
+    ("PUBKEY_", &[Kind::Ecdsa, Kind::Ecdh]),
+    ("REQ_", &[Kind::Request]),
+    ("RESP_", &[Kind::Response]),
+];
+
+#[test]
+fn the_crate_has_the_headers_kinds() {
+    let mut kinds = header_numbers("KIND_");
+    assert!(kinds.remove("NONE").is_some_and(|none| Kind::ALL.get(none).is_none()));
+    assert_eq!(kinds.len(), Kind::ALL.len());
+    for (name, number) in kinds {
+        let kind = Kind::ALL[number].name();
+        assert!(kind.contains(&name), "{kind} is no {name}");
+    }
 }
 
-/// The numbers of a group of the header's names by these names, as Rust writes them.
-fn header_numbers(group: &str) -> BTreeMap<String, usize> {
-    let names = header_names().into_iter();
-    let of_group = names.filter_map(|(name, set)| {
-        let rest = name.strip_prefix(group)?;
-        Some((in_rust(rest), set.parse().ok()?))
-    });
-    of_group.collect()
+/// Document 01's `MacTag` is the header's `MAC_TAG`.
+#[test]
+fn the_crate_has_the_headers_fields() {
+    let plain = |name: &str| name.replace('_', "").to_uppercase();
+    for (group, kinds) in FIELDS {
+        let header = header_numbers(group).into_iter();
+        let header: BTreeMap<usize, String> = header.map(|(name, no)| (no, plain(&name))).collect();
+        for kind in kinds {
+            let ours = (1..).zip(kind.fields().iter().map(|name| plain(name)));
+            assert_eq!(header, ours.collect(), "{kind}");
+        }
+    }
 }
 
 #[test]
-fn the_crate_has_the_headers_numbers() {
-    let types = FieldType::ALL.map(|of| (format!("{of:?}"), usize::from(of.code())));
-    assert_eq!(header_numbers("TYPE_"), BTreeMap::from(types));
-
-    let kinds = header_numbers("KIND_");
-    assert_eq!(kinds.len(), Kind::ALL.len() + 1);
-    for (name, row) in kinds.into_iter().filter(|(name, _)| name != "None") {
-        let kind = Kind::from_row(row).expect("a row").name();
-        assert!(kind.contains(&name.to_uppercase()), "{kind} is no {name}");
-    }
-
+fn the_crate_has_the_headers_reasons() {
     let mut others = header_numbers("");
-    others.retain(|name, _| !["Type", "Kind", "Longest"].iter().any(|of| name.starts_with(of)));
-    let reasons = Reason::ALL.map(|of| (format!("{of:?}"), usize::from(of.number())));
+    let groups = FIELDS.map(|(group, _)| group).into_iter().chain(["KIND_", "LONGEST_"]);
+    let groups: Vec<&str> = groups.collect();
+    others.retain(|name, _| !groups.iter().any(|group| name.starts_with(group)));
+    let others: BTreeMap<String, usize> =
+        others.into_iter().map(|(name, no)| (in_rust(&name), no)).collect();
+
+    let reasons = Reason::ALL.iter().map(|of| (format!("{of:?}"), usize::from(of.number())));
     let and = [("Accepted", 0), ("First", 1), ("Second", 2)];
     let and = and.map(|(name, number)| (name.to_owned(), number));
-    assert_eq!(others, reasons.into_iter().chain(and).collect());
+    assert_eq!(others, reasons.chain(and).collect());
 }
 
-/// What each is the length of is tried in the tests that are read here.
+/// A number has the same words in both languages.
+#[test]
+fn the_crate_has_the_words_of_c() {
+    let source = read("bindings/c/names.c");
+    for reason in Reason::ALL {
+        let number = usize::from(reason.number());
+        let names = header_names().into_iter();
+        let mut of_number = names.filter(|(name, set)| {
+            in_rust(name) == format!("{reason:?}") && set.parse() == Ok(number)
+        });
+        let (name, _) = of_number.next().expect("a name in the header");
+        let line = format!("[OBSCURLANE_{name}] = \"{}\",", reason.sentence());
+        assert!(source.contains(&line), "names.c has other words than {line}");
+    }
+}
+
+/// What each is the length of is tried in the test that is read here.
 #[test]
 fn every_length_is_taken_over_and_tried() {
     let taken = read("bindings/rust/src/lengths.rs");
-    let tests = ["longest", "printing"].map(|name| read(&format!("bindings/rust/tests/{name}.rs")));
-    let tests = tests.concat();
+    let tests = read("bindings/rust/tests/longest.rs");
     for (name, _) in header_names().iter().filter(|(name, _)| name.starts_with("LONGEST_")) {
         let constant = format!("pub const {name}: usize = header::{name};");
         assert!(taken.contains(&constant), "lengths.rs does not take over {name}");

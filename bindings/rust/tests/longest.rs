@@ -3,15 +3,16 @@
 
 use compare::kind::Kind;
 use compare::random::Random;
-use compare::{rows, sample};
-use obscurlane::{Reason, Refusal, LONGEST_READ};
+use compare::sample;
+use obscurlane::{Reason, Record, Refusal, LONGEST_READ};
 
 /// What a call writes with as much room as it takes; one byte less is no room.
-fn made(call: impl Fn(&mut [u8]) -> Result<&[u8], Refusal>) -> Vec<u8> {
+fn made(call: impl Fn(&mut [u8]) -> Result<usize, Refusal>) -> Vec<u8> {
     let mut out = [0; LONGEST_READ];
-    let made = call(&mut out).expect("ample room").to_vec();
-    assert_eq!(call(&mut out[..made.len()]), Ok(&made[..]));
-    let refusal = call(&mut out[..made.len() - 1]).expect_err("one byte less");
+    let len = call(&mut out).expect("ample room");
+    let made = out[..len].to_vec();
+    assert_eq!((call(&mut out[..len]), &out[..len]), (Ok(len), &made[..]));
+    let refusal = call(&mut out[..len - 1]).expect_err("one byte less");
     assert_eq!(refusal, Refusal { reason: Reason::ShortOutput, field: None });
     made
 }
@@ -33,16 +34,18 @@ fn idents() {
     assert_eq!(obscurlane::LONGEST_IDENT, compare::text::LONGEST_IDENT);
 }
 
+/// A field longer than the longest of its type is refused, so no record is longer than one of the longest fields.
 #[test]
 fn no_field_is_longer() {
-    let mut random = Random::with_seed(52);
     for kind in Kind::ALL {
-        for (index, entry) in (0..).zip(kind.fields()) {
-            let code = rows::type_of(kind as u64, index) as u8;
-            let mut field = sample::longest_of_type(&mut random, entry.field_type);
-            assert_eq!(obscurlane::field_no(code, &field), Ok(()), "{kind:?} {}", entry.name);
-            field.push(b'A');
-            assert!(obscurlane::field_no(code, &field).is_err(), "{kind:?} {}", entry.name);
+        let fields = sample::longest_fields(&mut Random::with_seed(52), kind);
+        for index in 0..fields.len() {
+            let mut longer = fields.clone();
+            longer[index].push(b'A');
+            let lens: Vec<usize> = longer.iter().map(Vec::len).collect();
+            let (name, mut out) = (kind.name().as_bytes(), [0; LONGEST_READ]);
+            let refusal = obscurlane::build(name, &longer.concat(), &lens, &mut out).unwrap_err();
+            assert_eq!(refusal.field, Some(index + 1), "{kind:?}");
         }
     }
 }
@@ -68,18 +71,9 @@ fn texts_of_a_request() {
 }
 
 #[test]
-fn lines_of_a_list() {
-    const MOST: usize = usize::MAX;
-    let line = made(|out| obscurlane::line_text(MOST, MOST, MOST, u8::MAX, out));
-    assert_eq!(line.len(), obscurlane::LONGEST_LINE_TEXT);
-    let end = made(|out| obscurlane::end_text(MOST, MOST, out));
-    assert_eq!(end.len(), obscurlane::LONGEST_END_TEXT);
-}
-
-#[test]
 fn bytes_that_are_read() {
     let longer = [b'A'; LONGEST_READ + 1];
-    for read in [obscurlane::read_identity, obscurlane::read_record] {
+    for read in [Record::read, Record::read_identity] {
         let reason = |bytes| read(bytes).expect_err("no record").reason;
         assert_eq!(reason(&longer[1..]), Reason::UnknownKind);
         assert_eq!(reason(&longer), Reason::TooLong);

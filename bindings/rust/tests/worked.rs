@@ -1,63 +1,152 @@
 //! The worked example, and what the crate says of its own names and numbers.
 
 use compare::worked::{worked, IDENTITIES, RECORDS};
-use obscurlane::{Kind, Reason};
+use obscurlane::{field, Identity, Kind, Reason, Record, View};
 
 #[test]
 fn every_value_is_accepted() {
     for name in IDENTITIES {
         let identity = worked(name);
-        let kind = obscurlane::read_identity(&identity).expect(name);
+        let kind = Identity::read(&identity).expect(name).kind;
         assert!(identity.starts_with(kind.name().as_bytes()), "{name} is a {kind}");
         assert!(identity.len() <= obscurlane::LONGEST_IDENTITY);
     }
     for name in RECORDS {
         let record = worked(name);
-        let kind = obscurlane::read_record(&record).expect(name);
+        let kind = Record::read(&record).expect(name).kind();
         assert!(record.starts_with(kind.name().as_bytes()), "{name} is a {kind}");
         assert!(record.len() <= obscurlane::LONGEST_RECORD);
     }
 }
 
 #[test]
-fn the_request_has_its_parts_and_its_texts() {
+fn the_request_by_its_names() {
+    let bytes = worked("VKLOADREQ");
+    let View::Request(request) = Record::read(&bytes).expect("accepted").view() else {
+        panic!("no request");
+    };
+    assert_eq!(request.id_sm.bytes, worked("ID_SM"));
+    assert_eq!(request.id_sm.kind, Kind::Smid);
+    assert_eq!(request.id_kmc.bytes, worked("ID_KMC"));
+    assert_eq!(request.id_kmc.kind, Kind::Kmcid);
+    assert_eq!(request.tvp, worked("TVP"));
+    assert_eq!(request.hwid, worked("HWID"));
+    assert_eq!(request.fwid, worked("FWID"));
+    assert_eq!(request.qe, worked("QE"));
+    assert_eq!(request.mac_tag, worked("MACTAG_SM"));
+}
+
+#[test]
+fn the_response_by_its_names() {
+    let bytes = worked("VKLOADRESP");
+    let View::Response(response) = Record::read(&bytes).expect("accepted").view() else {
+        panic!("no response");
+    };
+    assert_eq!(response.id_kmc.bytes, worked("ID_KMC"));
+    assert_eq!(response.id_kmc.kind, Kind::Kmcid);
+    assert_eq!(response.id_sm.bytes, worked("ID_SM"));
+    assert_eq!(response.id_sm.kind, Kind::Smid);
+    assert_eq!(response.tvp, worked("TVP"));
+    assert_eq!(response.mac_tag, worked("MACTAG_KMC"));
+}
+
+#[test]
+fn public_keys_by_their_names() {
+    let id_man = worked("ID_MAN");
+    for (name, kind, subject, q, signature) in [
+        ("PUBKEY_KMC", Kind::Ecdh, ("ID_KMC", Kind::Kmcid), "Q_KMC", None),
+        ("PUBKEY_MAN", Kind::Ecdsa, ("ID_MAN", Kind::Smman), "Q_MAN", Some("SIG_MAN")),
+        ("PUBKEY_SM_NOSIG", Kind::Ecdh, ("ID_SM", Kind::Smid), "Q_SM", None),
+        ("PUBKEY_SM", Kind::Ecdh, ("ID_SM", Kind::Smid), "Q_SM", Some("SIG_SM")),
+    ] {
+        let bytes = worked(name);
+        let record = Record::read(&bytes).expect(name);
+        let View::PublicKey(key) = record.view() else { panic!("{name} is no key") };
+        assert_eq!(key.kind, kind, "{name}");
+        assert_eq!((key.subject.bytes, key.subject.kind), (&worked(subject.0)[..], subject.1));
+        assert_eq!(key.q, worked(q), "{name}");
+        assert_eq!(Some(key.expiry), record.field(field::public_key::EXPIRY), "{name}");
+        let issuer = key.issuer.map(|issuer| (issuer.bytes, issuer.kind));
+        assert_eq!(issuer, signature.map(|_| (&id_man[..], Kind::Smman)), "{name}");
+        assert_eq!(key.signature.map(<[u8]>::to_vec), signature.map(worked), "{name}");
+    }
+}
+
+#[test]
+fn an_identity_by_its_names() {
+    let bytes = worked("ID_SM");
+    let identity = Identity::read(&bytes).expect("accepted");
+    assert_eq!(Record::read_identity(&bytes).map(|read| read.view()), Ok(View::Identity(identity)));
+    assert_eq!(identity.kind, Kind::Smid);
+    assert_eq!(identity.manufacturer, b"Prism");
+    assert_eq!(identity.mid, b"06000001");
+    assert_eq!(identity.gnt, b"20180120T090000Z");
+    assert_eq!(identity.fingerprint, worked("FINGERPRINT_SM"));
+}
+
+#[test]
+fn the_request_has_its_fields_and_its_texts() {
     let request = worked("VKLOADREQ");
     let names = ["ID_SM", "ID_KMC", "TVP", "HWID", "FWID", "QE", "MACTAG_SM"];
     for (wanted, name) in (1..).zip(names) {
         assert_eq!(obscurlane::record_field(&request, wanted), Ok(&worked(name)[..]), "{name}");
     }
-    let mut out = [0; obscurlane::LONGEST_MODULE_TEXT];
-    assert_eq!(obscurlane::shared_info(&request, &mut out), Ok(&worked("SHAREDINFO")[..]));
-    assert_eq!(obscurlane::module_text(&request, &mut out), Ok(&worked("MACDATA_SM")[..]));
-    assert_eq!(obscurlane::centre_text(&request, &mut out), Ok(&worked("MACDATA_KMC")[..]));
+    type Text = fn(&[u8], &mut [u8]) -> Result<usize, obscurlane::Refusal>;
+    let texts: [(Text, &str); 3] = [
+        (obscurlane::shared_info, "SHAREDINFO"),
+        (obscurlane::module_text, "MACDATA_SM"),
+        (obscurlane::centre_text, "MACDATA_KMC"),
+    ];
+    for (text, name) in texts {
+        let mut out = [0; obscurlane::LONGEST_MODULE_TEXT];
+        let len = text(&request, &mut out).expect(name);
+        assert_eq!(out[..len], worked(name), "{name}");
+    }
 }
 
 #[test]
 fn every_number_has_a_reason() {
     assert_eq!(Reason::from_number(0), None);
-    assert_eq!(Reason::from_number(14), None);
-    for (number, reason) in (1..).zip(Reason::ALL) {
+    assert_eq!(Reason::from_number(Reason::ALL.len() as u8 + 1), None);
+    for (number, &reason) in (1..).zip(Reason::ALL) {
         assert_eq!(reason.number(), number);
         assert_eq!(Reason::from_number(number), Some(reason));
-        assert!(!reason.to_string().is_empty());
+        assert_eq!(reason.to_string(), reason.sentence());
     }
 }
 
 #[test]
-fn every_row_has_a_kind() {
-    for (row, kind) in (0..).zip(Kind::ALL) {
-        assert_eq!(kind.row(), row);
-        assert_eq!(Kind::from_row(row), Some(kind));
-        assert_eq!(kind.name(), compare::kind::Kind::ALL[row].name());
+fn kinds_and_fields_have_their_names() {
+    assert_eq!(Kind::ALL.len(), compare::kind::Kind::ALL.len());
+    for (ours, theirs) in Kind::ALL.iter().zip(compare::kind::Kind::ALL) {
+        assert_eq!(ours.name(), theirs.name());
+        assert_eq!(ours.to_string(), theirs.name());
+        assert!(ours.fields().iter().copied().eq(theirs.fields().iter().map(|entry| entry.name)));
     }
-    assert_eq!(Kind::from_row(7), None);
 }
 
 #[test]
-fn a_refusal_names_its_field() {
+fn a_refusal_is_an_error() {
     let mut out = [0; 64];
     let refusal = obscurlane::build(b"SMID.1", b"-A", &[1, 1, 0, 0], &mut out).unwrap_err();
+    assert_eq!(refusal.field, Some(field::identity::MANUFACTURER));
     assert_eq!(refusal.to_string(), "6: a field is not of its text type (field 1)");
     let error: Box<dyn std::error::Error> = refusal.into();
-    assert!(error.downcast_ref::<obscurlane::Refusal>().is_some());
+    assert_eq!(error.downcast_ref(), Some(&refusal));
+}
+
+#[test]
+fn what_is_read_is_shown_as_text() {
+    let bytes = worked("ID_MAN");
+    let shown = format!("{:?}", Record::read_identity(&bytes).expect("accepted"));
+    assert_eq!(
+        shown,
+        "Record { kind: Smman, Manufacturer: \"Prism\", MID: \"A\", GNT: \"20180115T140000Z\", \
+         Fingerprint: \"105717ACA4A50852\" }"
+    );
+    let shown = format!("{:?}", obscurlane::line_at(b"a\xFF\n", 0).expect("a line"));
+    assert!(
+        shown.starts_with("Line { start: 0, bytes: \"a\\xff\", next: 3, answer: Err("),
+        "{shown}"
+    );
 }

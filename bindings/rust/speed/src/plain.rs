@@ -3,89 +3,15 @@
 //! The check is taken bit by bit in the form of the library's: nested calls of one step. As a loop LLVM would take it for a
 //! CRC and put a table of 512 bytes in its place, and the two sides would not do the same work.
 
-use obscurlane::{Kind, Reason, Refusal, LONGEST_IDENT, LONGEST_READ};
-use std::num::NonZeroU8;
+use crate::kinds::{Kind, Type, IDENTITIES, RECORDS, WRONG_IDENTITY, WRONG_KIND, WRONG_TEXT};
+use crate::side::{
+    Fields, Line, Reads, Refusal, Side, MISSING_CHECK, MISSING_FIELD, MOST_FIELDS, SHORT_OUTPUT,
+    TOO_LONG, UNFINISHED, UNKNOWN_KIND, UNPAIRED, WRONG_CHECK, WRONG_COUNT,
+};
+use obscurlane::{LONGEST_IDENT, LONGEST_READ};
 
 const CHECK_LENGTH: usize = 4;
-const MOST_FIELDS: usize = 7;
 const POINT_BYTES: u8 = 97;
-
-const IDENTITIES: &[Kind] = &[Kind::Smman, Kind::Smid, Kind::Kmcid];
-const RECORDS: &[Kind] = &[Kind::Ecdsa, Kind::Ecdh, Kind::Request, Kind::Response];
-
-/// What the text of a field must be.
-#[derive(Clone, Copy)]
-enum Type {
-    Ident,
-    Timestamp,
-    Print,
-    Point,
-    Mac,
-    SigOrEmpty,
-    Identity(&'static [Kind]),
-    IssuerOrEmpty,
-}
-
-const IDENTITY: &[Type] = &[Type::Ident, Type::Ident, Type::Timestamp, Type::Print];
-const ECDSA: &[Type] = &[
-    Type::Identity(&[Kind::Smman]),
-    Type::Point,
-    Type::Timestamp,
-    Type::IssuerOrEmpty,
-    Type::SigOrEmpty,
-];
-const ECDH: &[Type] = &[
-    Type::Identity(&[Kind::Smid, Kind::Kmcid]),
-    Type::Point,
-    Type::Timestamp,
-    Type::IssuerOrEmpty,
-    Type::SigOrEmpty,
-];
-const REQUEST: &[Type] = &[
-    Type::Identity(&[Kind::Smid]),
-    Type::Identity(&[Kind::Kmcid]),
-    Type::Timestamp,
-    Type::Ident,
-    Type::Ident,
-    Type::Point,
-    Type::Mac,
-];
-const RESPONSE: &[Type] =
-    &[Type::Identity(&[Kind::Kmcid]), Type::Identity(&[Kind::Smid]), Type::Timestamp, Type::Mac];
-
-fn types(kind: Kind) -> &'static [Type] {
-    match kind {
-        Kind::Smman | Kind::Smid | Kind::Kmcid => IDENTITY,
-        Kind::Ecdsa => ECDSA,
-        Kind::Ecdh => ECDH,
-        Kind::Request => REQUEST,
-        Kind::Response => RESPONSE,
-    }
-}
-
-fn mark(kind: Kind) -> u8 {
-    match kind {
-        Kind::Smman | Kind::Smid | Kind::Kmcid => b':',
-        _ => b'|',
-    }
-}
-
-fn kind_named(name: &[u8]) -> Option<Kind> {
-    Some(match name {
-        b"SMMAN.1" => Kind::Smman,
-        b"SMID.1" => Kind::Smid,
-        b"KMCID.1" => Kind::Kmcid,
-        b"PK.ECDSA.1" => Kind::Ecdsa,
-        b"PK.ECDH.1" => Kind::Ecdh,
-        b"VKLOAD.REQ.1" => Kind::Request,
-        b"VKLOAD.RESP.1" => Kind::Response,
-        _ => return None,
-    })
-}
-
-fn refusal(reason: Reason) -> Refusal {
-    Refusal { reason, field: None }
-}
 
 // ---- the check
 
@@ -101,7 +27,7 @@ fn eight(state: u16) -> u16 {
     bit(bit(bit(bit(bit(bit(bit(bit(state))))))))
 }
 
-pub fn crc_of(bytes: &[u8]) -> u16 {
+fn crc_of(bytes: &[u8]) -> u16 {
     bytes.iter().fold(0xFFFF, |state, &byte| eight(state ^ u16::from(byte)))
 }
 
@@ -154,14 +80,14 @@ fn is_timestamp(text: &[u8]) -> bool {
 // ---- fields
 
 /// At most seven fields, and how many.
-struct Fields<'a> {
-    parts: [&'a [u8]; MOST_FIELDS],
+struct Parts<'a> {
+    parts: Fields<'a>,
     count: usize,
 }
 
-impl<'a> Fields<'a> {
+impl<'a> Parts<'a> {
     fn new() -> Self {
-        Fields { parts: [&[]; MOST_FIELDS], count: 0 }
+        Parts { parts: [&[]; MOST_FIELDS], count: 0 }
     }
 
     /// A field more; past the most there can be it is only counted.
@@ -175,20 +101,19 @@ impl<'a> Fields<'a> {
 
 /// Each field by itself from left to right, then Issuer and Signature together.
 fn check_fields(kind: Kind, fields: &[&[u8]]) -> Result<(), Refusal> {
-    for (index, (&field_type, field)) in types(kind).iter().zip(fields).enumerate() {
-        if let Err(reason) = check_field(field_type, field) {
-            return Err(Refusal { reason, field: NonZeroU8::new(index as u8 + 1) });
-        }
+    for (number, (&field_type, field)) in (1..).zip(kind.types().iter().zip(fields)) {
+        check_field(field_type, field).map_err(|no| (no, number))?;
     }
-    if let (Kind::Ecdsa | Kind::Ecdh, [.., issuer, signature]) = (kind, fields) {
+    if let (true, [.., issuer, signature]) = (kind.is_public_key(), fields) {
         if issuer.is_empty() != signature.is_empty() {
-            return Err(refusal(Reason::Unpaired));
+            return Err(UNPAIRED);
         }
     }
     Ok(())
 }
 
-fn check_field(field_type: Type, field: &[u8]) -> Result<(), Reason> {
+/// The number that the field is refused with, if it is.
+fn check_field(field_type: Type, field: &[u8]) -> Result<(), u8> {
     let fits = match field_type {
         Type::Ident => is_ident(field),
         Type::Timestamp => is_timestamp(field),
@@ -203,82 +128,56 @@ fn check_field(field_type: Type, field: &[u8]) -> Result<(), Reason> {
     if fits {
         Ok(())
     } else {
-        Err(Reason::WrongText)
+        Err(WRONG_TEXT)
     }
 }
 
-fn check_identity(permitted: &[Kind], field: &[u8]) -> Result<(), Reason> {
-    match read_identity(field) {
-        Err(_) => Err(Reason::WrongIdentity),
-        Ok(kind) if permitted.contains(&kind) => Ok(()),
-        Ok(_) => Err(Reason::WrongKind),
+fn check_identity(permitted: &[Kind], field: &[u8]) -> Result<(), u8> {
+    match read(field, IDENTITIES) {
+        Err(_) => Err(WRONG_IDENTITY),
+        Ok((kind, _)) if permitted.contains(&kind) => Ok(()),
+        Ok(_) => Err(WRONG_KIND),
     }
 }
 
 // ---- reading
 
 /// The kind and the fields of a record of one of the wanted kinds.
-fn read<'a>(bytes: &'a [u8], wanted: &[Kind]) -> Result<(Kind, Fields<'a>), Refusal> {
+fn read<'a>(bytes: &'a [u8], wanted: &[Kind]) -> Result<(Kind, Parts<'a>), Refusal> {
     if bytes.len() > LONGEST_READ {
-        return Err(refusal(Reason::TooLong));
+        return Err(TOO_LONG);
     }
     let title = bytes.iter().position(|&byte| matches!(byte, b':' | b'|'));
-    let title = title.ok_or(refusal(Reason::UnknownKind))?;
-    let kind = kind_named(&bytes[..title])
-        .filter(|kind| wanted.contains(kind) && mark(*kind) == bytes[title])
-        .ok_or(refusal(Reason::UnknownKind))?;
+    let title = title.ok_or(UNKNOWN_KIND)?;
+    let kind = Kind::named(&bytes[..title])
+        .filter(|kind| wanted.contains(kind) && kind.mark() == bytes[title])
+        .ok_or(UNKNOWN_KIND)?;
 
-    let end = bytes.len().checked_sub(CHECK_LENGTH).ok_or(refusal(Reason::MissingCheck))?;
+    let end = bytes.len().checked_sub(CHECK_LENGTH).ok_or(MISSING_CHECK)?;
     let (body, check) = bytes.split_at(end);
-    if !is_hex(CHECK_LENGTH, check) || body.last() != Some(&mark(kind)) {
-        return Err(refusal(Reason::MissingCheck));
+    if !is_hex(CHECK_LENGTH, check) || body.last() != Some(&kind.mark()) {
+        return Err(MISSING_CHECK);
     }
     if check != check_text(crc_of(body)) {
-        return Err(refusal(Reason::WrongCheck));
+        return Err(WRONG_CHECK);
     }
 
-    let mut fields = Fields::new();
+    let mut fields = Parts::new();
     if let [between @ .., _] = &body[title + 1..] {
-        between.split(|&byte| byte == mark(kind)).for_each(|part| fields.push(part));
+        between.split(|&byte| byte == kind.mark()).for_each(|part| fields.push(part));
     }
-    if fields.count != types(kind).len() {
-        return Err(refusal(Reason::WrongCount));
+    if fields.count != kind.types().len() {
+        return Err(WRONG_COUNT);
     }
     check_fields(kind, &fields.parts[..fields.count])?;
     Ok((kind, fields))
 }
 
-pub fn read_identity(identity: &[u8]) -> Result<Kind, Refusal> {
-    read(identity, IDENTITIES).map(|(kind, _)| kind)
-}
-
-pub fn read_record(record: &[u8]) -> Result<Kind, Refusal> {
-    read(record, RECORDS).map(|(kind, _)| kind)
-}
-
-// ---- files
-
-/// Start, length, next place and answer of the line at a place.
-pub struct Line {
-    pub start: usize,
-    pub len: usize,
-    pub next: usize,
-    pub answer: Result<Kind, Refusal>,
-}
-
-pub fn line_at(file: &[u8], place: usize) -> Option<Line> {
-    let rest = file.get(place..).filter(|rest| !rest.is_empty())?;
-    Some(match rest.iter().position(|&byte| byte == b'\n') {
-        Some(len) => {
-            Line { start: place, len, next: place + len + 1, answer: read_record(&rest[..len]) }
-        }
-        None => Line {
-            start: place,
-            len: rest.len(),
-            next: file.len(),
-            answer: Err(refusal(Reason::Unfinished)),
-        },
-    })
+fn wanted(reads: Reads) -> &'static [Kind] {
+    match reads {
+        Reads::Identities => IDENTITIES,
+        Reads::Records => RECORDS,
+    }
 }
 
 // ---- building
@@ -295,41 +194,6 @@ impl Writer<'_> {
         self.out[self.at..end].copy_from_slice(piece);
         self.at = end;
     }
-}
-
-pub fn build(name: &[u8], bytes: &[u8], lens: &[usize], out: &mut [u8]) -> Result<usize, Refusal> {
-    let kind = kind_named(name).ok_or(refusal(Reason::UnknownKind))?;
-    if lens.len() != types(kind).len() {
-        return Err(refusal(Reason::WrongCount));
-    }
-    let mut fields = Fields::new();
-    let mut rest = bytes;
-    for &len in lens {
-        if rest.len() < len {
-            return Err(refusal(Reason::WrongCount));
-        }
-        let (part, after) = rest.split_at(len);
-        fields.push(part);
-        rest = after;
-    }
-    if !rest.is_empty() {
-        return Err(refusal(Reason::WrongCount));
-    }
-    let fields = &fields.parts[..fields.count];
-    check_fields(kind, fields)?;
-
-    let total = name.len() + 1 + bytes.len() + lens.len() + CHECK_LENGTH;
-    let out = out.get_mut(..total).ok_or(refusal(Reason::ShortOutput))?;
-    let mut writer = Writer { out, at: 0 };
-    writer.put(name);
-    writer.put(&[mark(kind)]);
-    for field in fields {
-        writer.put(field);
-        writer.put(&[mark(kind)]);
-    }
-    let check = check_text(crc_of(&writer.out[..writer.at]));
-    writer.put(&check);
-    Ok(total)
 }
 
 // ---- the texts of a load request
@@ -358,7 +222,7 @@ fn hex_value(character: u8) -> u8 {
 
 fn write_text(items: &[Item<'_>], out: &mut [u8]) -> Result<usize, Refusal> {
     let total = 1 + items.iter().map(|item| 1 + item.len()).sum::<usize>();
-    let out = out.get_mut(..total).ok_or(refusal(Reason::ShortOutput))?;
+    let out = out.get_mut(..total).ok_or(SHORT_OUTPUT)?;
     let mut writer = Writer { out, at: 0 };
     writer.put(&[items.len() as u8]);
     for item in items {
@@ -375,38 +239,108 @@ fn write_text(items: &[Item<'_>], out: &mut [u8]) -> Result<usize, Refusal> {
     Ok(total)
 }
 
-fn read_request(request: &[u8]) -> Result<[&[u8]; MOST_FIELDS], Refusal> {
+fn read_request(request: &[u8]) -> Result<Fields<'_>, Refusal> {
     read(request, &[Kind::Request]).map(|(_, fields)| fields.parts)
 }
 
-pub fn shared_info(request: &[u8], out: &mut [u8]) -> Result<usize, Refusal> {
-    let [id_sm, id_kmc, tvp, ..] = read_request(request)?;
-    let label = Item::Bytes(b"STS.KAA.1");
-    write_text(&[label, Item::Bytes(id_sm), Item::Bytes(id_kmc), Item::Bytes(tvp)], out)
-}
+// ---- as a side
 
-pub fn module_text(request: &[u8], out: &mut [u8]) -> Result<usize, Refusal> {
-    let [id_sm, id_kmc, tvp, hwid, fwid, qe, _] = read_request(request)?;
-    let items = [
-        Item::Bytes(b"U_2"),
-        Item::Bytes(id_sm),
-        Item::Bytes(id_kmc),
-        Item::Point(qe),
-        Item::Bytes(tvp),
-        Item::Bytes(hwid),
-        Item::Bytes(fwid),
-    ];
-    write_text(&items, out)
-}
+pub struct Plain;
 
-pub fn centre_text(request: &[u8], out: &mut [u8]) -> Result<usize, Refusal> {
-    let [id_sm, id_kmc, tvp, _, _, qe, _] = read_request(request)?;
-    let items = [
-        Item::Bytes(b"V2"),
-        Item::Bytes(id_kmc),
-        Item::Bytes(id_sm),
-        Item::Bytes(tvp),
-        Item::Point(qe),
-    ];
-    write_text(&items, out)
+impl Side for Plain {
+    const NAME: &'static str = "plain";
+
+    fn crc_of(bytes: &[u8]) -> u16 {
+        crc_of(bytes)
+    }
+
+    fn read(reads: Reads, bytes: &[u8]) -> Result<usize, Refusal> {
+        read(bytes, wanted(reads)).map(|(kind, _)| kind as usize)
+    }
+
+    fn read_fields(reads: Reads, bytes: &[u8]) -> Result<(usize, Fields<'_>), Refusal> {
+        read(bytes, wanted(reads)).map(|(kind, fields)| (kind as usize, fields.parts))
+    }
+
+    fn record_field(record: &[u8], wanted: usize) -> Result<&[u8], Refusal> {
+        let (_, fields) = read(record, RECORDS)?;
+        let index = wanted.checked_sub(1).filter(|&index| index < fields.count);
+        index.map(|index| fields.parts[index]).ok_or(MISSING_FIELD)
+    }
+
+    fn line_at(file: &[u8], place: usize) -> Option<Line> {
+        let rest = file.get(place..).filter(|rest| !rest.is_empty())?;
+        let (len, next, answer) = match rest.iter().position(|&byte| byte == b'\n') {
+            Some(len) => (len, place + len + 1, Plain::read(Reads::Records, &rest[..len])),
+            None => (rest.len(), file.len(), Err(UNFINISHED)),
+        };
+        Some(Line { start: place, len, next, answer })
+    }
+
+    fn build(name: &[u8], bytes: &[u8], lens: &[usize], out: &mut [u8]) -> Result<usize, Refusal> {
+        let kind = Kind::named(name).ok_or(UNKNOWN_KIND)?;
+        if lens.len() != kind.types().len() {
+            return Err(WRONG_COUNT);
+        }
+        let mut fields = Parts::new();
+        let mut rest = bytes;
+        for &len in lens {
+            if rest.len() < len {
+                return Err(WRONG_COUNT);
+            }
+            let (part, after) = rest.split_at(len);
+            fields.push(part);
+            rest = after;
+        }
+        if !rest.is_empty() {
+            return Err(WRONG_COUNT);
+        }
+        let fields = &fields.parts[..fields.count];
+        check_fields(kind, fields)?;
+
+        let total = name.len() + 1 + bytes.len() + lens.len() + CHECK_LENGTH;
+        let out = out.get_mut(..total).ok_or(SHORT_OUTPUT)?;
+        let mut writer = Writer { out, at: 0 };
+        writer.put(name);
+        writer.put(&[kind.mark()]);
+        for field in fields {
+            writer.put(field);
+            writer.put(&[kind.mark()]);
+        }
+        let check = check_text(crc_of(&writer.out[..writer.at]));
+        writer.put(&check);
+        Ok(total)
+    }
+
+    fn shared_info(request: &[u8], out: &mut [u8]) -> Result<usize, Refusal> {
+        let [id_sm, id_kmc, tvp, ..] = read_request(request)?;
+        let label = Item::Bytes(b"STS.KAA.1");
+        write_text(&[label, Item::Bytes(id_sm), Item::Bytes(id_kmc), Item::Bytes(tvp)], out)
+    }
+
+    fn module_text(request: &[u8], out: &mut [u8]) -> Result<usize, Refusal> {
+        let [id_sm, id_kmc, tvp, hwid, fwid, qe, _] = read_request(request)?;
+        let items = [
+            Item::Bytes(b"U_2"),
+            Item::Bytes(id_sm),
+            Item::Bytes(id_kmc),
+            Item::Point(qe),
+            Item::Bytes(tvp),
+            Item::Bytes(hwid),
+            Item::Bytes(fwid),
+        ];
+        write_text(&items, out)
+    }
+
+    fn centre_text(request: &[u8], out: &mut [u8]) -> Result<usize, Refusal> {
+        let [id_sm, id_kmc, tvp, _, _, qe, _] = read_request(request)?;
+        let items = [
+            Item::Bytes(b"V2"),
+            Item::Bytes(id_kmc),
+            Item::Bytes(id_sm),
+            Item::Bytes(tvp),
+            Item::Point(qe),
+        ];
+        write_text(&items, out)
+    }
 }

@@ -4,9 +4,8 @@
 
 use compare::file::{self, Step};
 use compare::refusal::Refusal as Expected;
-use obscurlane::{Kind, Line, Refusal};
+use obscurlane::{Line, Refusal};
 use std::fmt::Debug;
-use std::num::NonZeroU8;
 use std::ops::RangeInclusive;
 
 const USUAL: usize = 3000;
@@ -20,55 +19,41 @@ pub fn rounds() -> usize {
 
 /// That so many of the rounds lie within a share, in percent; fewer rounds than the usual need not.
 pub fn expect_share(percent: RangeInclusive<usize>, times: usize, what: &str) {
-    expect_share_of(rounds(), percent, times, what);
-}
-
-/// The same of a number that is not the rounds', but grows with it.
-pub fn expect_share_of(all: usize, percent: RangeInclusive<usize>, times: usize, what: &str) {
-    let is_within = || percent.contains(&(100 * times / all));
-    assert!(rounds() < USUAL || is_within(), "{times} of {all} {what}");
+    let is_within = || percent.contains(&(100 * times / rounds()));
+    assert!(rounds() < USUAL || is_within(), "{times} of {} {what}", rounds());
 }
 
 /// A refusal's number, and the number of the field that it is about, 0 where it is about none.
-pub type Numbers = (u8, u8);
+pub type Numbers = (u8, usize);
+
+pub fn of_refusal(refusal: Refusal) -> Numbers {
+    (refusal.reason.number(), refusal.field.unwrap_or(0))
+}
 
 /// The crate's answer.
 pub fn numbers<T>(answer: Result<T, Refusal>) -> Result<T, Numbers> {
-    answer.map_err(|refusal| (refusal.reason.number(), refusal.field.map_or(0, NonZeroU8::get)))
+    answer.map_err(of_refusal)
 }
 
 /// The answer of `compare/`.
 pub fn expected<T>(answer: Result<T, Expected>) -> Result<T, Numbers> {
-    answer.map_err(|refusal| (refusal.number(), refusal.field()))
+    answer.map_err(|refusal| (refusal.number(), usize::from(refusal.field())))
 }
 
-/// Lends both sides an output of this room: they give the same answer, and leave the same bytes. Gives back the answer, and
-/// whether anything was written.
-pub fn same_output<T: PartialEq + Debug>(
-    room: usize,
-    ours: impl FnOnce(&mut [u8]) -> T,
-    theirs: impl FnOnce(&mut [u8]) -> T,
-    input: &impl Debug,
-) -> (T, bool) {
-    let lent: Vec<u8> = (0..room).map(|index| index as u8 ^ 0xA5).collect();
-    let (mut out, mut wanted) = (lent.clone(), lent.clone());
-    let answer = ours(&mut out);
-    assert_eq!(answer, theirs(&mut wanted), "{input:?}");
-    assert_eq!(out, wanted, "{input:?}");
-    (answer, out != lent)
-}
-
-/// The same for calls that may refuse: a refused one leaves its output.
-pub fn same_result(
+/// Lends both sides an output of this room: they give the same answer and leave the same bytes, and a refused call leaves its
+/// output as it was. Gives back the answer.
+pub fn same_output(
     room: usize,
     ours: impl FnOnce(&mut [u8]) -> Result<usize, Refusal>,
     theirs: impl FnOnce(&mut [u8]) -> Result<usize, Expected>,
     input: &impl Debug,
 ) -> Result<usize, Numbers> {
-    let (ours, theirs) =
-        (|out: &mut [u8]| numbers(ours(out)), |out: &mut [u8]| expected(theirs(out)));
-    let (answer, is_written) = same_output(room, ours, theirs, input);
-    assert!(answer.is_ok() || !is_written, "refused, and its output is written: {input:?}");
+    let lent: Vec<u8> = (0..room).map(|index| index as u8 ^ 0xA5).collect();
+    let (mut out, mut wanted) = (lent.clone(), lent.clone());
+    let answer = numbers(ours(&mut out));
+    assert_eq!(answer, expected(theirs(&mut wanted)), "{input:?}");
+    assert_eq!(out, wanted, "{input:?}");
+    assert!(answer.is_ok() || out == lent, "refused, and its output is written: {input:?}");
     answer
 }
 
@@ -77,23 +62,19 @@ pub fn place(part: &[u8]) -> (*const u8, usize) {
     (part.as_ptr(), part.len())
 }
 
-/// A mark of `compare/`, where 0 stands for none.
-pub fn expected_mark(mark: u8) -> Option<u8> {
-    NonZeroU8::new(mark).map(NonZeroU8::get)
-}
-
-/// A line of a file: its answer with the kind's row, its start, its length, and the next place.
-pub type LineNumbers = (Result<usize, Numbers>, usize, usize, usize);
+/// A line of a file: the name of its kind or its refusal, its start, its length, and the next place.
+pub type LineNumbers = (Result<&'static str, Numbers>, usize, usize, usize);
 
 /// The crate's line; its bytes are those of the file.
 pub fn line_numbers(file: &[u8], line: Line<'_>) -> LineNumbers {
     assert_eq!(line.bytes.as_ptr(), file[line.start..].as_ptr());
-    (numbers(line.answer.map(Kind::row)), line.start, line.bytes.len(), line.next)
+    let answer = numbers(line.answer.map(obscurlane::Kind::name));
+    (answer, line.start, line.bytes.len(), line.next)
 }
 
 /// The line of `compare/`.
 pub fn expected_line(line: file::Line) -> LineNumbers {
-    let answer = expected(line.answer.map(|kind| kind as usize));
+    let answer = expected(line.answer.map(compare::kind::Kind::name));
     (answer, line.start as usize, line.length as usize, line.next as usize)
 }
 

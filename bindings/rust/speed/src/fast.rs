@@ -1,0 +1,389 @@
+//! The same calls as a Rust programmer writes them for speed, without `unsafe` and for no particular processor: tables for the
+//! check, sixteen bytes at a step; words in the place of bytes where something is looked for; and every field gone over once,
+//! by its type, which finds its end as well. Only what is refused is gone over again, to count its fields.
+
+use crate::kinds::{Kind, Type, IDENTITIES, RECORDS, WRONG_IDENTITY, WRONG_KIND, WRONG_TEXT};
+use crate::side::{
+    Fields, Line, Reads, Refusal, Side, MISSING_CHECK, MISSING_FIELD, MOST_FIELDS, SHORT_OUTPUT,
+    TOO_LONG, UNFINISHED, UNKNOWN_KIND, UNPAIRED, WRONG_CHECK, WRONG_COUNT,
+};
+use obscurlane::{LONGEST_IDENT, LONGEST_READ};
+
+const CHECK_LENGTH: usize = 4;
+const POINT_BYTES: usize = 97;
+
+// ---- the check
+
+const STEP: usize = 16;
+
+/// Table n has the states after the byte of its index and n bytes 0.
+static TABLES: [[u16; 256]; STEP] = tables();
+
+const fn tables() -> [[u16; 256]; STEP] {
+    let mut tables = [[0; 256]; STEP];
+    let mut index = 0;
+    while index < 256 * STEP {
+        let (table, byte) = (index / 256, index % 256);
+        let before = if table == 0 { byte as u16 } else { tables[table - 1][byte] };
+        tables[table][byte] = eight(before);
+        index += 1;
+    }
+    tables
+}
+
+const fn eight(mut state: u16) -> u16 {
+    let mut bit = 0;
+    while bit < 8 {
+        state = (state >> 1) ^ (0xA001 * (state & 1));
+        bit += 1;
+    }
+    state
+}
+
+fn crc_of(bytes: &[u8]) -> u16 {
+    let mut steps = bytes.chunks_exact(STEP);
+    let state = steps.by_ref().fold(0xFFFF_u16, |state, step| {
+        // What does not wait for the state before goes first.
+        let rest = TABLES[..STEP - 2].iter().rev().zip(&step[2..]);
+        let mixed = rest.fold(0, |mixed, (table, &byte)| mixed ^ table[usize::from(byte)]);
+        let [low, high] = state.to_le_bytes();
+        let (first, second) = (usize::from(step[0] ^ low), usize::from(step[1] ^ high));
+        mixed ^ (TABLES[STEP - 1][first] ^ TABLES[STEP - 2][second])
+    });
+    let rest = steps.remainder().iter();
+    rest.fold(state, |state, &byte| (state >> 8) ^ TABLES[0][usize::from(state as u8 ^ byte)])
+}
+
+// ---- characters
+
+const fn is_hexadecimal(byte: u8) -> bool {
+    byte.wrapping_sub(b'0') < 10 || byte.wrapping_sub(b'A') < 6
+}
+
+/// The value of a hexadecimal character.
+const fn value(character: u8) -> u8 {
+    (character & 15) + 9 * (character >> 6)
+}
+
+/// No early end, so that the loop becomes wide instructions.
+fn are_hexadecimal(text: &[u8]) -> bool {
+    text.iter().fold(true, |all, &byte| all & is_hexadecimal(byte))
+}
+
+/// The characters of an IDENT after its first.
+static IN_IDENT: [bool; 256] = {
+    let mut table = [false; 256];
+    let mut byte = 0;
+    while byte < 256 {
+        let character = byte as u8;
+        table[byte] =
+            character.is_ascii_alphanumeric() || matches!(character, b'_' | b'-' | b'.' | b',');
+        byte += 1;
+    }
+    table
+};
+
+const ONES: u64 = u64::from_le_bytes([1; 8]);
+
+/// The first place of a byte, eight bytes at a time.
+fn find(byte: u8, bytes: &[u8]) -> Option<usize> {
+    const LOW: u64 = 0x7F * ONES;
+    let mut words = bytes.chunks_exact(8);
+    let found = words.by_ref().enumerate().find_map(|(index, word)| {
+        let other = word_of(word) ^ (ONES * u64::from(byte));
+        let same = !(((other & LOW) + LOW) | other | LOW);
+        (same != 0).then(|| 8 * index + same.trailing_zeros() as usize / 8)
+    });
+    found.or_else(|| {
+        let rest = words.remainder();
+        let at = rest.iter().position(|&other| other == byte)?;
+        Some(bytes.len() - rest.len() + at)
+    })
+}
+
+/// Eight bytes as a word, the first the lowest.
+fn word_of(bytes: &[u8]) -> u64 {
+    u64::from_le_bytes(bytes.try_into().expect("eight bytes"))
+}
+
+/// Eight characters that are all decimal digits, as four numbers of two digits.
+fn pairs(word: u64) -> Option<[u8; 4]> {
+    let digits = word ^ (u64::from(b'0') * ONES);
+    let are_digits = (digits | digits.wrapping_add(6 * ONES)) & (0xF0 * ONES) == 0;
+    are_digits.then(|| {
+        let [first, _, second, _, third, _, fourth, _] =
+            (10 * digits + (digits >> 8)).to_le_bytes();
+        [first, second, third, fourth]
+    })
+}
+
+fn is_timestamp(text: &[u8; 16]) -> bool {
+    let [date @ .., b'T', h1, h2, i1, i2, s1, s2, b'Z'] = text else { return false };
+    let time = [*h1, *h2, *i1, *i2, *s1, *s2, b'0', b'0'];
+    let (Some([high, low, month, day]), Some([hour, minute, second, _])) =
+        (pairs(word_of(date)), pairs(u64::from_le_bytes(time)))
+    else {
+        return false;
+    };
+    (high, low) != (0, 0)
+        && (1..=12).contains(&month)
+        && (1..=31).contains(&day)
+        && hour < 24
+        && minute < 60
+        && second < 60
+}
+
+// ---- fields
+
+fn ident_length(rest: &[u8]) -> Option<usize> {
+    let among = rest.iter().take(LONGEST_IDENT + 1);
+    let length = among.take_while(|&&byte| IN_IDENT[usize::from(byte)]).count();
+    let is_ident = length <= LONGEST_IDENT && rest.first()?.is_ascii_alphanumeric();
+    is_ident.then_some(length)
+}
+
+fn hex_length<const LENGTH: usize>(rest: &[u8]) -> Option<usize> {
+    rest.first_chunk::<LENGTH>().filter(|text| are_hexadecimal(&text[..])).map(|_| LENGTH)
+}
+
+/// The length of the field of this type at the front, or the number that it is refused with. What stands behind it is the mark,
+/// or nothing.
+fn field_length(field_type: Type, behind: Option<u8>, rest: &[u8]) -> Result<usize, u8> {
+    let is_empty = rest.first().copied() == behind;
+    let length = match field_type {
+        Type::Ident => ident_length(rest),
+        Type::Timestamp => rest.first_chunk().filter(|text| is_timestamp(text)).map(|_| 16),
+        Type::Print => hex_length::<16>(rest),
+        Type::Point => hex_length::<194>(rest).filter(|_| rest.starts_with(b"04")),
+        Type::Mac => hex_length::<48>(rest),
+        Type::SigOrEmpty | Type::IssuerOrEmpty if is_empty => Some(0),
+        Type::SigOrEmpty => hex_length::<192>(rest),
+        Type::Identity(permitted) => return identity_length(permitted, behind, rest),
+        Type::IssuerOrEmpty => return identity_length(&[Kind::Smman], behind, rest),
+    };
+    length.filter(|&length| rest.get(length).copied() == behind).ok_or(WRONG_TEXT)
+}
+
+fn identity_length(permitted: &[Kind], behind: Option<u8>, rest: &[u8]) -> Result<usize, u8> {
+    match identity_at(rest) {
+        Some((kind, length)) if rest.get(length).copied() == behind => {
+            permitted.contains(&kind).then_some(length).ok_or(WRONG_KIND)
+        }
+        _ => Err(WRONG_IDENTITY),
+    }
+}
+
+/// The kind and the length of the identity at the front.
+fn identity_at(bytes: &[u8]) -> Option<(Kind, usize)> {
+    let (kind, mut end) = title_at(bytes, IDENTITIES)?;
+    for &field_type in kind.types() {
+        end += field_length(field_type, Some(b':'), &bytes[end..]).ok()? + 1;
+    }
+    let check = check_of(bytes[end..].first_chunk()?)?;
+    (check == crc_of(&bytes[..end])).then_some((kind, end + CHECK_LENGTH))
+}
+
+/// The kind whose name and mark stand at the front, and the length of both.
+fn title_at(bytes: &[u8], wanted: &[Kind]) -> Option<(Kind, usize)> {
+    let title = |kind: Kind| -> &'static [u8] {
+        match kind {
+            Kind::Smman => b"SMMAN.1:",
+            Kind::Smid => b"SMID.1:",
+            Kind::Kmcid => b"KMCID.1:",
+            Kind::Ecdsa => b"PK.ECDSA.1|",
+            Kind::Ecdh => b"PK.ECDH.1|",
+            Kind::Request => b"VKLOAD.REQ.1|",
+            Kind::Response => b"VKLOAD.RESP.1|",
+        }
+    };
+    let kind = wanted.iter().copied().find(|&kind| bytes.starts_with(title(kind)))?;
+    Some((kind, title(kind).len()))
+}
+
+fn check_of(text: &[u8; CHECK_LENGTH]) -> Option<u16> {
+    let number = |text: &[u8; CHECK_LENGTH]| {
+        text.iter().fold(0, |number, &digit| 16 * number + u16::from(value(digit)))
+    };
+    are_hexadecimal(text).then(|| number(text))
+}
+
+// ---- reading
+
+/// The kind and the fields of a record of one of the wanted kinds.
+fn read<'a>(bytes: &'a [u8], wanted: &[Kind]) -> Result<(Kind, Fields<'a>), Refusal> {
+    if bytes.len() > LONGEST_READ {
+        return Err(TOO_LONG);
+    }
+    let (kind, title) = title_at(bytes, wanted).ok_or(UNKNOWN_KIND)?;
+    let (body, check) = bytes.split_last_chunk().ok_or(MISSING_CHECK)?;
+    let is_ended = body.last() == Some(&kind.mark());
+    let check = check_of(check).filter(|_| is_ended).ok_or(MISSING_CHECK)?;
+    if check != crc_of(body) {
+        return Err(WRONG_CHECK);
+    }
+    let fields = &body[title..];
+    read_fields(kind, fields)
+        .map_err(|refusal| unless_miscounted(kind, fields, refusal))
+        .map(|fields| (kind, fields))
+}
+
+/// The fields from left to right, each ended by the mark, and Issuer and Signature together.
+fn read_fields(kind: Kind, mut rest: &[u8]) -> Result<Fields<'_>, Refusal> {
+    let mut fields: Fields<'_> = [&[]; MOST_FIELDS];
+    for (number, &field_type) in (1..).zip(kind.types()) {
+        let length =
+            field_length(field_type, Some(kind.mark()), rest).map_err(|no| (no, number))?;
+        fields[number - 1] = &rest[..length];
+        rest = &rest[length + 1..];
+    }
+    match is_paired(kind, &fields) {
+        _ if !rest.is_empty() => Err(WRONG_COUNT),
+        true => Ok(fields),
+        false => Err(UNPAIRED),
+    }
+}
+
+fn is_paired(kind: Kind, fields: &Fields<'_>) -> bool {
+    !kind.is_public_key() || fields[3].is_empty() == fields[4].is_empty()
+}
+
+/// A wrong number of fields comes before what is wrong with one of them.
+#[cold]
+fn unless_miscounted(kind: Kind, fields: &[u8], refusal: Refusal) -> Refusal {
+    let count = fields.iter().filter(|&&byte| byte == kind.mark()).count();
+    if count == kind.types().len() {
+        refusal
+    } else {
+        WRONG_COUNT
+    }
+}
+
+// ---- writing
+
+/// Writes from the front of an output that is long enough.
+struct Writer<'o> {
+    out: &'o mut [u8],
+    at: usize,
+}
+
+impl Writer<'_> {
+    fn put(&mut self, piece: &[u8]) {
+        let end = self.at + piece.len();
+        self.out[self.at..end].copy_from_slice(piece);
+        self.at = end;
+    }
+
+    fn put_item(&mut self, item: &[u8]) {
+        self.put(&[item.len() as u8]);
+        self.put(item);
+    }
+}
+
+/// The fields of the lengths, if they are permitted.
+fn permitted<'a>(kind: Kind, mut rest: &'a [u8], lens: &[usize]) -> Result<Fields<'a>, Refusal> {
+    if lens.len() != kind.types().len() {
+        return Err(WRONG_COUNT);
+    }
+    let mut fields: Fields<'a> = [&[]; MOST_FIELDS];
+    for (field, &length) in fields.iter_mut().zip(lens) {
+        (*field, rest) = rest.split_at_checked(length).ok_or(WRONG_COUNT)?;
+    }
+    if !rest.is_empty() {
+        return Err(WRONG_COUNT);
+    }
+    for (number, &field_type) in (1..).zip(kind.types()) {
+        field_length(field_type, None, fields[number - 1]).map_err(|no| (no, number))?;
+    }
+    is_paired(kind, &fields).then_some(fields).ok_or(UNPAIRED)
+}
+
+fn decoded(point: &[u8]) -> [u8; POINT_BYTES] {
+    let mut bytes = [0; POINT_BYTES];
+    for (byte, pair) in bytes.iter_mut().zip(point.chunks_exact(2)) {
+        *byte = 16 * value(pair[0]) + value(pair[1]);
+    }
+    bytes
+}
+
+fn write_text(items: &[&[u8]], out: &mut [u8]) -> Result<usize, Refusal> {
+    let total = 1 + items.iter().map(|item| 1 + item.len()).sum::<usize>();
+    let out = out.get_mut(..total).ok_or(SHORT_OUTPUT)?;
+    let mut writer = Writer { out, at: 0 };
+    writer.put(&[items.len() as u8]);
+    items.iter().for_each(|item| writer.put_item(item));
+    Ok(total)
+}
+
+fn read_request(request: &[u8]) -> Result<Fields<'_>, Refusal> {
+    read(request, &[Kind::Request]).map(|(_, fields)| fields)
+}
+
+// ---- as a side
+
+pub struct Fast;
+
+impl Side for Fast {
+    const NAME: &'static str = "fast";
+
+    fn crc_of(bytes: &[u8]) -> u16 {
+        crc_of(bytes)
+    }
+
+    fn read(reads: Reads, bytes: &[u8]) -> Result<usize, Refusal> {
+        Fast::read_fields(reads, bytes).map(|(kind, _)| kind)
+    }
+
+    fn read_fields(reads: Reads, bytes: &[u8]) -> Result<(usize, Fields<'_>), Refusal> {
+        let wanted = match reads {
+            Reads::Identities => IDENTITIES,
+            Reads::Records => RECORDS,
+        };
+        read(bytes, wanted).map(|(kind, fields)| (kind as usize, fields))
+    }
+
+    fn record_field(record: &[u8], wanted: usize) -> Result<&[u8], Refusal> {
+        let (kind, fields) = read(record, RECORDS)?;
+        let index = wanted.checked_sub(1).filter(|&index| index < kind.types().len());
+        index.map(|index| fields[index]).ok_or(MISSING_FIELD)
+    }
+
+    fn line_at(file: &[u8], place: usize) -> Option<Line> {
+        let rest = file.get(place..).filter(|rest| !rest.is_empty())?;
+        let (len, next, answer) = match find(b'\n', rest) {
+            Some(len) => (len, place + len + 1, Fast::read(Reads::Records, &rest[..len])),
+            None => (rest.len(), file.len(), Err(UNFINISHED)),
+        };
+        Some(Line { start: place, len, next, answer })
+    }
+
+    fn build(name: &[u8], bytes: &[u8], lens: &[usize], out: &mut [u8]) -> Result<usize, Refusal> {
+        let kind = Kind::named(name).ok_or(UNKNOWN_KIND)?;
+        let fields = permitted(kind, bytes, lens)?;
+        let total = name.len() + 1 + bytes.len() + lens.len() + CHECK_LENGTH;
+        let out = out.get_mut(..total).ok_or(SHORT_OUTPUT)?;
+        let mut writer = Writer { out, at: 0 };
+        for part in [name].iter().chain(&fields[..lens.len()]) {
+            writer.put(part);
+            writer.put(&[kind.mark()]);
+        }
+        let check = crc_of(&writer.out[..writer.at]);
+        let digit = |place: u16| b"0123456789ABCDEF"[usize::from(check >> place & 15)];
+        writer.put(&[12, 8, 4, 0].map(digit));
+        Ok(total)
+    }
+
+    fn shared_info(request: &[u8], out: &mut [u8]) -> Result<usize, Refusal> {
+        let [id_sm, id_kmc, tvp, ..] = read_request(request)?;
+        write_text(&[b"STS.KAA.1", id_sm, id_kmc, tvp], out)
+    }
+
+    fn module_text(request: &[u8], out: &mut [u8]) -> Result<usize, Refusal> {
+        let [id_sm, id_kmc, tvp, hwid, fwid, qe, _] = read_request(request)?;
+        write_text(&[b"U_2", id_sm, id_kmc, &decoded(qe), tvp, hwid, fwid], out)
+    }
+
+    fn centre_text(request: &[u8], out: &mut [u8]) -> Result<usize, Refusal> {
+        let [id_sm, id_kmc, tvp, _, _, qe, _] = read_request(request)?;
+        write_text(&[b"V2", id_kmc, id_sm, tvp, &decoded(qe)], out)
+    }
+}

@@ -1,0 +1,65 @@
+//! The library, through its crate.
+
+use crate::side::{Fields, Line, Reads, Refusal, Side, MOST_FIELDS};
+use obscurlane::Record;
+
+pub struct Library;
+
+fn refusal(refusal: obscurlane::Refusal) -> Refusal {
+    (refusal.reason.number(), refusal.field.unwrap_or(0))
+}
+
+fn read(reads: Reads, bytes: &[u8]) -> Result<Record<'_>, Refusal> {
+    let read = match reads {
+        Reads::Identities => Record::read_identity(bytes),
+        Reads::Records => Record::read(bytes),
+    };
+    read.map_err(refusal)
+}
+
+impl Side for Library {
+    const NAME: &'static str = "library";
+
+    fn crc_of(bytes: &[u8]) -> u16 {
+        obscurlane::crc_of(bytes)
+    }
+
+    fn read(reads: Reads, bytes: &[u8]) -> Result<usize, Refusal> {
+        read(reads, bytes).map(|record| record.kind() as usize)
+    }
+
+    fn read_fields(reads: Reads, bytes: &[u8]) -> Result<(usize, Fields<'_>), Refusal> {
+        let record = read(reads, bytes)?;
+        let mut fields: Fields<'_> = [&[]; MOST_FIELDS];
+        for (place, field) in fields.iter_mut().zip(&record) {
+            *place = field.bytes;
+        }
+        Ok((record.kind() as usize, fields))
+    }
+
+    fn record_field(record: &[u8], wanted: usize) -> Result<&[u8], Refusal> {
+        obscurlane::record_field(record, wanted).map_err(refusal)
+    }
+
+    fn line_at(file: &[u8], place: usize) -> Option<Line> {
+        let line = obscurlane::line_at(file, place)?;
+        let answer = line.answer.map(|kind| kind as usize).map_err(refusal);
+        Some(Line { start: line.start, len: line.bytes.len(), next: line.next, answer })
+    }
+
+    fn build(name: &[u8], bytes: &[u8], lens: &[usize], out: &mut [u8]) -> Result<usize, Refusal> {
+        obscurlane::build(name, bytes, lens, out).map_err(refusal)
+    }
+
+    fn shared_info(request: &[u8], out: &mut [u8]) -> Result<usize, Refusal> {
+        obscurlane::shared_info(request, out).map_err(refusal)
+    }
+
+    fn module_text(request: &[u8], out: &mut [u8]) -> Result<usize, Refusal> {
+        obscurlane::module_text(request, out).map_err(refusal)
+    }
+
+    fn centre_text(request: &[u8], out: &mut [u8]) -> Result<usize, Refusal> {
+        obscurlane::centre_text(request, out).map_err(refusal)
+    }
+}

@@ -1,0 +1,95 @@
+//! That two sides give the same answers and leave the same outputs: to everything that is measured, and to as many inputs that
+//! are damaged or nothing at all.
+
+use crate::inputs::{Inputs, Sample};
+use crate::side::{Fields, Reads, Refusal, Side};
+use compare::random::Random;
+use compare::sample;
+use obscurlane::{LONGEST_MODULE_TEXT, LONGEST_RECORD};
+
+/// The places of the fields, not only their bytes.
+fn places((kind, fields): (usize, Fields<'_>)) -> (usize, [Option<(*const u8, usize)>; 7]) {
+    (kind, fields.map(|field| Some((field.as_ptr(), field.len())).filter(|_| !field.is_empty())))
+}
+
+fn same_reading<A: Side, B: Side>(bytes: &[u8]) {
+    assert_eq!(A::crc_of(bytes), B::crc_of(bytes), "{bytes:?}");
+    for reads in [Reads::Identities, Reads::Records] {
+        assert_eq!(A::read(reads, bytes), B::read(reads, bytes), "{bytes:?}");
+        let (one, other) = (A::read_fields(reads, bytes), B::read_fields(reads, bytes));
+        assert_eq!(one.map(places), other.map(places), "{bytes:?}");
+    }
+    for wanted in 0..=8 {
+        let (one, other) = (A::record_field(bytes, wanted), B::record_field(bytes, wanted));
+        assert_eq!(one, other, "field {wanted} of {bytes:?}");
+    }
+}
+
+/// The answer to a call, and what it leaves in an output of this room.
+fn with_room(
+    room: usize,
+    call: impl FnOnce(&mut [u8]) -> Result<usize, Refusal>,
+) -> (Result<usize, Refusal>, Vec<u8>) {
+    let mut out = vec![0xA5; room];
+    (call(&mut out), out)
+}
+
+fn same_texts<A: Side, B: Side>(request: &[u8], room: usize) {
+    for (one, other) in [
+        (A::shared_info as fn(&_, &mut _) -> _, B::shared_info as fn(&_, &mut _) -> _),
+        (A::module_text, B::module_text),
+        (A::centre_text, B::centre_text),
+    ] {
+        let one = with_room(room, |out| one(request, out));
+        let other = with_room(room, |out| other(request, out));
+        assert!(one == other, "{request:?}: {:?}, {:?}", one.0, other.0);
+    }
+}
+
+fn same_building<A: Side, B: Side>(name: &[u8], bytes: &[u8], lens: &[usize], room: usize) {
+    let one = with_room(room, |out| A::build(name, bytes, lens, out));
+    let other = with_room(room, |out| B::build(name, bytes, lens, out));
+    assert!(one == other, "{bytes:?} {lens:?}: {:?}, {:?}", one.0, other.0);
+}
+
+/// Gives back the number of lines.
+fn same_file<A: Side, B: Side>(file: &[u8]) -> usize {
+    let (mut place, mut lines) = (0, 0);
+    while let Some(line) = A::line_at(file, place) {
+        assert_eq!(Some(&line), B::line_at(file, place).as_ref());
+        place = line.next;
+        lines += 1;
+    }
+    assert_eq!(B::line_at(file, place), None);
+    lines
+}
+
+/// Stops where the two differ.
+pub fn same_answers<A: Side, B: Side>(inputs: &Inputs) {
+    let mut random = Random::with_seed(2027);
+    for Sample { kind, record, bytes, lens } in &inputs.samples {
+        same_reading::<A, B>(record);
+        same_reading::<A, B>(&sample::anything(&mut random));
+        let name = kind.name().as_bytes();
+        for room in [LONGEST_RECORD, record.len(), record.len() - 1] {
+            same_building::<A, B>(name, bytes, lens, room);
+        }
+        for _ in 0..10 {
+            let damaged = sample::damaged_anywhere(&mut random, bytes, 1);
+            same_building::<A, B>(name, &damaged, lens, LONGEST_RECORD);
+        }
+        let mut moved = lens.clone();
+        let end = random.below(lens.len() - 1);
+        (moved[end], moved[end + 1]) = (lens[end] + lens[end + 1], 0);
+        same_building::<A, B>(name, bytes, &moved, LONGEST_RECORD);
+        same_building::<A, B>(name, bytes, &lens[1..], LONGEST_RECORD);
+    }
+    for request in &inputs.requests {
+        same_texts::<A, B>(request, LONGEST_MODULE_TEXT);
+        same_texts::<A, B>(request, 200);
+        same_texts::<A, B>(&sample::anything(&mut random), LONGEST_MODULE_TEXT);
+    }
+    let count = inputs.samples.len();
+    assert_eq!(same_file::<A, B>(&inputs.file), count);
+    same_file::<A, B>(&sample::damaged_anywhere(&mut random, &inputs.file, count));
+}

@@ -1,0 +1,54 @@
+//! What is measured: the same calls on every side.
+
+/// A refusal's number, and the number of the field that it is about, 0 where it is about none.
+pub type Refusal = (u8, usize);
+
+pub const TOO_LONG: Refusal = (1, 0);
+pub const UNKNOWN_KIND: Refusal = (2, 0);
+pub const MISSING_CHECK: Refusal = (3, 0);
+pub const WRONG_CHECK: Refusal = (4, 0);
+pub const WRONG_COUNT: Refusal = (5, 0);
+pub const UNPAIRED: Refusal = (8, 0);
+pub const SHORT_OUTPUT: Refusal = (10, 0);
+pub const UNFINISHED: Refusal = (11, 0);
+pub const MISSING_FIELD: Refusal = (12, 0);
+
+/// How many fields a record has at most.
+pub const MOST_FIELDS: usize = 7;
+
+/// The fields of a record, empty past its last one.
+pub type Fields<'a> = [&'a [u8]; MOST_FIELDS];
+
+/// A line of a file.
+#[derive(Debug, PartialEq)]
+pub struct Line {
+    pub start: usize,
+    pub len: usize,
+    pub next: usize,
+    /// The kind, as its row in the table.
+    pub answer: Result<usize, Refusal>,
+}
+
+/// Which call reads.
+#[derive(Clone, Copy)]
+pub enum Reads {
+    Identities,
+    Records,
+}
+
+/// The calls that are measured. Kinds are rows of the table.
+pub trait Side {
+    const NAME: &'static str;
+
+    fn crc_of(bytes: &[u8]) -> u16;
+    fn read(reads: Reads, bytes: &[u8]) -> Result<usize, Refusal>;
+    /// Reads, and hands back all fields.
+    fn read_fields(reads: Reads, bytes: &[u8]) -> Result<(usize, Fields<'_>), Refusal>;
+    /// Reads, and hands back one field, counted from 1.
+    fn record_field(record: &[u8], wanted: usize) -> Result<&[u8], Refusal>;
+    fn line_at(file: &[u8], place: usize) -> Option<Line>;
+    fn build(name: &[u8], bytes: &[u8], lens: &[usize], out: &mut [u8]) -> Result<usize, Refusal>;
+    fn shared_info(request: &[u8], out: &mut [u8]) -> Result<usize, Refusal>;
+    fn module_text(request: &[u8], out: &mut [u8]) -> Result<usize, Refusal>;
+    fn centre_text(request: &[u8], out: &mut [u8]) -> Result<usize, Refusal>;
+}

@@ -1,0 +1,305 @@
+//! The C interface, and the only module with `unsafe`: the structs and functions of `bindings/c/obscurlane.h`, and for each
+//! function one of Rust that takes slices.
+//!
+//! Why this is sound: a slice is valid for its length and never null, a `&mut` overlaps nothing, and the library is proved to
+//! stay within the lengths that it is given, to write nothing but its outputs and to keep no pointer. A function without
+//! pointers takes any numbers.
+
+#![allow(unsafe_code)]
+
+/// What reading answers: the number, the field that it is about, the kind, and of every field where it starts, its length,
+/// and the kind of an identity.
+#[derive(Clone, Copy)]
+#[repr(C)]
+pub struct Answer {
+    pub no: u8,
+    pub field: u8,
+    pub kind: usize,
+    pub starts: [usize; 7],
+    pub lens: [usize; 7],
+    pub kinds: [usize; 7],
+}
+
+/// Where one field stands.
+#[repr(C)]
+pub struct Place {
+    pub no: u8,
+    pub field: u8,
+    pub start: usize,
+    pub len: usize,
+}
+
+/// What was written from the front of an output.
+#[repr(C)]
+pub struct Written {
+    pub no: u8,
+    pub field: u8,
+    pub len: usize,
+}
+
+/// Where an item of a text stands.
+#[repr(C)]
+pub struct Item {
+    pub no: u8,
+    pub start: usize,
+    pub len: usize,
+}
+
+/// What stands at a place of a file, or, without `line`, that it is finished.
+#[repr(C)]
+pub struct Line {
+    pub line: bool,
+    pub no: u8,
+    pub field: u8,
+    pub kind: usize,
+    pub start: usize,
+    pub len: usize,
+    pub next: usize,
+}
+
+/// The numbers of lines and of accepted lines.
+#[repr(C)]
+pub struct Totals {
+    pub lines: usize,
+    pub accepted: usize,
+}
+
+/// Which of two records is the newer, or is refused.
+#[repr(C)]
+pub struct Choice {
+    pub no: u8,
+    pub field: u8,
+    pub which: u8,
+}
+
+extern "C" {
+    fn obscurlane_crc_begin() -> u16;
+    fn obscurlane_crc_add(state: u16, byte: u8) -> u16;
+    fn obscurlane_crc_end(state: u16) -> u16;
+    fn obscurlane_crc_of(bytes: *const u8, bytes_len: usize) -> u16;
+
+    fn obscurlane_is_ident(s: *const u8, s_len: usize) -> bool;
+    fn obscurlane_is_timestamp(s: *const u8, s_len: usize) -> bool;
+    fn obscurlane_is_hex(n: usize, s: *const u8, s_len: usize) -> bool;
+    fn obscurlane_is_point(s: *const u8, s_len: usize) -> bool;
+    fn obscurlane_is_sig(s: *const u8, s_len: usize) -> bool;
+    fn obscurlane_is_mac(s: *const u8, s_len: usize) -> bool;
+    fn obscurlane_is_print(s: *const u8, s_len: usize) -> bool;
+
+    fn obscurlane_read_identity(identity: *const u8, identity_len: usize) -> Answer;
+    fn obscurlane_read_record(record: *const u8, record_len: usize) -> Answer;
+    fn obscurlane_identity_field(identity: *const u8, identity_len: usize, wanted: usize) -> Place;
+    fn obscurlane_record_field(record: *const u8, record_len: usize, wanted: usize) -> Place;
+
+    fn obscurlane_build(
+        kind: *const u8,
+        kind_len: usize,
+        bytes: *const u8,
+        bytes_len: usize,
+        lens: *const usize,
+        lens_len: usize,
+        out: *mut u8,
+        out_len: usize,
+    ) -> Written;
+    fn obscurlane_shared_info(
+        request: *const u8,
+        request_len: usize,
+        out: *mut u8,
+        out_len: usize,
+    ) -> Written;
+    fn obscurlane_module_text(
+        request: *const u8,
+        request_len: usize,
+        out: *mut u8,
+        out_len: usize,
+    ) -> Written;
+    fn obscurlane_centre_text(
+        request: *const u8,
+        request_len: usize,
+        out: *mut u8,
+        out_len: usize,
+    ) -> Written;
+    fn obscurlane_text_item(text: *const u8, text_len: usize, wanted: usize) -> Item;
+
+    fn obscurlane_line_at(file: *const u8, file_len: usize, place: usize) -> Line;
+    fn obscurlane_reader_new(file: *const u8, file_len: usize) -> usize;
+    fn obscurlane_reader_step(file: *const u8, file_len: usize, place: *mut usize) -> Line;
+    fn obscurlane_count(file: *const u8, file_len: usize) -> Totals;
+    fn obscurlane_newer(
+        first: *const u8,
+        first_len: usize,
+        second: *const u8,
+        second_len: usize,
+    ) -> Choice;
+}
+
+// ---- the check
+
+#[inline]
+pub fn crc_begin() -> u16 {
+    // SAFETY: nothing is given.
+    unsafe { obscurlane_crc_begin() }
+}
+
+#[inline]
+pub fn crc_add(state: u16, byte: u8) -> u16 {
+    // SAFETY: numbers alone.
+    unsafe { obscurlane_crc_add(state, byte) }
+}
+
+#[inline]
+pub fn crc_end(state: u16) -> u16 {
+    // SAFETY: a number alone.
+    unsafe { obscurlane_crc_end(state) }
+}
+
+#[inline]
+pub fn crc_of(bytes: &[u8]) -> u16 {
+    // SAFETY: a slice's pointer and length.
+    unsafe { obscurlane_crc_of(bytes.as_ptr(), bytes.len()) }
+}
+
+// ---- the text types
+
+#[inline]
+pub fn is_ident(s: &[u8]) -> bool {
+    // SAFETY: a slice's pointer and length.
+    unsafe { obscurlane_is_ident(s.as_ptr(), s.len()) }
+}
+
+#[inline]
+pub fn is_timestamp(s: &[u8]) -> bool {
+    // SAFETY: a slice's pointer and length.
+    unsafe { obscurlane_is_timestamp(s.as_ptr(), s.len()) }
+}
+
+#[inline]
+pub fn is_hex(n: usize, s: &[u8]) -> bool {
+    // SAFETY: a slice's pointer and length.
+    unsafe { obscurlane_is_hex(n, s.as_ptr(), s.len()) }
+}
+
+#[inline]
+pub fn is_point(s: &[u8]) -> bool {
+    // SAFETY: a slice's pointer and length.
+    unsafe { obscurlane_is_point(s.as_ptr(), s.len()) }
+}
+
+#[inline]
+pub fn is_sig(s: &[u8]) -> bool {
+    // SAFETY: a slice's pointer and length.
+    unsafe { obscurlane_is_sig(s.as_ptr(), s.len()) }
+}
+
+#[inline]
+pub fn is_mac(s: &[u8]) -> bool {
+    // SAFETY: a slice's pointer and length.
+    unsafe { obscurlane_is_mac(s.as_ptr(), s.len()) }
+}
+
+#[inline]
+pub fn is_print(s: &[u8]) -> bool {
+    // SAFETY: a slice's pointer and length.
+    unsafe { obscurlane_is_print(s.as_ptr(), s.len()) }
+}
+
+// ---- reading
+
+#[inline]
+pub fn read_identity(identity: &[u8]) -> Answer {
+    // SAFETY: a slice's pointer and length.
+    unsafe { obscurlane_read_identity(identity.as_ptr(), identity.len()) }
+}
+
+#[inline]
+pub fn read_record(record: &[u8]) -> Answer {
+    // SAFETY: a slice's pointer and length.
+    unsafe { obscurlane_read_record(record.as_ptr(), record.len()) }
+}
+
+#[inline]
+pub fn identity_field(identity: &[u8], wanted: usize) -> Place {
+    // SAFETY: a slice's pointer and length.
+    unsafe { obscurlane_identity_field(identity.as_ptr(), identity.len(), wanted) }
+}
+
+#[inline]
+pub fn record_field(record: &[u8], wanted: usize) -> Place {
+    // SAFETY: a slice's pointer and length.
+    unsafe { obscurlane_record_field(record.as_ptr(), record.len(), wanted) }
+}
+
+// ---- building, and the key agreement texts
+
+#[inline]
+pub fn build(kind: &[u8], bytes: &[u8], lens: &[usize], out: &mut [u8]) -> Written {
+    // SAFETY: slices' pointers and lengths, and `out` overlaps nothing.
+    unsafe {
+        obscurlane_build(
+            kind.as_ptr(),
+            kind.len(),
+            bytes.as_ptr(),
+            bytes.len(),
+            lens.as_ptr(),
+            lens.len(),
+            out.as_mut_ptr(),
+            out.len(),
+        )
+    }
+}
+
+#[inline]
+pub fn shared_info(request: &[u8], out: &mut [u8]) -> Written {
+    // SAFETY: slices' pointers and lengths, and `out` overlaps nothing.
+    unsafe { obscurlane_shared_info(request.as_ptr(), request.len(), out.as_mut_ptr(), out.len()) }
+}
+
+#[inline]
+pub fn module_text(request: &[u8], out: &mut [u8]) -> Written {
+    // SAFETY: slices' pointers and lengths, and `out` overlaps nothing.
+    unsafe { obscurlane_module_text(request.as_ptr(), request.len(), out.as_mut_ptr(), out.len()) }
+}
+
+#[inline]
+pub fn centre_text(request: &[u8], out: &mut [u8]) -> Written {
+    // SAFETY: slices' pointers and lengths, and `out` overlaps nothing.
+    unsafe { obscurlane_centre_text(request.as_ptr(), request.len(), out.as_mut_ptr(), out.len()) }
+}
+
+#[inline]
+pub fn text_item(text: &[u8], wanted: usize) -> Item {
+    // SAFETY: a slice's pointer and length.
+    unsafe { obscurlane_text_item(text.as_ptr(), text.len(), wanted) }
+}
+
+// ---- files, and the newer of two keys
+
+#[inline]
+pub fn line_at(file: &[u8], place: usize) -> Line {
+    // SAFETY: a slice's pointer and length.
+    unsafe { obscurlane_line_at(file.as_ptr(), file.len(), place) }
+}
+
+#[inline]
+pub fn reader_new(file: &[u8]) -> usize {
+    // SAFETY: a slice's pointer and length.
+    unsafe { obscurlane_reader_new(file.as_ptr(), file.len()) }
+}
+
+#[inline]
+pub fn reader_step(file: &[u8], place: &mut usize) -> Line {
+    // SAFETY: a slice's pointer and length, and a number that overlaps nothing.
+    unsafe { obscurlane_reader_step(file.as_ptr(), file.len(), place) }
+}
+
+#[inline]
+pub fn count(file: &[u8]) -> Totals {
+    // SAFETY: a slice's pointer and length.
+    unsafe { obscurlane_count(file.as_ptr(), file.len()) }
+}
+
+#[inline]
+pub fn newer(first: &[u8], second: &[u8]) -> Choice {
+    // SAFETY: slices' pointers and lengths, which are only read.
+    unsafe { obscurlane_newer(first.as_ptr(), first.len(), second.as_ptr(), second.len()) }
+}
