@@ -14,7 +14,7 @@ use Rattle.text.proofs.Tests.{by-test, cond-yes}
 use Rattle.numbers.specs.Numbers.{missingItem}
 use Rattle.format.specs.Kinds.{Kind, Text, fieldsOf, identityKinds, recordKinds}
 use Rattle.format.specs.Build.{Built}
-use Rattle.format.specs.Read.{Outcome, accepted, refused, answer}
+use Rattle.format.specs.Read.{Outcome, accepted, refused, answer, readIdentity, readRecord}
 use Rattle.format.proofs.Outcomes.{Honest, honest-zero}
 use Rattle.format.proofs.Exactly.{identity-says, identity-exact, record-says, record-exact, its-parts, its-count, built-unique, built-length, identity-length, unsigned-length, signed-length}
 use Rattle.table.specs.Table.{rowOf, missingRow}
@@ -87,8 +87,8 @@ reading = record {
   record-kind = λ κs a r s p. says-kind _ (Built recordKinds _) (record-exact _) (record-says _) r p;
   identity-places = λ κs a r s p. says-places identityKinds _ _ (identity-exact _) r p;
   record-places = λ κs a r s p. says-places recordKinds _ _ (record-exact _) r p;
-  identity-no-places = λ κs a r s p n. no-places _ r p n;
-  record-no-places = λ κs a r s p n. no-places _ r p n;
+  identity-no-places = λ κs a r s p n. no-places (readIdentity _) r p n;
+  record-no-places = λ κs a r s p n. no-places (readRecord _) r p n;
   identity-fields = λ κs a r s p. hands-back _ (Built identityKinds _) (identity-exact _) (identity-says _) _ _ _ _ p;
   record-fields = λ κs a r s p. hands-back _ (Built recordKinds _) (record-exact _) (record-says _) _ _ _ _ p;
   identity-nothing = λ κs a r s p n. nothing _ _ _ _ _ p n;
