@@ -3,8 +3,8 @@
 ghost use mathlib.Core.Path.{_≡_};
 ghost use Rattle.crc16.specs.Crc.{begin, bitStep, bitSteps, add, end, crcOf};
 
-// One bit. The feedback is masked and not chosen: LLVM makes a jump of a choice or of a product, and the bits of a record are
-// no ones to guess.
+// One bit. The feedback is masked, which is quicker than choosing it; of a product by the bit LLVM makes a jump, and the bits
+// of a record are not to be guessed.
 fn bit(state: u16) -> u16
     ensures { λ r. ⌜ r ≡ bitStep state ⌝ }
 {
