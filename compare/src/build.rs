@@ -50,37 +50,3 @@ pub fn put(made: &[u8], output: &mut [u8]) -> Result<usize, Refusal> {
     room.copy_from_slice(made);
     Ok(made.len())
 }
-
-/// Copies a piece to a place of the output and gives back the place after it. Where it does not fit
-/// nothing is written, and its own place is given back.
-pub fn put_at(output: &mut [u8], at: u64, piece: &[u8]) -> u64 {
-    let end = at.checked_add(piece.len() as u64).filter(|&end| end <= output.len() as u64);
-    match end {
-        Some(end) => {
-            output[at as usize..end as usize].copy_from_slice(piece);
-            end
-        }
-        None => at,
-    }
-}
-
-#[cfg(test)]
-mod tests {
-    use super::put_at;
-
-    #[test]
-    fn a_piece_is_written_whole_or_not_at_all() {
-        for (at, answer, left) in [
-            (0, 2, "xy.."),
-            (2, 4, "..xy"),
-            (3, 3, "...."),
-            (9, 9, "...."),
-            (u64::MAX, u64::MAX, "...."),
-        ] {
-            let mut output = *b"....";
-            assert_eq!(put_at(&mut output, at, b"xy"), answer);
-            assert_eq!(output, left.as_bytes());
-        }
-        assert_eq!(put_at(&mut [], 0, b""), 0);
-    }
-}

@@ -1,11 +1,8 @@
-//! Files of records, and the lister.
+//! Files of records.
 
 use crate::kind::Kind;
 use crate::record::read_record;
 use crate::refusal::Refusal;
-
-/// The longest input that the lister takes.
-pub const LONGEST_LISTED: usize = 65_536;
 
 /// What the file call answers.
 #[derive(Clone, Copy, Debug, PartialEq, Eq)]
@@ -56,29 +53,4 @@ pub fn lines(file: &[u8]) -> impl Iterator<Item = Line> + '_ {
 /// The number of lines, and of accepted lines.
 pub fn count(file: &[u8]) -> (usize, usize) {
     (lines(file).count(), lines(file).filter(|line| line.answer.is_ok()).count())
-}
-
-/// The line that the lister prints for a line of a file.
-pub fn line_text(number: u64, start: u64, length: u64, answer: u8) -> String {
-    format!("{number} {start} {length} {answer}\n")
-}
-
-/// The last line that the lister prints.
-pub fn end_text(lines: u64, accepted: u64) -> String {
-    format!("end {lines} {accepted}\n")
-}
-
-/// What the lister prints for this input.
-pub fn list(input: &[u8]) -> String {
-    if input.len() > LONGEST_LISTED {
-        return "too big\n".to_owned();
-    }
-    let mut printed = String::new();
-    for (number, line) in (1..).zip(lines(input)) {
-        let Line { answer, start, length, .. } = line;
-        let answer = answer.map_or_else(Refusal::number, |_| 0);
-        printed += &line_text(number, start, length, answer);
-    }
-    let (all, accepted) = count(input);
-    printed + &end_text(all as u64, accepted as u64)
 }

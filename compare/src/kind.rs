@@ -24,6 +24,12 @@ pub enum Kind {
     VkloadResp,
 }
 
+/// The number of no kind. A kind's own is the place of its row in document 01's table, from 0.
+pub const NONE: u64 = 255;
+
+/// No kind has more fields.
+pub const MOST_FIELDS: usize = 7;
+
 /// What the text of a field must be.
 #[derive(Clone, Copy, Debug, PartialEq, Eq)]
 pub enum FieldType {

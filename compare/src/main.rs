@@ -4,10 +4,12 @@
 //! implementation is right when it gives the same.
 
 mod calls;
+mod case_file;
 mod cases;
 mod plan;
 
-use calls::{Op, CALLS};
+use calls::CALLS;
+use case_file::CaseFile;
 use cases::Case;
 use std::process::ExitCode;
 
@@ -15,9 +17,10 @@ use std::process::ExitCode;
 const LEAST: usize = 20;
 /// The numbers given back: 0 to 13.
 const NUMBERS: usize = 14;
-const LONGEST_CASE_FILE: usize = 1_300_000;
+/// What `crates/cases` has room for.
+const LONGEST_CASE_FILE: usize = 1_572_864;
 
-/// The two files, and the counts that end the second.
+/// The two files, and how often each call and each number occurs.
 struct Written {
     cases: Vec<u8>,
     answers: Vec<u8>,
@@ -30,16 +33,14 @@ struct Written {
 ///
 /// When a call or a number occurs too seldom, or there are too few or too many cases.
 fn write(plan: &[Case]) -> Written {
-    let mut cases = Vec::new();
+    let mut cases = CaseFile::default();
     let mut answers = Vec::new();
-    let mut held = Vec::new();
     let mut calls = [0; CALLS.len()];
     let mut numbers = [0; NUMBERS];
     for case in plan {
-        case.write(&mut held, &mut cases);
+        cases.add(case);
         let answer = case.answer();
-        let is_one_line = case.op == Op::PrintList || !answer.line.contains(&b'\n');
-        assert!(is_one_line, "an answer is one line");
+        assert!(!answer.line.contains(&b'\n'), "an answer is one line");
         answers.extend_from_slice(&answer.line);
         answers.push(b'\n');
         calls[case.op as usize] += 1;
@@ -49,7 +50,7 @@ fn write(plan: &[Case]) -> Written {
     }
 
     let mut counts = String::new();
-    for (call, count) in CALLS.iter().map(|call| call.call).zip(calls) {
+    for (call, count) in CALLS.iter().map(calls::Call::name).zip(calls) {
         assert!(count >= LEAST, "{call} occurs {count} times");
         counts += &format!("calls {call} {count}\n");
     }
@@ -57,8 +58,8 @@ fn write(plan: &[Case]) -> Written {
         assert!(count >= LEAST, "number {number} occurs {count} times");
         counts += &format!("number {number} {count}\n");
     }
-    answers.extend_from_slice(counts.as_bytes());
 
+    let cases = cases.bytes();
     assert!((3000..=10_000).contains(&plan.len()), "{} cases", plan.len());
     assert!(cases.len() <= LONGEST_CASE_FILE, "a case file of {} bytes", cases.len());
     Written { cases, answers, counts }
@@ -87,37 +88,34 @@ fn main() -> ExitCode {
 #[cfg(test)]
 mod tests {
     use super::*;
-    use std::fs;
-    use std::path::{Path, PathBuf};
+    use std::path::Path;
 
-    fn entries(folder: &Path) -> Vec<PathBuf> {
-        let entries = fs::read_dir(folder).into_iter().flatten();
-        entries.map(|entry| entry.expect("an entry").path()).collect()
+    /// The calls that docs/CONTRACTS.md says are for users. `.ci/tiers` holds that page against the
+    /// library's public functions.
+    fn calls_for_users() -> Vec<String> {
+        let page = Path::new(env!("CARGO_MANIFEST_DIR")).join("../docs/CONTRACTS.md");
+        let page = std::fs::read_to_string(page).expect("the page of contracts");
+        let rows =
+            page.lines().filter_map(|line| line.strip_prefix("| `")?.split_once("` | users |"));
+        rows.map(|(call, _)| call.to_owned()).collect()
     }
 
-    /// The names of the library's public functions, which are all that is read of its sources.
-    fn public_calls() -> Vec<String> {
-        let crates = entries(&Path::new(env!("CARGO_MANIFEST_DIR")).join("../crates"));
-        let sources = crates.iter().flat_map(|folder| entries(&folder.join("src")));
-        let text: String =
-            sources.map(|source| fs::read_to_string(source).expect("a source")).collect();
-        let declared = text.lines().filter_map(|line| line.trim_start().strip_prefix("pub fn "));
-        declared.filter_map(|rest| rest.split(['(', '<']).next()).map(str::to_owned).collect()
+    /// The names that a call of `CALLS` stands for: `Crc::begin,add,end` is three.
+    fn names(call: &calls::Call) -> Vec<String> {
+        let (of, names) = match call.name().split_once("::") {
+            Some((of, names)) => (format!("{of}::"), names),
+            None => (String::new(), call.name()),
+        };
+        names.split(',').map(|name| format!("{of}{name}")).collect()
     }
-
-    /// Calls that are public only because another crate needs them. They are run through those that call them.
-    const BETWEEN_CRATES: &[&str] = &["are_alike", "is_later"];
 
     #[test]
-    fn every_public_call_of_the_library_has_its_cases_or_is_between_crates() {
-        let calls = public_calls();
-        assert!(BETWEEN_CRATES.iter().all(|name| calls.iter().any(|call| call == name)));
-        for call in calls {
-            let is_there =
-                |entry: &calls::Call| entry.call.split([':', ',']).any(|one| one == call);
-            let has_cases = CALLS.iter().any(is_there);
-            assert!(has_cases != BETWEEN_CRATES.contains(&call.as_str()), "{call}");
-        }
+    fn exactly_the_calls_for_users_have_cases() {
+        let mut for_users = calls_for_users();
+        let mut with_cases: Vec<String> = CALLS.iter().flat_map(names).collect();
+        for_users.sort();
+        with_cases.sort();
+        assert_eq!(with_cases, for_users);
     }
 
     #[test]
@@ -130,10 +128,7 @@ mod tests {
     #[test]
     fn every_case_has_its_line() {
         let plan = plan::all();
-        let written = write(&plan);
-        let lines = |bytes: &[u8]| bytes.iter().filter(|&&byte| byte == b'\n').count();
-        let lists = plan.iter().filter(|case| case.op == Op::PrintList);
-        let listed: usize = lists.map(|case| lines(&case.answer().line)).sum();
-        assert_eq!(lines(&written.answers), plan.len() + listed + CALLS.len() + NUMBERS);
+        let answers = write(&plan).answers;
+        assert_eq!(answers.iter().filter(|&&byte| byte == b'\n').count(), plan.len());
     }
 }

@@ -12,13 +12,29 @@ struct Subject<'a> {
     gnt: &'a [u8],
 }
 
+/// Which of two public keys.
+#[derive(Clone, Copy, Debug, PartialEq, Eq)]
+pub struct Choice {
+    pub answer: Result<(), Refusal>,
+    /// The newer one, 1 or 2; with a refusal the one that is refused, and 0 where it is about both.
+    pub which: u64,
+}
+
 /// Of two public keys the one whose Subject has the later GNT, the first when equal.
+pub fn choose(first: &[u8], second: &[u8]) -> Choice {
+    let (answer, which) = match (subject(first), subject(second)) {
+        (Err(refusal), _) => (Err(refusal), 1),
+        (_, Err(refusal)) => (Err(refusal), 2),
+        (Ok(one), Ok(other)) if one.entity != other.entity => (Err(Refusal::OtherSubject), 0),
+        (Ok(one), Ok(other)) => (Ok(()), if other.gnt > one.gnt { 2 } else { 1 }),
+    };
+    Choice { answer, which }
+}
+
+/// The same key, whole.
 pub fn newer<'a>(first: &'a [u8], second: &'a [u8]) -> Result<&'a [u8], Refusal> {
-    let (one, other) = (subject(first)?, subject(second)?);
-    if one.entity != other.entity {
-        return Err(Refusal::OtherSubject);
-    }
-    Ok(if other.gnt > one.gnt { second } else { first })
+    let Choice { answer, which } = choose(first, second);
+    answer.map(|()| if which == 2 { second } else { first })
 }
 
 /// The Subject of a public key.

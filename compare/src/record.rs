@@ -21,6 +21,14 @@ impl<'a> Record<'a> {
         let index = usize::try_from(number.checked_sub(1)?).ok()?;
         self.fields.get(index).copied()
     }
+
+    /// The kind of the identity that a field is, counted from 0; none for a text and for an empty field.
+    pub fn inner(&self, index: usize) -> Option<Kind> {
+        let entry = self.kind.fields().get(index)?;
+        let is_identity = matches!(entry.field_type, FieldType::Identity(_));
+        let field = self.fields.get(index).filter(|_| is_identity)?;
+        read_identity(field).ok().map(|identity| identity.kind)
+    }
 }
 
 /// The identity call.

@@ -77,13 +77,8 @@ pub fn is_print(text: &[u8]) -> bool {
     is_hex(text, PRINT_DIGITS as u64)
 }
 
-/// The hexadecimal character of a value below 16.
-pub fn hex_digit(value: u8) -> Option<u8> {
-    HEX_DIGITS.get(usize::from(value)).copied()
-}
-
 /// The value of a hexadecimal character; small letters have none.
-pub fn hex_value(character: u8) -> Option<u8> {
+fn hex_value(character: u8) -> Option<u8> {
     (0..).zip(HEX_DIGITS).find_map(|(value, &digit)| (digit == character).then_some(value))
 }
 

@@ -1,18 +1,18 @@
-//! The implementation held against document 01: "Values on each side", the lengths, the lister's
-//! example and the plausible errors.
+//! The implementation held against document 01: "Values on each side", the lengths and the
+//! plausible errors.
 
 use compare::agreement::{item, join, split};
 use compare::build::build;
 use compare::crc::crc16;
-use compare::file::{count, line_at, list, Line, Step, LONGEST_LISTED};
+use compare::file::{count, line_at, Line, Step};
 use compare::kind::Kind;
-use compare::newer::newer;
+use compare::newer::{choose, newer};
 use compare::record::{read_identity, read_record, LONGEST_READ};
 use compare::refusal::Refusal;
 use compare::sample;
 use compare::text::{
-    base16, base16_decode, check_text, hex_digit, hex_value, is_hex, is_ident, is_mac, is_point,
-    is_print, is_sig, is_timestamp, LONGEST_IDENT,
+    base16, base16_decode, check_text, is_hex, is_ident, is_mac, is_point, is_print, is_sig,
+    is_timestamp, LONGEST_IDENT,
 };
 use compare::worked::worked;
 
@@ -31,7 +31,6 @@ fn limits_are_the_figures_of_document_01() {
     assert_eq!(LONGEST_IDENT, 32, "IDENT: 1 to 32 characters");
     assert_eq!(Kind::longest_of(&Kind::ALL), 646, "no built record is longer than 646 bytes");
     assert_eq!(LONGEST_READ, 1024, "1: the record or identity to read is longer than 1,024 bytes");
-    assert_eq!(LONGEST_LISTED, 65_536, "the lister reads at most 65,536 bytes");
 }
 
 #[test]
@@ -108,11 +107,7 @@ fn hexadecimal() {
     assert!(is_print(&[b'9'; 16]) && !is_print(&[b'G'; 16]));
     assert!(is_point(&worked("QE")) && !is_point(&[b'0'; 194]));
     for byte in 0..=255 {
-        match hex_value(byte) {
-            Some(value) => assert_eq!(hex_digit(value), Some(byte)),
-            None => assert!(!matches!(byte, b'0'..=b'9' | b'A'..=b'F')),
-        }
-        assert_eq!(hex_digit(byte).is_some(), byte < 16);
+        assert_eq!(is_hex(&[byte], 1), matches!(byte, b'0'..=b'9' | b'A'..=b'F'));
     }
     assert_eq!(base16_decode(b"0aff"), None);
     assert_eq!(base16_decode(b"0AF"), None);
@@ -245,16 +240,6 @@ fn building_wants_the_exact_sum_of_lengths() {
 }
 
 #[test]
-fn the_listers_example() {
-    let example = b"\nPK.ECDH.2|x\nabc";
-    assert_eq!(list(example), "1 0 0 2\n2 1 11 2\n3 13 3 11\nend 3 0\n");
-    assert_eq!(count(example), (3, 0));
-    assert_eq!(list(b""), "end 0 0\n");
-    assert_eq!(list(&[b'x'; 65_536]), "1 0 65536 11\nend 1 0\n");
-    assert_eq!(list(&[b'\n'; 65_537]), "too big\n");
-}
-
-#[test]
 fn the_file_call() {
     let line = |answer, start, length, next| Step::Read(Line { answer, start, length, next });
     let record = worked("VKLOADRESP");
@@ -268,6 +253,7 @@ fn the_file_call() {
         assert_eq!(line_at(&file, place), Step::Finished { place });
     }
     assert_eq!(count(&file), (3, 1));
+    assert_eq!(count(b"\nPK.ECDH.2|x\nabc"), (3, 0), "the lister's example");
 }
 
 #[test]
@@ -283,6 +269,10 @@ fn the_newer_key() {
     for other in [key(b"A", b"C", b"20180102T000000Z"), key(b"a", b"B", b"20180102T000000Z")] {
         assert_eq!(newer(&old, &other), Err(Refusal::OtherSubject));
     }
+    let which = |first: &[u8], second: &[u8]| choose(first, second).which;
+    assert_eq!((which(&old, &new), which(&new, &old), which(&old, &old)), (2, 1, 1));
+    assert_eq!((which(&old[1..], &new[..9]), which(&old, &new[..9])), (1, 2));
+    assert_eq!(which(&old, &key(b"A", b"C", b"20180102T000000Z")), 0);
     assert_eq!(newer(&old[1..], &new[..9]), Err(Refusal::UnknownKind));
     assert_eq!(newer(&old, &new[..10]), Err(Refusal::NoCheck));
     assert_eq!(newer(&[b'x'; 1025], &new), Err(Refusal::TooLong));

@@ -3,7 +3,7 @@
 use compare::agreement::{centre_text, item, join, module_text, shared_info, split};
 use compare::build::build;
 use compare::crc::crc16;
-use compare::file::{count, list};
+use compare::file::{count, lines, Line};
 use compare::kind::Kind;
 use compare::newer::newer;
 use compare::record::{identity_field, read_identity, read_record, record_field, Record};
@@ -184,6 +184,11 @@ fn wrapped_keys_are_no_kind_of_the_table() {
         assert_eq!(read_record(&worked(name)), Err(Refusal::UnknownKind), "{name}");
     }
     let file = worked("KLF");
-    assert_eq!(list(&file), "1 0 219 0\n2 220 162 2\n3 383 305 2\n4 689 41 11\nend 4 1\n");
+    let numbers = |line: Line| {
+        let number = line.answer.map_or_else(Refusal::number, |_| 0);
+        (line.start, line.length, number)
+    };
+    let found: Vec<_> = lines(&file).map(numbers).collect();
+    assert_eq!(found, [(0, 219, 0), (220, 162, 2), (383, 305, 2), (689, 41, 11)]);
     assert_eq!(count(&file), (4, 1));
 }

@@ -220,13 +220,9 @@ fn other_numbers(right: &[u64]) -> [Vec<u64>; 5] {
     let last = right.len() - 1;
     let mut fewer = right[..last].to_vec();
     fewer[last - 1] += right[last];
-    [
-        fewer,
-        [right, &[0]].concat(),
-        [&[0], right].concat(),
-        right[..last].to_vec(),
-        [right, right].concat(),
-    ]
+    let mut again = right.repeat(2);
+    again.truncate(8);
+    [fewer, [right, &[0]].concat(), [&[0], right].concat(), right[..last].to_vec(), again]
 }
 
 /// Lengths whose sum is right only after it has wrapped round.

@@ -6,12 +6,8 @@ mod building;
 mod fields;
 mod files;
 mod newer;
-mod outputs;
-mod parts;
 mod places;
 mod reading;
-mod rows;
-mod table;
 mod types;
 mod walks;
 
@@ -35,14 +31,9 @@ pub fn all() -> Vec<Case> {
         agreement::add,
         files::add,
         newer::add,
-        table::add,
-        parts::add,
-        rows::add,
-        outputs::add,
         walks::add,
         places::add,
         newer::which,
-        places::by_rows,
     ];
     let mut plan = Plan { cases: Vec::new(), random: Random::with_seed(0) };
     for (seed, add) in (1..).zip(groups) {
@@ -62,11 +53,6 @@ impl Plan {
         self.case(op, 0, a.into(), Vec::new(), Vec::new());
     }
 
-    /// A call that is given a number alone.
-    fn number(&mut self, op: Op, n: u64) {
-        self.case(op, n, Vec::new(), Vec::new(), Vec::new());
-    }
-
     /// A call that is given bytes and a number.
     fn numbered(&mut self, op: Op, n: u64, a: impl Into<Vec<u8>>) {
         self.case(op, n, a.into(), Vec::new(), Vec::new());
@@ -77,20 +63,15 @@ impl Plan {
         self.case(op, 0, a.into(), b.into(), Vec::new());
     }
 
-    /// A call that is given bytes, a number, and further numbers.
-    fn with(&mut self, op: Op, n: u64, a: impl Into<Vec<u8>>, further: &[u64]) {
-        let further = further.iter().flat_map(|number| number.to_be_bytes()).collect();
-        self.case(op, n, a.into(), Vec::new(), further);
-    }
-
     /// A building call with fields and their own lengths.
     fn build(&mut self, room: usize, name: impl Into<Vec<u8>>, fields: &[Vec<u8>]) {
         let lengths: Vec<u64> = fields.iter().map(|field| field.len() as u64).collect();
         self.build_of(room, name, fields.concat(), &lengths);
     }
 
-    /// A building call with field bytes and any lengths.
+    /// A building call with field bytes and any lengths, as many as `crates/cases` takes.
     fn build_of(&mut self, room: usize, name: impl Into<Vec<u8>>, bytes: Vec<u8>, lengths: &[u64]) {
+        assert!(lengths.len() <= 8, "at most eight lengths");
         let lengths = lengths.iter().flat_map(|length| length.to_be_bytes()).collect();
         self.case(Op::Build, room as u64, name.into(), bytes, lengths);
     }

@@ -42,7 +42,8 @@ fn worked_keys(plan: &mut Plan) {
     }
 }
 
-/// Which of the two: the worked keys, an earlier and a later one in both orders, and refusals.
+/// Which of the two: the worked keys, an earlier and a later one in both orders; and which is refused,
+/// the first before the second.
 pub fn which(plan: &mut Plan) {
     for (first, second) in WORKED {
         plan.pair(Op::NewerOf, worked(first), worked(second));
@@ -59,6 +60,9 @@ pub fn which(plan: &mut Plan) {
     let key = worked("PUBKEY_KMC");
     for &fault in Fault::of(Kind::PkEcdh) {
         let bad = sample::faulty(&mut plan.random, Kind::PkEcdh, &[fault]);
+        let other = sample::faulty(&mut plan.random, Kind::PkEcdsa, &[Fault::Check]);
+        plan.pair(Op::NewerOf, bad.clone(), other);
+        plan.pair(Op::NewerOf, bad.clone(), key.clone());
         plan.pair(Op::NewerOf, key.clone(), bad);
     }
     for bytes in ["", "PK.ECDH.1", "PK.ECDH.1|", "PK.ECDH.1:x"] {

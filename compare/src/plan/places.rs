@@ -1,29 +1,16 @@
-//! Parts as start and length.
+//! Fields and items as start and length.
 
 use super::Plan;
 use crate::calls::Op;
 use compare::agreement;
 use compare::kind::Kind;
-use compare::sample::{self, Fault, Signed};
+use compare::sample::{self, Fault};
 use compare::worked::{worked, IDENTITIES, RECORDS};
 
 pub fn add(plan: &mut Plan) {
-    parts(plan);
     fields(plan);
     refused(plan);
     items(plan);
-}
-
-/// Parts that are there and that are not, with and without a last mark.
-fn parts(plan: &mut Plan) {
-    for text in ["", "|", "a", "a|", "|a", "a||b", "a||b|c|", "a:b|c:"] {
-        for n in [0, 1, 2, 3, u64::MAX] {
-            plan.with(Op::PartStart, b'|'.into(), text, &[n]);
-        }
-    }
-    for n in 0..=5 {
-        plan.with(Op::PartStart, b':'.into(), worked("ID_SM"), &[n]);
-    }
 }
 
 /// Every field of the worked records, and the numbers around them.
@@ -64,25 +51,5 @@ fn items(plan: &mut Plan) {
         for number in [1, 2] {
             plan.numbered(Op::ItemPlace, number, bytes);
         }
-    }
-}
-
-/// A record of every kind, read among the kinds of some rows; and one with a wrong check.
-pub fn by_rows(plan: &mut Plan) {
-    for kind in Kind::RECORDS {
-        let fields = sample::short_fields(&mut plan.random, kind, Signed::No);
-        let record = sample::of_kind(kind, &fields);
-        let (row, count) = (kind as u64, fields.len() as u64);
-        for (from, to, wanted) in [
-            (3, 7, 1),
-            (row, row + 1, count),
-            (row, u64::MAX, count + 1),
-            (row + 1, 7, 1),
-            (0, row, 2),
-        ] {
-            plan.with(Op::PlaceOf, from, record.clone(), &[to, wanted]);
-        }
-        let damaged = sample::faulty(&mut plan.random, kind, &[Fault::Check]);
-        plan.with(Op::PlaceOf, row, damaged, &[row + 1, 2]);
     }
 }

@@ -1,4 +1,4 @@
-//! Text types, agreement of byte strings, digits, checks and sums.
+//! Text types, and the check, whole and by its state.
 
 use super::Plan;
 use crate::calls::Op;
@@ -11,9 +11,8 @@ pub fn add(plan: &mut Plan) {
     timestamps(plan);
     hexadecimal(plan);
     fixed_lengths(plan);
-    same(plan);
-    digits_and_checks(plan);
     sums(plan);
+    states(plan);
 }
 
 fn idents(plan: &mut Plan) {
@@ -231,68 +230,6 @@ fn fixed_lengths(plan: &mut Plan) {
     }
 }
 
-fn same(plan: &mut Plan) {
-    for (a, b) in [
-        ("", ""),
-        ("", "a"),
-        ("a", ""),
-        ("a", "a"),
-        ("a", "b"),
-        ("a", "A"),
-        ("a", "aa"),
-        ("aa", "a"),
-        ("ab", "ba"),
-        ("\0", ""),
-        ("", "\0"),
-        ("a", "a\0"),
-        ("a\0", "a"),
-        ("a\0b", "a\0c"),
-        ("a\0b", "a\0b"),
-        ("\n", "\r"),
-    ] {
-        plan.pair(Op::Same, a, b);
-    }
-    for (a, b) in [("ID_SM", "ID_SM"), ("ID_SM", "APPA_ID_SM"), ("VKLOADREQ", "VKLOADRESP")] {
-        plan.pair(Op::Same, worked(a), worked(b));
-    }
-    for length in 1..=24 {
-        let a = plan.random.bytes(length);
-        let mut b = a.clone();
-        plan.pair(Op::Same, a.clone(), b.clone());
-        let index = match length % 3 {
-            0 => 0,
-            1 => length - 1,
-            _ => plan.random.below(length),
-        };
-        b[index] ^= 1 << plan.random.below(8);
-        plan.pair(Op::Same, a.clone(), b);
-        plan.pair(Op::Same, &a[..length - 1], a.clone());
-    }
-}
-
-fn digits_and_checks(plan: &mut Plan) {
-    for n in (0..40).chain([47, 48, 57, 58, 64, 65, 70, 71, 97, 127, 128, 144, 240, 254, 255]) {
-        plan.number(Op::Digit, n);
-    }
-    for n in 0..=255 {
-        plan.number(Op::Value, n);
-    }
-    for bit in 0..16 {
-        plan.number(Op::Check, 1 << bit);
-        plan.number(Op::Check, 0xFFFF >> bit);
-    }
-    for n in [0, 0x4C31, 0x8B04, 0x8EFF, 0xB8F9, 0x1F11, 0xECD4, 0x4971, 0xF6B3, 0xD743] {
-        plan.number(Op::Check, n);
-    }
-    for n in [0x0123, 0x4567, 0x89AB, 0xCDEF, 0x00A0, 0x0A0B, 0xA00A, 0x40BF, 0x4B37, 0x9999] {
-        plan.number(Op::Check, n);
-    }
-    for _ in 0..12 {
-        let n = plan.random.number() & 0xFFFF;
-        plan.number(Op::Check, n);
-    }
-}
-
 fn sums(plan: &mut Plan) {
     for text in ["", "1", "12", "123456789", "123456788", "A", "AB", "BA", "\n", "\0", "\0\0"] {
         plan.call(Op::Crc, text);
@@ -313,5 +250,20 @@ fn sums(plan: &mut Plan) {
     for length in (1..40).chain([255, 256, 1024]) {
         let bytes = plan.random.bytes(length);
         plan.call(Op::Crc, bytes);
+    }
+}
+
+fn states(plan: &mut Plan) {
+    for bytes in [&b""[..], b"\0", b"\x01", b"\x80", b"\xFF", b"123456789", b"\0\0", b"\xFF\xFF"] {
+        plan.call(Op::CrcState, bytes);
+    }
+    for name in IDENTITIES.iter().chain(&RECORDS) {
+        let record = worked(name);
+        plan.call(Op::CrcState, &record[..record.len() - 4]);
+        plan.call(Op::CrcState, record);
+    }
+    for length in 1..=20 {
+        let bytes = plan.random.bytes(length);
+        plan.call(Op::CrcState, bytes);
     }
 }

@@ -1,8 +1,8 @@
-//! Readers that step through whole files, single steps, and lists.
+//! A reader's first step, and steps from a place.
 
 use super::Plan;
 use crate::calls::Op;
-use compare::file::{lines, LONGEST_LISTED};
+use compare::file::lines;
 use compare::kind::Kind;
 use compare::record::LONGEST_READ;
 use compare::sample::{self, Fault, Signed};
@@ -11,10 +11,8 @@ use compare::worked::worked;
 pub fn add(plan: &mut Plan) {
     for file in files(plan) {
         plan.call(Op::Reader, file.clone());
-        plan.call(Op::PrintList, file.clone());
         steps(plan, &file);
     }
-    longest(plan);
 }
 
 /// Files of few lines: empty, unfinished, with carriage returns, of every kind, damaged, too long.
@@ -58,14 +56,5 @@ fn steps(plan: &mut Plan, file: &[u8]) {
     let past = plan.random.one_of(&[end as u64, end as u64 + 1, u64::MAX]);
     for place in [inside, second, past] {
         plan.numbered(Op::StepFrom, place, file);
-    }
-}
-
-/// As many bytes as are listed, and one more, which is too big.
-fn longest(plan: &mut Plan) {
-    let bytes = vec![0; LONGEST_LISTED + 1];
-    for end in [LONGEST_LISTED + 1, LONGEST_LISTED] {
-        let (first, rest) = bytes[..end].split_at(usize::from(u16::MAX));
-        plan.pair(Op::PrintList, first, rest);
     }
 }

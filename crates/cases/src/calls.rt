@@ -1,73 +1,123 @@
-// The calls by their numbers in the case file.
-use crate::input;
-use crate::names;
-use crate::outputs;
-use crate::records;
+// The other calls, by their numbers in the case file.
 use crate::say;
-use crate::values;
-use crate::walks;
 
-// One call: its number, the case's own number n and n's low byte, and the first two of the numbers in c, eight bytes each.
-pub(crate) struct Call {
-    pub op: u8,
-    pub n: usize,
-    pub byte: u8,
-    pub first: usize,
-    pub second: usize,
-}
-
-// What is counted where a call gives no number back.
-pub(crate) const NONE: u8 = 255;
-
-// What each call hands back, from call 0 on, which is none: the letter is that of its arm in `run_call`. A new call's letter
-// goes in the place of the first `.`.
-const FORMS: [u8; 64] = *b".ttttttttvvccaaffwwwwilonvvvvvvvvttttvvvxpppafxxrksywwwwvddehd..";
-
-// Each arm prints the rest of the line, and gives back the number that the library gave, or NONE.
-fn run_call<'a>(call: Call, a: &'a [u8], b: &'a [u8], c: &'a [u8]) -> u8 {
-    let i = (call.op % 64) as usize;
-    let form = FORMS[i];
-    let no = match form {
-        b't' => values::test(call, a, b),
-        b'v' => values::value(call, a),
-        b'c' => values::check(call, a),
-        b'x' => values::number(call, a, b),
-        b'a' => records::answer(call, a),
-        b'f' => records::field(call, a),
-        b'd' => records::place(call, a),
-        b'p' => records::part(call, a),
-        b'i' => records::item(call, a),
-        b'e' => records::item_place(call, a),
-        b'n' => records::newer(a, b),
-        b'h' => records::newer_of(a, b),
-        b'w' => outputs::write(call, a, b, c),
-        b'r' => outputs::refuse(call),
-        b'l' => walks::print_line(files::line_at(a, call.n), false),
-        b's' => walks::print_line(files::step_from(a, call.n), true),
-        b'o' => walks::count(a),
-        b'y' => walks::list(a),
-        _ => walks::walk(a),
-    };
-    say::line_feed();
-    no
-}
-
-// The list is of a and b as one file.
-pub(crate) fn run(case: input::Case, file: &[u8]) -> u8 {
-    names::print_name(case.op);
-    let mut a_end = case.b;
-    if case.op == 51 {
-        a_end = case.c;
+fn test(op: usize, n: usize, a: &[u8]) -> bool {
+    match op {
+        1 => text::is_ident(a),
+        2 => text::is_timestamp(a),
+        3 => text::is_hex(n, a),
+        4 => text::is_point(a),
+        5 => text::is_sig(a),
+        6 => text::is_mac(a),
+        _ => text::is_print(a),
     }
-    let a = input::cut(file, case.a, a_end);
-    let b = input::cut(file, case.b, case.c);
-    let c = input::cut(file, case.c, case.end);
-    let call = Call {
-        op: case.op,
-        n: case.n,
-        byte: (case.n % 256) as u8,
-        first: input::number(c, 0, 8),
-        second: input::number(c, 8, 16),
+}
+
+// The check of a, by its state.
+fn check_by_state(a: &[u8]) -> u16 {
+    let mut crc = crc16::Crc::begin();
+    let mut i: usize = 0;
+    while i < a.len() {
+        crc = crc.add(a[i]);
+        i += 1;
+    }
+    crc.end()
+}
+
+fn print_each(numbers: &[usize; 7]) {
+    let mut i: usize = 0;
+    while i < 7 {
+        say::number(numbers[i]);
+        i += 1;
+    }
+}
+
+// The answer, then the starts of all fields, their lengths, and the kinds of the identities among them.
+fn print_answer(read: reading::Answer) {
+    say::outcome(read.no, read.field, read.kind);
+    let starts = read.starts;
+    print_each(&starts);
+    let lens = read.lens;
+    print_each(&lens);
+    let kinds = read.kinds;
+    print_each(&kinds);
+}
+
+// The calls that hand back a part: a field's text, the answer, and the part's length and check.
+fn print_part<'a>(op: usize, n: usize, a: &'a [u8], b: &'a [u8]) {
+    let mut no: u8 = 0;
+    let mut field: u8 = 0;
+    let part = match op {
+        12 => fields::identity_field(a, n, &mut no, &mut field),
+        13 => fields::record_field(a, n, &mut no, &mut field),
+        14 => items::text_item(a, n, &mut no),
+        _ => newer::newer(a, b, &mut no, &mut field),
     };
-    run_call(call, a, b, c)
+    if op < 14 {
+        say::text(part);
+    }
+    say::outcome(no, field, part.len());
+    say::number(crc16::crc_of(part) as usize);
+}
+
+fn print_place(at: fields::Place) {
+    say::outcome(at.no, at.field, at.start);
+    say::number(at.len);
+}
+
+// The first line, by a reader. It holds the file, so this function is proved by hand.
+fn first_line(file: &[u8]) -> files::Line {
+    let mut reader = files::Reader::new(file);
+    reader.step()
+}
+
+// A place alone where the file is finished.
+fn print_line(line: files::Line) {
+    match line {
+        files::Line::Finished { place } => say::number(place),
+        files::Line::Read {
+            no,
+            field,
+            kind,
+            start,
+            len,
+            next,
+        } => {
+            say::outcome(no, field, kind);
+            say::number(start);
+            say::number(len);
+            say::number(next);
+        }
+    }
+}
+
+pub(crate) fn run<'a>(op: usize, n: usize, a: &'a [u8], b: &'a [u8]) {
+    match op {
+        1..=7 => say::number(test(op, n, a) as usize),
+        8 => say::number(crc16::crc_of(a) as usize),
+        9 => say::number(check_by_state(a) as usize),
+        10 => print_answer(reading::read_identity(a)),
+        11 => print_answer(reading::read_record(a)),
+        12..=15 => print_part(op, n, a, b),
+        16 => print_place(fields::identity_place(a, n)),
+        17 => print_place(fields::record_place(a, n)),
+        18 => {
+            let at = items::item_place(a, n);
+            say::outcome(at.no, 0, at.start);
+            say::number(at.len);
+        }
+        19 => {
+            let chosen = newer::newer_of(a, b);
+            say::outcome(chosen.no, chosen.field, chosen.which as usize);
+        }
+        20 => print_line(files::line_at(a, n)),
+        21 => print_line(files::step_from(a, n)),
+        22 => print_line(first_line(a)),
+        23 => {
+            let totals = files::count(a);
+            say::number(totals.lines);
+            say::number(totals.accepted);
+        }
+        _ => {}
+    }
 }

@@ -1,22 +1,6 @@
-// The cases, as compare/ writes them: the call, a number, the lengths of three byte strings, all big endian, and then the
-// strings. A call plus 128 has no strings of its own: they are the front of those of the case before it.
-use std::num::wrapping_add_usize;
-
-const HEAD: usize = 15;
-
-const REPEATED: usize = 128;
-
-// One case: the call (0 where there are no more), its number, where its strings a, b and c begin in the file and where c
-// ends, and where the next case begins.
-pub(crate) struct Case {
-    pub op: u8,
-    pub n: usize,
-    pub a: usize,
-    pub b: usize,
-    pub c: usize,
-    pub end: usize,
-    pub next: usize,
-}
+// The case file, as compare/ writes it, with numbers in big endian: what a lent output holds before, 1,024 bytes; the place
+// where the heads end, eight bytes; the heads, 29 bytes each; and the strings. A head has the call, one byte; n, eight bytes;
+// and five places, four bytes each: where the case's label, a, b and c begin, one behind the other, and where c ends.
 
 // The bytes from a place to another, and none where they are not all there.
 pub(crate) fn cut<'a>(s: &'a [u8], from: usize, to: usize) -> &'a [u8] {
@@ -40,30 +24,8 @@ pub(crate) fn number(s: &[u8], from: usize, to: usize) -> usize {
     n
 }
 
-// The case at a place of the file; `before` is where the strings of the case before it begin. No sum wraps in a file that
-// fits into memory.
-pub(crate) fn case_at(file: &[u8], at: usize, before: usize) -> Case {
-    let own = wrapping_add_usize(at, HEAD);
-    let head = cut(file, at, own);
-    let call = number(head, 0, 1);
-    let mut a = own;
-    if REPEATED <= call {
-        a = before;
-    }
-    let b = wrapping_add_usize(a, number(head, 9, 11));
-    let c = wrapping_add_usize(b, number(head, 11, 13));
-    let end = wrapping_add_usize(c, number(head, 13, 15));
-    let mut next = end;
-    if REPEATED <= call {
-        next = own;
-    }
-    Case {
-        op: (call % REPEATED) as u8,
-        n: number(head, 1, 9),
-        a,
-        b,
-        c,
-        end,
-        next,
-    }
+// The string whose place, and the next one's, stand in a head from `at` on.
+pub(crate) fn string<'a>(file: &'a [u8], head: &[u8], at: usize) -> &'a [u8] {
+    let next = at % 64 + 4;
+    cut(file, number(head, at, next), number(head, next, next + 4))
 }

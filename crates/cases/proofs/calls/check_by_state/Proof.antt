@@ -1,10 +1,10 @@
--- `cases::values::check_by_state` ends.
+-- `cases::calls::check_by_state` ends.
 -- Assumes nothing.
 use Prim.Native.Nat.{_-_}
 use lib.ListN.{length}
 use borrow.Author.Needs.{needs}
-use Rattle.cases.proofs.values.check_by_state.Statement.{statement}
-use Rattle.cases.proofs.values.check_by_state.Tie as tie
+use Rattle.cases.proofs.calls.check_by_state.Statement.{statement}
+use Rattle.cases.proofs.calls.check_by_state.Tie as tie
 
 abbrev Inv-loop : tie.InvT-loop
 Inv-loop a crc₀ i₀ crc i = Unit {0}
