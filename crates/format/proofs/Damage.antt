@@ -5,7 +5,7 @@ use Prim.Native.Nat.{ℕ, zero, suc, _+_, _-_, _≤_, _<_}
 use Prim.Native.Char.{code}
 use mathlib.Core.Path.{_≡_, refl, sym, ap, _∙_}
 use mathlib.Core.Logic.{_≢_, ⊎-elim}
-use mathlib.Core.List.{[], _∷_, List·Memᴰ, List·Memᴰ·head, List·Memᴰ·tail}
+use mathlib.Core.List.{List, [], _∷_, List·Memᴰ, List·Memᴰ·head, List·Memᴰ·tail}
 use native.Mathlib.Omega.{arith}
 use native.Mathlib.Nat.{zero-add}
 use lib.Dec.{eqb, eqb→eq}
@@ -22,13 +22,15 @@ use Rattle.text.specs.Base16.{checkText}
 use Rattle.text.proofs.Tests.{by-test, less-or, T-true, T-false}
 use Rattle.text.proofs.Hexadecimal.{check-inj}
 use Rattle.numbers.specs.Numbers.{unfinished}
-use Rattle.format.specs.Kinds.{mark, recordKinds}
+use Rattle.format.specs.Kinds.{Kind, mark, recordKinds}
+use Rattle.format.specs.Build.{Built}
 use Rattle.format.specs.Read.{Outcome, accepted, refused, lastOr, readRecord}
 use Rattle.format.specs.Files.{lineFeed, upTo, Line, walkFrom, walk}
 use Rattle.format.specs.Damage.{Differ, Accepted, Refused, Damaged, Caught, AllCaught}
 use Rattle.format.proofs.Table.{all-among}
 use Rattle.format.proofs.Parts.{last-at, built-last, built-check}
-use Rattle.format.proofs.Exactly.{record-exact}
+use Rattle.format.proofs.Outcomes.{Honest}
+use Rattle.format.proofs.Exactly.{record-exact, record-says}
 use Rattle.format.proofs.Lines.{Feed, lineTo, at-end, at-line, at-unfinished, by-place}
 
 -- ---- lists
@@ -103,9 +105,10 @@ module _ (x y : Bytes) (bytes-x : AreBytes x) (bytes-y : AreBytes y) (long : len
 
 -- ---- the lines of two files
 
-not-accepted : (o : Outcome) → (Accepted o → ⊥) → Refused o
-not-accepted (accepted k fs) f = absurd (f (k, fs, refl))
-not-accepted (refused n i) f = (n, i, refl)
+not-accepted : (P : Kind → List Bytes → Type 0) (o : Outcome) → Honest P o → (Accepted o → ⊥) → Refused o
+not-accepted P (accepted k fs) h f = absurd (f (k, fs, refl))
+not-accepted P (refused zero i) h f = absurd h
+not-accepted P (refused (suc n) i) h f = (suc n, i, refl, λ z. absurd (omega arith))
 
 module _ (a b : Bytes) (d : Damaged a b) where
   feed-same : (p e : ℕ) → Feed a p e → Feed b p e
@@ -129,7 +132,7 @@ module _ (a b : Bytes) (d : Damaged a b) where
         same-start = refl;
         same-size = refl;
         same-next = refl;
-        refused-there = λ p (l, h) differ. not-accepted (readRecord y) (λ acc.
+        refused-there = λ p (l, h) differ. not-accepted (Built recordKinds y) (readRecord y) (record-says y) (λ acc.
             let same : x ≡ y =
             accepted-damaged x y (part-bytes start n a (d .bytes-a)) (part-bytes start n b (d .bytes-b)) long (i - start) near (d .in-accepted _ m p (l, h) differ) acc in
             let z : start + (p - start) ≡ p = omega arith in
@@ -152,7 +155,7 @@ module _ (a b : Bytes) (d : Damaged a b) where
       let here = at-unfinished a p e f l h in
       let listed′ = rw here at listed in
       rw (here, at-unfinished b p e (feed-same p e f) (omega arith) (omega arith), ← long) (
-        record { same-start = refl; same-size = refl; same-next = refl; refused-there = λ _ _ _. (unfinished, 0, refl); same-said = λ _. refl },
+        record { same-start = refl; same-size = refl; same-next = refl; refused-there = λ _ _ _. (unfinished, 0, refl, λ z. absurd (omega arith)); same-said = λ _. refl },
         all-caught n (length a) (λ l m. listed′ l (List·Memᴰ·tail m)),
       ))
 

@@ -1,11 +1,11 @@
 -- What each call accepts, exactly: the records that may be built of the kinds that it reads, with the fields that they were
 -- built from. No refusal has the number 0; a record has one kind, one list of fields and a known length.
 -- Assumes nothing.
-use Prim.Native.Nat.{_+_, _≤_}
+use Prim.Native.Nat.{ℕ, _+_, _≤_}
 use Prim.Native.Char.{code}
 use mathlib.Core.Path.{_≡_, sym, ap, ap₂, _∙_, subst}
 use mathlib.Core.Logic.{_↔_, ⊎-elim}
-use mathlib.Core.Bool.{not, _&&_}
+use mathlib.Core.Bool.{Bool, true, false, cond, not, _&&_}
 use mathlib.Core.List.{List, [], _∷_}
 use native.Mathlib.Omega.{arith}
 use native.Mathlib.Nat.{le-trans}
@@ -21,11 +21,34 @@ use Rattle.text.proofs.Hexadecimal.{check-hex}
 use Rattle.numbers.specs.Numbers.{tooLong, missingCheck, wrongCheck, wrongCount}
 use Rattle.format.specs.Kinds.{Kind, Field, name, mark, fieldsOf, identityFields, identityKinds, recordKinds, pubkeyKinds, among}
 use Rattle.format.specs.Build.{WithoutAll, recordOf, empty, Fits, FitAll, PermittedOver, BuiltOver, NeverIdentity, IsIdentity, Permitted, Built}
-use Rattle.format.specs.Read.{Outcome, accepted, answer, title, markAfter, kindIn, body, check, lastOr, cut, fieldsIn, judged, readAs, readOver, nobody, readIdentity, readOf, readRecord}
+use Rattle.format.specs.Read.{Outcome, accepted, answer, title, markAfter, kindIn, body, check, endsIn, checkNo, cut, fieldsIn, judged, readAs, readOver, nobody, readIdentity, readOf, readRecord}
 use Rattle.format.proofs.Table.{name-inj, All, kindIn-some, kindIn-known, longestRecord, record-room, identity-row, pubkey-row}
-use Rattle.format.proofs.Parts.{record-length, built-title, built-last, built-check, built-parts, record-without, found-built}
-use Rattle.format.proofs.Outcomes.{never, provided-law, ofKind-law, Honest, honest-map, honest-zero}
+use Rattle.format.proofs.Parts.{record-length, ends-last, built-title, built-ends, built-check, built-parts, record-without, found-built}
+use Rattle.format.proofs.Outcomes.{never, provided-law, passing-law, ofKind-law, Honest, honest-map, honest-zero}
 use Rattle.format.proofs.Fields.{fit-length, Exact, fits-judged, judged-law, Tame, fields-held, record-held}
+
+-- ---- a check without a number
+
+two-right : (a b : Bool) → _≡_ {A = ℕ} (cond a (cond b 0 wrongCheck) missingCheck) 0 → T a × T b
+two-right true true e = (tt, tt)
+two-right true false e = absurd (omega arith)
+two-right false b e = absurd (omega arith)
+
+check-right : (m : ℕ) (s : Bytes) → checkNo m s ≡ 0 → T (endsIn m (body s)) × T (same (check s) (checkText (crcOf (body s))))
+unfolding checkNo
+check-right m s e =
+    let both = two-right (isHex 4 (check s) && endsIn m (body s)) (same (check s) (checkText (crcOf (body s)))) e in
+    (and-yes (isHex 4 (check s)) (endsIn m (body s)) (both .0) .1, both .1)
+
+built-right : (k : Kind) (fs : List Bytes) → checkNo (mark k) (recordOf k fs) ≡ 0
+unfolding checkNo
+built-right k fs =
+    let s : Bytes = recordOf k fs in
+    let hex : T (isHex 4 (check s)) = rw (built-check k fs) (check-hex (crcOf (body s))) in
+    rw (
+      T-true (isHex 4 (check s) && endsIn (mark k) (body s)) (yes-and (isHex 4 (check s)) (endsIn (mark k) (body s)) hex (built-ends k fs)),
+      T-true (same (check s) (checkText (crcOf (body s)))) (rw (built-check k fs) (same-refl (checkText (crcOf (body s))))),
+    )
 
 -- ---- a call that asks `ask` of identities, which accepts exactly the identities I
 
@@ -39,30 +62,25 @@ module _ (ask : Bytes → Outcome) (I : Kind → Bytes → Type 0) (x : Exact as
       (λ k e.
       let fs : List Bytes = fieldsIn k s in
       let known = kindIn-some ks (title s) (markAfter s) k e in
-      provided-law P (isHex 4 (check s) && eqb (lastOr 0 (body s)) (mark k)) missingCheck _ tt
-      (λ ends. provided-law P (same (check s) (checkText (crcOf (body s)))) wrongCheck _ tt
+      passing-law P (checkNo (mark k) s) 0 _ (λ n. tt)
       (λ right. provided-law P (eqb (length fs) (length (fieldsOf k))) wrongCount _ tt
       (λ count. judged-law ask I x P (λ n i. tt) k fs (accepted k fs) (eqb→eq (length fs) (length (fieldsOf k)) count)
       (λ p.
-      let last = and-yes (isHex 4 (check s)) (eqb (lastOr 0 (body s)) (mark k)) ends .1 in
+      let checked = check-right (mark k) s right in
       record {
         of-kind = known .0;
         permitted = p;
         built =
-            found-built k s (known .1) (known .2) (eqb→eq (lastOr 0 (body s)) (mark k) last)
-            (same→eq (check s) (checkText (crcOf (body s))) right);
-      }))))))
+            found-built k s (known .1) (known .2) (ends-last (mark k) (body s) (checked .0))
+            (same→eq (check s) (checkText (crcOf (body s))) (checked .1));
+      })))))
 
   as-accepts : (k : Kind) (fs : List Bytes) → WithoutAll (mark k) fs → PermittedOver I k fs → readAs ask (recordOf k fs) k ≡ accepted k fs
   unfolding readAs
   as-accepts k fs w p =
-      let s : Bytes = recordOf k fs in
-      let hex : T (isHex 4 (check s)) = rw (built-check k fs) (check-hex (crcOf (body s))) in
-      let ends = yes-and (isHex 4 (check s)) (eqb (lastOr 0 (body s)) (mark k)) hex (yes-eqb (built-last k fs)) in
       rw (
         ap (drop 1) (built-parts k fs w),
-        T-true (isHex 4 (check s) && eqb (lastOr 0 (body s)) (mark k)) ends,
-        T-true (same (check s) (checkText (crcOf (body s)))) (rw (built-check k fs) (same-refl (checkText (crcOf (body s))))),
+        built-right k fs,
         T-true (eqb (length fs) (length (fieldsOf k))) (yes-eqb (fit-length I (fieldsOf k) fs (p .fit))),
       ) (fits-judged ask I x k fs (accepted k fs) p)
 

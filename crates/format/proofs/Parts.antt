@@ -1,14 +1,14 @@
 -- Cutting at a mark undoes joining, and joining undoes cutting: the title, the mark, the body, the check and the fields of a
 -- built record, and the record that is built of such parts.
 -- Assumes nothing.
-use Prim.Native.Nat.{ℕ, suc, _+_, _-_}
+use Prim.Native.Nat.{ℕ, suc, _+_, _-_, _<_}
 use mathlib.Core.Path.{_≡_, refl, sym, ap, _∙_}
 use mathlib.Core.Bool.{Bool, true, false, not, cond}
 use mathlib.Core.List.{List, [], _∷_, _++_, append-assoc}
 use native.Mathlib.Omega.{arith}
 use lib.Dec.{T, T-not, eqb, eqb→eq, eqb-refl}
 use lib.ListN.{length, drop, getD, length-append, take-append-drop}
-use lib.Seq.{take-at, drop-at}
+use lib.Seq.{length-take-le, take-at, drop-at}
 use mir.Facts.{and-yes, yes-and, yes-eqb, no-eqb}
 use Rattle.crc16.specs.Crc.{crcOf}
 use Rattle.text.specs.Text.{Bytes, every, without, identCharacter, Hex}
@@ -18,7 +18,7 @@ use Rattle.text.proofs.Types.{plain, plain-without, hex-length}
 use Rattle.text.proofs.Hexadecimal.{check-hex}
 use Rattle.format.specs.Kinds.{Kind, name, mark}
 use Rattle.format.specs.Build.{joined, WithoutAll, withCheck, recordOf}
-use Rattle.format.specs.Read.{isMark, title, markAfter, body, check, lastOr, onFirst, cut, fieldsIn}
+use Rattle.format.specs.Read.{isMark, title, markAfter, body, check, lastOr, endsIn, onFirst, cut, fieldsIn}
 use Rattle.format.proofs.Table.{mark-is-mark, mark-no-character, name-markless, name-plain}
 
 -- ---- the last byte
@@ -29,6 +29,14 @@ last-after c (d ∷ s) = last-after d s
 
 pub last-at : (s : Bytes) (k : ℕ) → length s ≡ suc k → getD s k 0 ≡ lastOr 0 s
 last-at s k e = rw e at (last-after 0 s)
+
+pub ends-last : (m : ℕ) (s : Bytes) → T (endsIn m s) → lastOr 0 s ≡ m
+ends-last m [] h = absurd h
+ends-last m (c ∷ s) h = eqb→eq (lastOr c s) m h
+
+last-ends : (m : ℕ) (s : Bytes) → 0 < length s → lastOr 0 s ≡ m → T (endsIn m s)
+last-ends m [] h e = absurd (omega arith)
+last-ends m (c ∷ s) h e = yes-eqb e
 
 -- ---- joined after cut
 
@@ -129,6 +137,9 @@ module _ (k : Kind) (fs : List Bytes) where
   pub built-last : lastOr 0 (body (recordOf k fs)) ≡ mark k
   unfolding recordOf
   built-last = rw body-of (last-joined 0 (mark k) fs (name k))
+
+  pub built-ends : T (endsIn (mark k) (body (recordOf k fs)))
+  built-ends = last-ends (mark k) (body (recordOf k fs)) (omega (arith, record-length, length-take-le (length (recordOf k fs) - 4) (recordOf k fs) (omega arith))) built-last
 
   pub built-check : check (recordOf k fs) ≡ checkText (crcOf (body (recordOf k fs)))
   unfolding recordOf

@@ -22,8 +22,9 @@ Inside l p = (l .start ≤ p) × (p < l .start + l .size)
 abbrev pub Accepted : Outcome → Type 0
 Accepted o = (k : Kind) × (fs : List Bytes) × (o ≡ accepted k fs)
 
+-- with a number that is none of an accepted record's
 abbrev pub Refused : Outcome → Type 0
-Refused o = (n i : ℕ) × (o ≡ refused n i)
+Refused o = (n i : ℕ) × (o ≡ refused n i) × (n ≢ 0)
 
 -- b is a with damage that the check must catch
 pub record Damaged (a b : Bytes) : Type 0 where

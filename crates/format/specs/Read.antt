@@ -77,6 +77,19 @@ abbrev pub lastOr : ℕ → Bytes → ℕ
 lastOr c [] = c
 lastOr c (d ∷ s) = lastOr d s
 
+-- m is the last byte of s; no bytes have no last one
+abbrev pub endsIn : ℕ → Bytes → Bool
+endsIn m [] = false
+endsIn m (c ∷ s) = eqb (lastOr c s) m
+
+-- the number that the check of s is answered, where the mark is m: 3 where the last four bytes are not HEX(4) or the byte before them is not
+-- there or not the mark, 4 where the check differs
+unfoldable pub checkNo : ℕ → Bytes → ℕ
+checkNo m s =
+    cond (isHex 4 (check s) && endsIn m (body s))
+    (cond (same (check s) (checkText (crcOf (body s)))) 0 wrongCheck)
+    missingCheck
+
 -- the parts that the mark m ends; what no mark ends is a part too
 abbrev pub onFirst : ℕ → List Bytes → List Bytes
 onFirst c [] = (c ∷ []) ∷ []
@@ -122,11 +135,10 @@ judged ask k fs o = each ask 1 (fieldsOf k) fs (passing (wholeAnswer k fs) 0 o)
 -- s, which begins with the name and the mark of the kind k
 unfoldable pub readAs : (Bytes → Outcome) → Bytes → Kind → Outcome
 readAs ask s k =
-    provided (isHex 4 (check s) && eqb (lastOr 0 (body s)) (mark k)) missingCheck
-    (provided (same (check s) (checkText (crcOf (body s)))) wrongCheck
+    passing (checkNo (mark k) s) 0
     (provided (eqb (length (fieldsIn k s)) (length (fieldsOf k))) wrongCount
     (judged ask k (fieldsIn k s)
-    (accepted k (fieldsIn k s)))))
+    (accepted k (fieldsIn k s))))
 
 -- a call that reads the kinds ks
 unfoldable pub readOver : (Bytes → Outcome) → List Kind → Bytes → Outcome

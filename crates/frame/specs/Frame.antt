@@ -1,16 +1,11 @@
--- What every record has whatever its kind, by places: document 01, numbers 3 and 4; STS 600-4-2, clauses 5.7 and 5.8.
+-- What every record has whatever its kind, by places: STS 600-4-2, clauses 5.7 and 5.8. `checkNo` of format says numbers 3 and 4.
 -- Assumes nothing.
 use Prim.Native.Nat.{ℕ, _+_}
-use mathlib.Core.Bool.{cond, _&&_}
 use mathlib.Core.List.{[]}
 use lib.ListN.{length, take, drop, getD}
-use lib.Dec.{eqb}
-use Rattle.crc16.specs.Crc.{crcOf}
-use Rattle.text.specs.Text.{Bytes, same, isHex}
-use Rattle.text.specs.Base16.{checkText}
-use Rattle.numbers.specs.Numbers.{missingCheck, wrongCheck}
+use Rattle.text.specs.Text.{Bytes}
 use Rattle.format.specs.Build.{joined}
-use Rattle.format.specs.Read.{body, check, lastOr, cut}
+use Rattle.format.specs.Read.{cut}
 use Rattle.format.specs.Files.{upTo}
 
 -- the first place of the mark m at or after i: the end if there is none, and i past the end
@@ -24,10 +19,3 @@ partOf m s n = getD (cut m s) n []
 -- where part n stands: behind the parts before it, each with its mark
 unfoldable pub partStart : ℕ → Bytes → ℕ → ℕ
 partStart m s n = length (joined m (take n (cut m s)))
-
--- the number that the check of s is answered, where the mark is m
-unfoldable pub checkNo : ℕ → Bytes → ℕ
-checkNo m s =
-    cond (isHex 4 (check s) && eqb (lastOr 0 (body s)) m)
-    (cond (same (check s) (checkText (crcOf (body s)))) 0 wrongCheck)
-    missingCheck

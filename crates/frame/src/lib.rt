@@ -3,8 +3,8 @@
 ghost use mathlib.Core.Path.{_≡_};
 ghost use Prim.Native.Nat.{_-_};
 ghost use lib.ListN.{length};
-ghost use Rattle.format.specs.Read.{isMark, title, markAfter, body, check, lastOr};
-ghost use Rattle.frame.specs.Frame.{nextMark, partStart, partOf, checkNo};
+ghost use Rattle.format.specs.Read.{isMark, title, markAfter, body, check, endsIn, checkNo};
+ghost use Rattle.frame.specs.Frame.{nextMark, partStart, partOf};
 
 const CHECK_LENGTH: usize = 4;
 
@@ -68,16 +68,6 @@ pub fn next_mark(mark: u8, s: &[u8], from: usize) -> usize
     i
 }
 
-fn last_byte(s: &[u8]) -> u8
-    ensures { λ r. ⌜ r ≡ lastOr 0 (now (s .entry)) ⌝ }
-{
-    if s.len() == 0 {
-        return 0;
-    }
-    let at = s.len() - 1;
-    s[at]
-}
-
 // Where part n, from 0, begins: behind the parts before it, each with its mark. Where there are not so many, behind the
 // last.
 fn part_start(mark: u8, s: &[u8], n: usize) -> usize
@@ -135,6 +125,17 @@ fn check_of<'a>(s: &'a [u8]) -> &'a [u8]
     &s[start..]
 }
 
+// The mark is the last byte; no bytes have no last one.
+fn ends_in(mark: u8, s: &[u8]) -> bool
+    ensures { λ r. ⌜ r ≡ endsIn mark (now (s .entry)) ⌝ }
+{
+    if s.len() == 0 {
+        return false;
+    }
+    let at = s.len() - 1;
+    s[at] == mark
+}
+
 // 3 where no check or no mark before it stands at the end, 4 where the check differs, else 0.
 pub fn check_no(mark: u8, s: &[u8]) -> u8
     ensures { λ r. ⌜ r ≡ checkNo mark (now (s .entry)) ⌝ }
@@ -144,7 +145,7 @@ pub fn check_no(mark: u8, s: &[u8]) -> u8
         return numbers::MISSING_CHECK;
     }
     let body = body_of(s);
-    if last_byte(body) != mark {
+    if !ends_in(mark, body) {
         return numbers::MISSING_CHECK;
     }
     let built = text::check_text(crc16::crc_of(body));

@@ -1,20 +1,16 @@
 -- Numbers 2 to 4, by the row that was found.
 -- Assumes nothing.
 use Prim.Native.Nat.{ℕ}
-use mathlib.Core.Path.{_≡_, refl, ap, _∙_}
-use mathlib.Core.Bool.{Bool, true, false, cond, _&&_}
+use mathlib.Core.Path.{_≡_, ap, _∙_}
 use mathlib.Core.Option.{Option, none, some}
 use native.Mathlib.Omega.{arith}
 use lib.ListN.{length}
 use lib.Dec.{eqb}
 use borrow.Author.Tests.{eq-eqb, ne-eqb}
-use Rattle.crc16.specs.Crc.{crcOf}
-use Rattle.text.specs.Text.{Bytes, same, isHex}
-use Rattle.text.specs.Base16.{checkText}
+use Rattle.text.specs.Text.{Bytes}
 use Rattle.numbers.specs.Numbers.{wrongCount}
 use Rattle.format.specs.Kinds.{Kind, mark, fieldsOf}
-use Rattle.format.specs.Read.{Outcome, accepted, provided, passing, ofKind, body, check, lastOr, fieldsIn, judged, readAs}
-use Rattle.frame.specs.Frame.{checkNo}
+use Rattle.format.specs.Read.{Outcome, accepted, provided, passing, ofKind, checkNo, fieldsIn, judged, readAs}
 use Rattle.table.specs.Table.{rowOf, missingRow, rowFor, markOf}
 use Rattle.table.proofs.Rows.{row-small, of-kind}
 use Rattle.reading.specs.Steps.{formNo}
@@ -36,11 +32,6 @@ form-found row s e h = omega (arith, form-none row s h)
 
 -- ---- what is left is the number of the fields, and then the fields
 
-two-tests : (a b : Bool) (o : Outcome) → provided a 3 (provided b 4 o) ≡ passing (cond a (cond b 0 4) 3) 0 o
-two-tests true true o = refl
-two-tests true false o = refl
-two-tests false b o = refl
-
 module _ (ask : Bytes → Outcome) (s : Bytes) where
   abbrev pub fromFields : Kind → Outcome
   fromFields k = judged ask k (fieldsIn k s) (accepted k (fieldsIn k s))
@@ -49,10 +40,8 @@ module _ (ask : Bytes → Outcome) (s : Bytes) where
   fromCount k = provided (eqb (length (fieldsIn k s)) (length (fieldsOf k))) wrongCount (fromFields k)
 
   as-form : (k : Kind) → readAs ask s k ≡ passing (formNo (rowOf k) s) 0 (fromCount k)
-  unfolding readAs formNo checkNo
-  as-form k =
-      rw (ne-eqb (rowOf k) missingRow (λ e. omega (arith, row-small k)), of-kind mark 0 k)
-      (two-tests (isHex 4 (check s) && eqb (lastOr 0 (body s)) (mark k)) (same (check s) (checkText (crcOf (body s)))) (fromCount k))
+  unfolding readAs formNo
+  as-form k = rw (ne-eqb (rowOf k) missingRow (λ e. omega (arith, row-small k)), of-kind mark 0 k)
 
   pub of-form : (o : Option Kind) (row : ℕ) → row ≡ rowFor o → ofKind o (readAs ask s) ≡ passing (formNo row s) 0 (ofKind o fromCount)
   of-form none row e = rw (form-none row s e)

@@ -8,8 +8,7 @@ use lib.Dec.{eqb}
 use Rattle.text.specs.Text.{Bytes, TextType, Ident}
 use Rattle.numbers.specs.Numbers.{unknownKind}
 use Rattle.format.specs.Kinds.{Field, Text, Identity, OrEmpty}
-use Rattle.format.specs.Read.{Outcome, passing, each, fieldAnswer, wholeAnswer, readIdentity}
-use Rattle.frame.specs.Frame.{checkNo}
+use Rattle.format.specs.Read.{Outcome, passing, checkNo, each, fieldAnswer, wholeAnswer, readIdentity}
 use Rattle.table.specs.Table.{missingRow, ofRow, markOf, countOf, fieldsAt}
 use Rattle.places.specs.Places.{seven, partsFrom}
 use Rattle.reading.specs.Reading.{kindWithin, kindsWithin}

@@ -6,7 +6,7 @@ use mathlib.Core.Bool.{Bool, cond}
 use borrow.Author.Tests.{not-true, not-false}
 use Rattle.text.specs.Text.{same}
 use Rattle.text.specs.Base16.{checkText}
-use Rattle.frame.specs.Frame.{checkNo}
+use Rattle.format.specs.Read.{checkNo}
 use Rattle.frame.proofs.Check.{check-form, check-mark, check-then}
 use borrow.Author.Needs.{needs}
 use Rattle.frame.proofs.check_no.Statement.{statement}
@@ -15,7 +15,7 @@ use Rattle.frame.proofs.check_no.Tie as tie
 -- past the tests of the form: the comparison decides
 formed : (c : tie.After-are-same) → checkNo (c .before .before .before .before .before .before .before .before .before .before .before .args .mark) (now (c .before .before .before .before .before .before .before .before .before .before .before .args .s)) ≡ cond (c .are-same .result) 0 4
 formed c =
-    check-then _ _ (c .before .before .before .before .before .before .before .before .before .check-of .ensures) (sym (c .before .before .before .before .before .before .before .before .is-hex .ensures) ∙ not-false _ (c .before .before .before .before .before .before .before .if1 .left)) (c .before .before .before .before .before .before .body-of .ensures) (sym (c .before .before .before .before .before .last-byte .ensures) ∙ c .before .before .before .before .if2 .left)
+    check-then _ _ (c .before .before .before .before .before .before .before .before .before .check-of .ensures) (sym (c .before .before .before .before .before .before .before .before .is-hex .ensures) ∙ not-false _ (c .before .before .before .before .before .before .before .if1 .left)) (c .before .before .before .before .before .before .body-of .ensures) (sym (c .before .before .before .before .before .ends-in .ensures) ∙ not-false _ (c .before .before .before .before .if2 .left))
     ∙ ap (λ (x : Bool). cond x 0 4) (ap (same (now (c .before .before .before .before .before .before .before .before .before .check-of .result))) (sym (c .before .before .check-text .ensures ∙ ap checkText (c .before .before .before .crc-of .ensures))) ∙ sym (c .are-same .ensures))
 
 check-of-requires : tie.Need-check-of-requires
@@ -30,11 +30,11 @@ returns c = sym (check-form _ _ (c .before .before .check-of .ensures) (sym (c .
 body-of-requires : tie.Need-body-of-requires
 body-of-requires c κs = search needs
 
-last-byte-requires : tie.Need-last-byte-requires
-last-byte-requires c κs = search needs
+ends-in-requires : tie.Need-ends-in-requires
+ends-in-requires c κs = search needs
 
 returns-2 : tie.Need-returns-2
-returns-2 c = sym (check-mark _ _ (c .before .before .before .before .before .check-of .ensures) (sym (c .before .before .before .before .is-hex .ensures) ∙ not-false _ (c .before .before .before .if1 .left)) (c .before .before .body-of .ensures) (λ z. c .if2 .taken (c .before .last-byte .ensures ∙ z)))
+returns-2 c = sym (check-mark _ _ (c .before .before .before .before .before .check-of .ensures) (sym (c .before .before .before .before .is-hex .ensures) ∙ not-false _ (c .before .before .before .if1 .left)) (c .before .before .body-of .ensures) (sym (c .before .ends-in .ensures) ∙ not-true _ (c .if2 .taken)))
 
 crc-of-requires : tie.Need-crc-of-requires
 crc-of-requires c κs = search needs
@@ -62,7 +62,7 @@ check-no-spec =
     is-hex-requires
     returns
     body-of-requires
-    last-byte-requires
+    ends-in-requires
     returns-2
     crc-of-requires
     check-text-requires
