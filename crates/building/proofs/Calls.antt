@@ -9,7 +9,7 @@ use borrow.Author.Tests.{le-leb, lt-leb}
 use Rattle.text.specs.Text.{Bytes}
 use Rattle.format.specs.Kinds.{Kind, name, mark, allKinds}
 use Rattle.format.specs.Build.{joined, withCheck, recordOf}
-use Rattle.format.specs.Read.{Outcome, accepted, refused, passing, ofKind, judged, readIdentity}
+use Rattle.format.specs.Read.{accepted, refused, passing, ofKind, judged, readIdentity}
 use Rattle.format.proofs.Parts.{record-length}
 use Rattle.table.specs.Table.{rowFor, markOf, countOf, named}
 use Rattle.table.proofs.Rows.{Found, found, of-kind}

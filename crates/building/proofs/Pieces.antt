@@ -79,11 +79,14 @@ pub found-none : (s : Bytes) (ns : List ℕ) → length ns ≤ 7 → sum ns ≡ 
 found-none s ns few e = record { left = omega (arith, e); few = few; seven-starts = refl; seven-sizes = refl; all-starts = refl; all-sizes = refl }
 
 module _ {s : Bytes} {ns starts sizes : List ℕ} {p j : ℕ} (w : Found s ns starts sizes p j) where
-  pub found-all : length ns ≤ j → record { starts = starts; lens = sizes } ≡ placesBy ns
-  found-all h = let none = drop-of-length-le ns {i = j} h in ap₂ made (rw none at (w .all-starts)) (rw none at (w .all-sizes))
+  pub found-all : j ≤ length ns → length ns ≤ j → record { count = j; starts = starts; lens = sizes } ≡ placesBy ns
+  found-all l h =
+      let none = drop-of-length-le ns {i = j} h in
+      let all : j ≡ length ns = omega arith in
+      ap (λ (n : ℕ). made n starts sizes) all ∙ ap₂ (made (length ns)) (rw none at (w .all-starts)) (rw none at (w .all-sizes))
     where
-      made : List ℕ → List ℕ → Places
-      made x y = record { starts = x; lens = y }
+      made : ℕ → List ℕ → List ℕ → Places
+      made n x y = record { count = n; starts = x; lens = y }
 
   module _ (h : j < length ns) where
     pub found-fits : p + getD ns j 0 ≤ length s

@@ -23,7 +23,7 @@ startsBy p [] = []
 startsBy p (n ∷ ns) = p ∷ startsBy (p + n) ns
 
 abbrev pub placesBy : List ℕ → Places
-placesBy ns = record { starts = seven 0 (startsBy 0 ns); lens = seven 0 ns }
+placesBy ns = record { count = length ns; starts = seven 0 (startsBy 0 ns); lens = seven 0 ns }
 
 -- the fields as the call is lent them stand at these places
 pub record Lie (bytes : Bytes) (ns starts lens : List ℕ) : Type 0 where

@@ -65,6 +65,7 @@ fn places_by(bytes: &[u8], lens: &[usize]) -> places::Places
         j += 1;
     }
     places::Places {
+        count: j,
         starts,
         lens: sizes,
     }

@@ -100,17 +100,19 @@ pub crc-lt : (xs : List ℕ) → AreBytes xs → crcOf xs < 65536
 unfolding crcOf
 crc-lt xs h = all-lt xs 0xFFFF h (omega arith)
 
--- ---- the two arms of a bit step, as the code has them
+-- ---- a bit step, as the code has it: the feedback under a mask of ones or of zeros
 
-pub step-one : (s : ℕ) → bitAnd s 1 ≡ 1 → bitXor (s / 2) 0xA001 ≡ bitStep s
-unfolding bitStep
-step-one s e = ap (λ (x : ℕ). bitXor (s / 2) (x * 0xA001)) (sym e ∙ and-mask s 1)
+masked : (x : ℕ) → x < 2 → bitAnd (x * 0xFFFF) 0xA001 ≡ x * 0xA001
+masked zero h = refl
+masked (suc zero) h = refl
+masked (suc (suc x)) h = absurd (omega arith)
 
-pub step-zero : (s : ℕ) → (bitAnd s 1 ≡ 1 → ⊥) → s / 2 ≡ bitStep s
+pub mask-fits : (s : ℕ) → bitAnd s 1 * 0xFFFF < 65536
+mask-fits s = omega (arith, and-mask s 1)
+
+pub step-masked : (s : ℕ) → bitXor (s / 2) (bitAnd (bitAnd s 1 * 0xFFFF) 0xA001) ≡ bitStep s
 unfolding bitStep
-step-zero s f =
-    let even : 0 ≡ s % 2 = omega (arith, f, and-mask s 1) in
-    sym (xor-zero-r (s / 2)) ∙ ap (λ (x : ℕ). bitXor (s / 2) (x * 0xA001)) even
+step-masked s = ap (bitXor (s / 2)) (masked (bitAnd s 1) (omega (arith, and-mask s 1)) ∙ ap (λ (x : ℕ). x * 0xA001) (and-mask s 1))
 
 -- ---- a turn of the loop
 

@@ -3,15 +3,12 @@
 ghost use mathlib.Core.Path.{_≡_};
 ghost use Rattle.crc16.specs.Crc.{begin, bitStep, bitSteps, add, end, crcOf};
 
-// One bit.
+// One bit. The feedback is masked, which is quicker than choosing it; of a product by the bit LLVM makes a jump, and the bits
+// of a record are not to be guessed.
 fn bit(state: u16) -> u16
     ensures { λ r. ⌜ r ≡ bitStep state ⌝ }
 {
-    if state & 1 == 1 {
-        (state >> 1) ^ 0xA001
-    } else {
-        state >> 1
-    }
+    (state >> 1) ^ (((state & 1) * 0xFFFF) & 0xA001)
 }
 
 // The eight bits of a byte. Nested calls, because LLVM takes a loop of bit steps for a CRC and puts a table of

@@ -15,10 +15,10 @@ use Rattle.text.specs.Text.{Bytes}
 use Rattle.text.proofs.Tests.{less-or}
 use Rattle.format.specs.Kinds.{Kind, mark}
 use Rattle.format.specs.Build.{joined}
-use Rattle.format.specs.Read.{body, check, cut, onFirst, lastOr, fieldsIn}
+use Rattle.format.specs.Read.{body, check, cut, onFirst, fieldsIn}
 use Rattle.format.specs.Files.{upTo}
 use Rattle.format.proofs.Lines.{take-upTo}
-use Rattle.frame.specs.Frame.{nextMark, marksIn, partStart, partOf}
+use Rattle.frame.specs.Frame.{nextMark, partStart, partOf}
 
 -- ---- the next mark
 
@@ -79,58 +79,6 @@ pub cut-rest : (m : ℕ) (s : Bytes) → drop 1 (cut m s) ≡ cut m (drop (nextM
 unfolding nextMark
 cut-rest m [] = refl
 cut-rest m (c ∷ s) = ap (drop 1) (cut-at m (c ∷ s) 0 (omega arith))
-
--- ---- as many parts as marks, and one more that no mark ends
-
-one-more : (m c d : ℕ) (s : Bytes) → length (onFirst c (cut m (d ∷ s))) ≡ length (cut m (d ∷ s))
-one-more m c d s = go (eqb d m) (cut m s)
-  where
-    go : (b : Bool) (ps : List Bytes) → length (onFirst c (cond b ([] ∷ ps) (onFirst d ps))) ≡ length (cond b ([] ∷ ps) (onFirst d ps))
-    go true ps = refl
-    go false [] = refl
-    go false (p ∷ ps) = refl
-
-parts-count : (m c : ℕ) (s : Bytes) → length (cut m (c ∷ s)) ≡ marksIn m (c ∷ s) + cond (eqb (lastOr c s) m) 0 1
-parts-count m c [] = go (eqb c m)
-  where
-    go : (b : Bool) → length (cond b ([] ∷ []) ((c ∷ []) ∷ [])) ≡ cond b 1 0 + cond b 0 1
-    go true = refl
-    go false = refl
-parts-count m c (d ∷ s) = go (eqb c m) (parts-count m d s)
-  where
-    go : (b : Bool) → length (cut m (d ∷ s)) ≡ marksIn m (d ∷ s) + cond (eqb (lastOr d s) m) 0 1
-        → length (cond b ([] ∷ cut m (d ∷ s)) (onFirst c (cut m (d ∷ s)))) ≡ cond b (suc (marksIn m (d ∷ s))) (marksIn m (d ∷ s)) + cond (eqb (lastOr d s) m) 0 1
-    go true e = omega (arith, e)
-    go false e = one-more m c d s ∙ e
-
-pub parts-none : (m : ℕ) (s : Bytes) → length s ≡ 0 → 0 ≡ length (cut m s)
-parts-none m [] e = refl
-parts-none m (c ∷ s) e = absurd (omega arith)
-
--- n marks, and l is the last byte
-module _ (m n l : ℕ) where
-  pub parts-ended : (s : Bytes) → (length s ≡ 0 → ⊥) → n ≡ marksIn m s → l ≡ lastOr 0 s → l ≡ m → n ≡ length (cut m s)
-  parts-ended [] z e q h = absurd (z refl)
-  parts-ended (c ∷ s) z e q h = e ∙ sym (parts-count m c s ∙ rw (eq-eqb (lastOr c s) m (sym q ∙ h)) (omega arith))
-
-  pub parts-open : (s : Bytes) → (length s ≡ 0 → ⊥) → n ≡ marksIn m s → l ≡ lastOr 0 s → (l ≡ m → ⊥) → n + 1 ≡ length (cut m s)
-  parts-open [] z e q h = absurd (z refl)
-  parts-open (c ∷ s) z e q h = sym (parts-count m c s ∙ rw (ne-eqb (lastOr c s) m (λ (y : lastOr c s ≡ m). h (q ∙ y)), e))
-
-pub marks-few : (m : ℕ) (s : Bytes) → marksIn m s ≤ length s
-marks-few m [] = omega arith
-marks-few m (c ∷ s) = go (eqb c m) (marks-few m s)
-  where
-    go : (b : Bool) → marksIn m s ≤ length s → cond b (suc (marksIn m s)) (marksIn m s) ≤ suc (length s)
-    go true h = omega arith
-    go false h = omega arith
-
-module _ (m : ℕ) (s : Bytes) where
-  pub marks-here : (i : ℕ) → i < length s → getD s i 0 ≡ m → marksIn m (drop i s) ≡ suc (marksIn m (drop (i + 1) s))
-  marks-here i h e = rw (drop-cons s i 0 h, eq-eqb (getD s i 0) m e, add-one)
-
-  pub marks-on : (i : ℕ) → i < length s → (getD s i 0 ≡ m → ⊥) → marksIn m (drop i s) ≡ marksIn m (drop (i + 1) s)
-  marks-on i h n = rw (drop-cons s i 0 h, ne-eqb (getD s i 0) m n, add-one)
 
 -- ---- a walk over the parts: from place i on stand the parts from number k on, behind those before
 pub record Walk (m : ℕ) (s : Bytes) (k i : ℕ) : Type 0 where
@@ -216,24 +164,13 @@ module _ (m : ℕ) (s : Bytes) where
   start-within n h =
       less-or (partStart m s n) (length s) (λ l. l) (λ l. absurd (omega (arith, walk-done m s n _ (walk-to n (omega arith)) l)))
 
-  -- the parts from part n on are those of the bytes from its start on
-  pub parts-from : (n i k : ℕ) → i ≡ partStart m s n → i ≤ length s → partOf m (drop i s) k ≡ partOf m s (n + k)
+  -- none where part n would start at the end or behind it
+  pub part-none : (n i : ℕ) → i ≡ partStart m s n → length s ≤ i → [] ≡ partOf m s n
   unfolding partOf
-  parts-from n i k q h =
-      less-or (length (cut m s)) n
-      (λ few. rw (drop-of-length-le s {i = i} (omega (arith, q, walk-past n (omega arith)))) (sym (List·getD-eq-default (cut m s) [] {n = n + k} (omega arith))))
-      (λ l. rw q (ap (λ (ps : List Bytes). getD ps k []) (sym (walk-to n l .parts)) ∙ getD-drop n (cut m s) k []))
-
-  -- and none where part n would start at the end or behind it
-  pub parts-past : (n i k : ℕ) → i ≡ partStart m s n → length s ≤ i → [] ≡ partOf m s (n + k)
-  unfolding partOf
-  parts-past n i k q h =
+  part-none n i q h =
       less-or n (length (cut m s))
       (λ l. absurd (omega (arith, q, start-within n l)))
-      (λ l. sym (List·getD-eq-default (cut m s) [] {n = n + k} (omega arith)))
-
-  pub part-none : (n i : ℕ) → i ≡ partStart m s n → length s ≤ i → [] ≡ partOf m s n
-  part-none n i q h = rw add-zero at (parts-past n i 0 q h)
+      (λ l. sym (List·getD-eq-default (cut m s) [] {n = n} l))
 
 -- ---- the fields of a record are the parts of its body from part 1 on: part 0 is the kind's name
 

@@ -1,8 +1,8 @@
 -- What every record has whatever its kind, by places: document 01, numbers 3 and 4; STS 600-4-2, clauses 5.7 and 5.8.
 -- Assumes nothing.
-use Prim.Native.Nat.{ℕ, suc, _+_}
+use Prim.Native.Nat.{ℕ, _+_}
 use mathlib.Core.Bool.{cond, _&&_}
-use mathlib.Core.List.{[], _∷_}
+use mathlib.Core.List.{[]}
 use lib.ListN.{length, take, drop, getD}
 use lib.Dec.{eqb}
 use Rattle.crc16.specs.Crc.{crcOf}
@@ -16,11 +16,6 @@ use Rattle.format.specs.Files.{upTo}
 -- the first place of the mark m at or after i: the end if there is none, and i past the end
 unfoldable pub nextMark : ℕ → Bytes → ℕ → ℕ
 nextMark m s i = i + length (upTo m (drop i s))
-
--- how often the mark m stands in s
-abbrev pub marksIn : ℕ → Bytes → ℕ
-marksIn m [] = 0
-marksIn m (c ∷ s) = cond (eqb c m) (suc (marksIn m s)) (marksIn m s)
 
 -- part n, from 0, of those that the mark m ends; empty if there is none
 unfoldable pub partOf : ℕ → Bytes → ℕ → Bytes

@@ -2,9 +2,9 @@
 // marks, and its check. No call has a `requires`: a record too short for a check has an empty body.
 ghost use mathlib.Core.Path.{_≡_};
 ghost use Prim.Native.Nat.{_-_};
-ghost use lib.ListN.{length, drop};
-ghost use Rattle.format.specs.Read.{isMark, title, markAfter, body, check, lastOr, cut};
-ghost use Rattle.frame.specs.Frame.{nextMark, marksIn, partStart, partOf, checkNo};
+ghost use lib.ListN.{length};
+ghost use Rattle.format.specs.Read.{isMark, title, markAfter, body, check, lastOr};
+ghost use Rattle.frame.specs.Frame.{nextMark, partStart, partOf, checkNo};
 
 const CHECK_LENGTH: usize = 4;
 
@@ -76,46 +76,6 @@ fn last_byte(s: &[u8]) -> u8
     }
     let at = s.len() - 1;
     s[at]
-}
-
-// How often the mark stands in s. The loop has no early end, so LLVM counts many bytes at a time.
-fn count_marks(mark: u8, s: &[u8]) -> usize
-    ensures { λ r. ⌜ r ≡ marksIn mark (now (s .entry)) ⌝ }
-{
-    let mut n: usize = 0;
-    let mut i: usize = 0;
-    while i < s.len() {
-        if mark == s[i] {
-            n += 1;
-        }
-        i += 1;
-    }
-    n
-}
-
-// Each mark ends a part, and what no mark ends is one more.
-fn count_parts(mark: u8, s: &[u8]) -> usize
-    ensures { λ r. ⌜ r ≡ length (cut mark (now (s .entry))) ⌝ }
-{
-    if s.len() == 0 {
-        return 0;
-    }
-    let marks = count_marks(mark, s);
-    if last_byte(s) == mark {
-        return marks;
-    }
-    marks + 1
-}
-
-// The number of fields: the parts of a body but for the first, which is the kind's name.
-pub fn count_fields(mark: u8, body: &[u8]) -> usize
-    ensures { λ r. ⌜ r ≡ length (drop 1 (cut mark (now (body .entry)))) ⌝ }
-{
-    let parts = count_parts(mark, body);
-    if parts == 0 {
-        return 0;
-    }
-    parts - 1
 }
 
 // Where part n, from 0, begins: behind the parts before it, each with its mark. Where there are not so many, behind the

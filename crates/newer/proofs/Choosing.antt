@@ -1,6 +1,5 @@
 -- The choice step by step, as the code makes it: the two records' own refusals, then number 13, then the later GNT.
 -- Assumes nothing.
-use Prim.Native.Nat.{ℕ}
 use mathlib.Core.Path.{_≡_, refl, sym, ap, _∙_}
 use mathlib.Core.Bool.{Bool, true, false, cond}
 use mathlib.Core.List.{List, []}

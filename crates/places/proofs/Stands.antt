@@ -2,7 +2,7 @@
 -- Assumes nothing.
 use Prim.Native.Nat.{ℕ, zero, suc, _+_, _-_, _≤_, _<_}
 use mathlib.Core.Path.{_≡_, refl, ap, sym, _∙_}
-use mathlib.Core.Bool.{Bool, true, false, _&&_, and-false}
+use mathlib.Core.Bool.{and-false}
 use mathlib.Core.List.{List, [], _∷_}
 use native.Mathlib.Omega.{arith}
 use native.Mathlib.Nat.{add-zero}
@@ -176,9 +176,6 @@ module _ (k : Kind) (s : Bytes) (fs : List Bytes) (few : length fs ≤ 7) (parts
   -- a start by the build rules, and its field's length
   pub record-start : (j : ℕ) → j < length fs → getD (startsOf k fs) j 0 ≡ length (joined (mark k) (take (suc j) (name k ∷ fs)))
   record-start j h = start-at s (startsFrom (length (name k) + 1) fs) fs few (starts-count _ fs) in-record j ∙ omega (arith, starts-joined (mark k) (length (name k) + 1) fs j h, length-append (name k) (mark k ∷ joined (mark k) (take j fs)))
-
-  pub record-len : (j : ℕ) → getD (lensOf fs) j 0 ≡ length (getD fs j [])
-  record-len = len-at s (startsFrom (length (name k) + 1) fs) fs few (starts-count _ fs) in-record
 
   pub record-place : (j : ℕ) → (getD (startsOf k fs) j 0 + getD (lensOf fs) j 0 ≤ length s) × (take (getD (lensOf fs) j 0) (drop (getD (startsOf k fs) j 0) s) ≡ getD fs j [])
   record-place = place-at s (startsFrom (length (name k) + 1) fs) fs few (starts-count _ fs) in-record

@@ -35,11 +35,15 @@ startsOf k fs = seven 0 (startsFrom (length (name k) + 1) fs)
 abbrev pub lensOf : List Bytes → List ℕ
 lensOf fs = seven 0 (lengths fs)
 
+-- how many fields there are, 8 where there are more than seven
+abbrev pub countFew : List Bytes → ℕ
+countFew fs = length (take 8 fs)
+
 -- ---- the calls
 
 -- the places of the parts of the body b but for the first
 unfoldable pub placesOf : ℕ → Bytes → Places
-placesOf m b = record { starts = seven 0 (startsFrom (nextMark m b 0 + 1) (drop 1 (cut m b))); lens = lensOf (drop 1 (cut m b)) }
+placesOf m b = record { count = countFew (drop 1 (cut m b)); starts = seven 0 (startsFrom (nextMark m b 0 + 1) (drop 1 (cut m b))); lens = lensOf (drop 1 (cut m b)) }
 
 -- what stands at place j, from 0; empty where that is no part of s
 unfoldable pub partAt : Bytes → List ℕ → List ℕ → ℕ → Bytes

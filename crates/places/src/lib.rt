@@ -6,14 +6,15 @@ ghost use Rattle.places.specs.Places.{placesOf, partAt, fieldAt};
 // No kind has more fields.
 pub const MOST: usize = 7;
 
-// The starts and the lengths of the fields from left to right; 0 where there is no more field.
+// How many fields there are, 8 where there are more than seven; and the starts and the lengths of the first seven, from left
+// to right; 0 where there is no more field.
 pub struct Places {
+    pub count: usize,
     pub starts: [usize; 7],
     pub lens: [usize; 7],
 }
 
-// The places of the fields of a body: of its parts but for the first, which is the kind's name. Where there are more than
-// seven, the first seven.
+// The places of the fields of a body: of its parts but for the first, which is the kind's name.
 pub fn places_of(mark: u8, body: &[u8]) -> Places
     ensures { λ r. ⌜ r ≡ placesOf mark (now (body .entry)) ⌝ }
 {
@@ -23,7 +24,11 @@ pub fn places_of(mark: u8, body: &[u8]) -> Places
     let mut i = frame::next_mark(mark, body, 0) + 1;
     while j < MOST {
         if body.len() <= i {
-            return Places { starts, lens };
+            return Places {
+                count: j,
+                starts,
+                lens,
+            };
         }
         let end = frame::next_mark(mark, body, i);
         starts[j] = i;
@@ -31,7 +36,14 @@ pub fn places_of(mark: u8, body: &[u8]) -> Places
         j += 1;
         i = end + 1;
     }
-    Places { starts, lens }
+    if i < body.len() {
+        j += 1;
+    }
+    Places {
+        count: j,
+        starts,
+        lens,
+    }
 }
 
 // The part of s that stands at place j, from 0; an empty one where there is no such place, or where it is none of s.

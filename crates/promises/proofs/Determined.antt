@@ -41,7 +41,6 @@ determined = record {
   title-of = λ κs a x y s t p q. p ∙ sym q;
   mark-after = λ κs a x y s t p q. p ∙ sym q;
   next-mark = λ κs a x y s t p q. p ∙ sym q;
-  count-fields = λ κs a x y s t p q. p ∙ sym q;
   part = λ κs a x y s t p q. p ∙ sym q;
   body-of = λ κs a x y s t p q. p ∙ sym q;
   check-no = λ κs a x y s t p q. p ∙ sym q;

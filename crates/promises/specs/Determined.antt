@@ -33,7 +33,6 @@ use Rattle.table.proofs.does_permit.Reads as does-permit
 use Rattle.frame.proofs.title_of.Reads as title-of
 use Rattle.frame.proofs.mark_after.Reads as mark-after
 use Rattle.frame.proofs.next_mark.Reads as next-mark
-use Rattle.frame.proofs.count_fields.Reads as count-fields
 use Rattle.frame.proofs.part.Reads as part
 use Rattle.frame.proofs.body_of.Reads as body-of
 use Rattle.frame.proofs.check_no.Reads as check-no
@@ -114,7 +113,6 @@ pub record Determined : Type 0 where
   pub title-of : OnePart title-of.Post
   pub mark-after : OneAnswer mark-after.Post
   pub next-mark : OneAnswer next-mark.Post
-  pub count-fields : OneAnswer count-fields.Post
   pub part : OnePart part.Post
   pub body-of : OnePart body-of.Post
   pub check-no : OneAnswer check-no.Post

@@ -1,1 +1,18 @@
-// No code: specs/ states what the library promises, and proofs/ proves it.
+// What the library promises, all of it, as the contract of a function that does nothing: specs/ states it, proofs/ proves it.
+// A statement without a proof leaves this function unproved.
+ghost use Rattle.promises.specs.Total.{Total};
+ghost use Rattle.promises.specs.Determined.{Determined};
+ghost use Rattle.promises.specs.Interface.{Interface};
+ghost use Rattle.promises.specs.Check.{Check};
+ghost use Rattle.promises.specs.TextTypes.{TextTypes};
+ghost use Rattle.promises.specs.Reading.{Reading};
+ghost use Rattle.promises.specs.Building.{Building};
+ghost use Rattle.promises.specs.Agreement.{Agreement};
+ghost use Rattle.promises.specs.Files.{Files};
+ghost use Rattle.promises.specs.Demand3.{Demand3};
+ghost use Rattle.promises.specs.Newer.{Newer};
+ghost use Rattle.promises.specs.Starred.{AllStarred, starred};
+
+fn promised()
+    ensures { λ _. ⌜ Total × Determined × Interface × Check × TextTypes × Reading × Building × Agreement × Files × Demand3 × Newer × AllStarred starred ⌝ }
+{}

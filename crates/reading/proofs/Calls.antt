@@ -4,10 +4,11 @@ use Prim.Native.Nat.{ℕ, _≤_, _<_}
 use mathlib.Core.Path.{_≡_, refl, ap, sym, _∙_}
 use mathlib.Core.List.{List, _∷_}
 use native.Mathlib.Omega.{arith}
-use lib.ListN.{length, drop}
+use lib.ListN.{length, take, drop, length-take}
 use lib.Dec.{T, lit<}
+use borrow.Author.Tests.{eq-eqb, ne-eqb}
 use Rattle.text.specs.Text.{Bytes}
-use Rattle.format.specs.Kinds.{Kind, name, mark, identityKinds, recordKinds, among}
+use Rattle.format.specs.Kinds.{Kind, name, mark, fieldsOf, identityKinds, recordKinds, among}
 use Rattle.format.specs.Read.{Outcome, accepted, refused, passing, title, markAfter, kindIn, ofKind, body, cut, fieldsIn, wholeAnswer, judged, readOver, nobody, readIdentity, readOf, readRecord}
 use Rattle.format.proofs.Table.{all-among, kindIn-some}
 use Rattle.table.specs.Table.{rowOf, rowFor, markOf, countOf}
@@ -20,7 +21,7 @@ use Rattle.reading.specs.Reading.{kindWithin, kindsOf, noKinds, judgedBy
 use Rattle.reading.specs.declared.Judged.{Judged}
 use Rattle.reading.specs.Steps.{formNo, partsBy, FirstRefused}
 use Rattle.reading.proofs.Outcomes.{passing-stop, passing-on, passing-as, over-kind}
-use Rattle.reading.proofs.Form.{fromFields, of-form, form-found, form-counted}
+use Rattle.reading.proofs.Form.{fromFields, fromCount, of-form, form-found}
 use Rattle.reading.proofs.Answers.{denied, agreed, agreed-kinds}
 use Rattle.reading.proofs.Fields.{judged-first}
 use Rattle.reading.proofs.Whole.{judged-kind}
@@ -37,13 +38,13 @@ pub begun : (ks : List Kind) (s : Bytes) (row no : ℕ) (t : Bytes) (m : ℕ) �
 begun ks s row n t m l et em e f = record { short = l; row-is = rw (← et, ← em) e; no-is = f }
 
 module _ (ask : Bytes → Outcome) {ks : List Kind} {s : Bytes} {row no : ℕ} (b : Begun ks s row no) where
-  to-form : readOver ask ks s ≡ passing no 0 (ofKind (kindIn ks (title s) (markAfter s)) (fromFields ask s))
+  to-form : readOver ask ks s ≡ passing no 0 (ofKind (kindIn ks (title s) (markAfter s)) (fromCount ask s))
   to-form = over-kind ask ks s (b .short) ∙ of-form ask s (kindIn ks (title s) (markAfter s)) row (b .row-is) ∙ passing-as 0 _ (sym (b .no-is))
 
   pub call-form : (no ≡ 0 → ⊥) → readOver ask ks s ≡ refused no 0
   call-form n = to-form ∙ passing-stop no 0 _ n
 
-  -- ---- past number 5: the kind, and what the fields are answered
+  -- ---- past number 4: the kind, and what the fields are answered
 
   module _ (z : no ≡ 0) where
     pub call-kind : Found (kindIn ks (title s) (markAfter s)) row
@@ -55,8 +56,8 @@ module _ (ask : Bytes → Outcome) {ks : List Kind} {s : Bytes} {row no : ℕ} (
     abbrev pub call-parts : List Bytes
     call-parts = fieldsIn (call-kind .kind) s
 
-    pub to-fields : readOver ask ks s ≡ fromFields ask s (call-kind .kind)
-    to-fields = to-form ∙ passing-on no 0 _ z ∙ ap (λ o. ofKind o (fromFields ask s)) (call-kind .is)
+    to-count : readOver ask ks s ≡ fromCount ask s (call-kind .kind)
+    to-count = to-form ∙ passing-on no 0 _ z ∙ ap (λ o. ofKind o (fromCount ask s)) (call-kind .is)
 
     -- d, m and p are the body, the mark and the places as the code has them
     module _ (d : Bytes) (ed : d ≡ body s) (m : ℕ) (em : m ≡ markOf row) (p : Places) (ep : p ≡ placesOf m d) where
@@ -66,11 +67,18 @@ module _ (ask : Bytes → Outcome) {ks : List Kind} {s : Bytes} {row no : ℕ} (
       all-fields : drop 1 (cut m d) ≡ call-parts
       all-fields = rw (its-mark, ed)
 
-      as-many : length (drop 1 (cut m d)) ≡ countOf row
-      as-many = rw em (form-counted row s d ed (sym (b .no-is) ∙ z))
+      its-count : countOf row ≡ length (fieldsOf (call-kind .kind))
+      its-count = ap countOf (call-kind .at) ∙ of-kind (λ j. length (fieldsOf j)) 0 (call-kind .kind)
 
-      pub call-places : partsBy row d (p .starts) (p .lens) ≡ call-parts
-      call-places = rw ep (parts-all d (placesOf m d .starts) (placesOf m d .lens) (drop 1 (cut m d)) (countOf row) as-many (body-part m d (omega (arith, as-many, count-few row)))) ∙ all-fields
+      found-count : p .count ≡ length (take 8 call-parts)
+      unfolding placesOf
+      found-count = ap (λ (x : Places). x .count) ep ∙ ap (λ (fs : List Bytes). length (take 8 fs)) all-fields
+
+      -- n is the count that the code asks for
+      pub call-many : (n : ℕ) → n ≡ countOf row → (p .count ≡ n → ⊥) → readOver ask ks s ≡ refused 5 0
+      call-many n en h =
+          to-count
+          ∙ rw (ne-eqb (length call-parts) (length (fieldsOf (call-kind .kind))) (λ e. h (omega (arith, found-count, en, its-count, count-few row, length-take 8 call-parts))))
 
       pub call-starts : cut (mark (call-kind .kind)) (body s) ≡ name (call-kind .kind) ∷ call-parts → p .starts ≡ startsOf (call-kind .kind) call-parts
       unfolding placesOf
@@ -80,15 +88,25 @@ module _ (ask : Bytes → Outcome) {ks : List Kind} {s : Bytes} {row no : ℕ} (
       unfolding placesOf
       call-lens = ap (λ (x : Places). x .lens) ep ∙ ap lensOf all-fields
 
-      module _ {n place : ℕ} (c : FirstRefused ask row (partsBy row d (p .starts) (p .lens)) n place) where
-        past-fields : readOver ask ks s ≡ passing n place (passing (wholeAnswer (call-kind .kind) call-parts) 0 (accepted (call-kind .kind) call-parts))
-        past-fields = to-fields ∙ judged-first ask (call-kind .kind) row call-parts n place (call-kind .at) (rw call-places at c) _
+      module _ (n : ℕ) (en : n ≡ countOf row) (e : p .count ≡ n) where
+        as-many : length call-parts ≡ countOf row
+        as-many = omega (arith, found-count, en, e, count-few row, length-take 8 call-parts)
 
-        pub call-field : (n ≡ 0 → ⊥) → readOver ask ks s ≡ refused n place
-        call-field u = past-fields ∙ passing-stop n place _ u
+        pub to-fields : readOver ask ks s ≡ fromFields ask s (call-kind .kind)
+        to-fields = to-count ∙ rw (eq-eqb (length call-parts) (length (fieldsOf (call-kind .kind))) (as-many ∙ its-count))
 
-        pub call-accepted : n ≡ 0 → wholeAnswer (call-kind .kind) call-parts ≡ 0 → readOver ask ks s ≡ accepted (call-kind .kind) call-parts
-        call-accepted u w = past-fields ∙ passing-on n place _ u ∙ passing-on _ 0 _ w
+        pub call-places : partsBy row d (p .starts) (p .lens) ≡ call-parts
+        call-places = rw ep (parts-all d (placesOf m d .starts) (placesOf m d .lens) (drop 1 (cut m d)) (countOf row) (ap length all-fields ∙ as-many) (body-part m d (omega (arith, ap length all-fields, as-many, count-few row)))) ∙ all-fields
+
+        module _ {v place : ℕ} (c : FirstRefused ask row (partsBy row d (p .starts) (p .lens)) v place) where
+          past-fields : readOver ask ks s ≡ passing v place (passing (wholeAnswer (call-kind .kind) call-parts) 0 (accepted (call-kind .kind) call-parts))
+          past-fields = to-fields ∙ judged-first ask (call-kind .kind) row call-parts v place (call-kind .at) (rw call-places at c) _
+
+          pub call-field : (v ≡ 0 → ⊥) → readOver ask ks s ≡ refused v place
+          call-field u = past-fields ∙ passing-stop v place _ u
+
+          pub call-accepted : v ≡ 0 → wholeAnswer (call-kind .kind) call-parts ≡ 0 → readOver ask ks s ≡ accepted (call-kind .kind) call-parts
+          call-accepted u w = past-fields ∙ passing-on v place _ u ∙ passing-on _ 0 _ w
 
 -- ---- the calls by name
 
@@ -120,7 +138,7 @@ module _ {s : Bytes} {row no : ℕ} (b : Begun identityKinds s row no) (z : no �
 
 -- ---- the fields of a record as `judge` has them: j is what it says of the parts ps of the body
 
-module _ {ks : List Kind} {s : Bytes} {row no : ℕ} (b : Begun ks s row no) (z : no ≡ 0) (ps : List Bytes) (ep : ps ≡ call-parts readIdentity b z) (j : Judged) (ej : j ≡ judgedSaid (judgedBy row ps)) where
+module _ {ks : List Kind} {s : Bytes} {row no : ℕ} (b : Begun ks s row no) (z : no ≡ 0) (to : readOver readIdentity ks s ≡ fromFields readIdentity s (call-kind readIdentity b z .kind)) (ps : List Bytes) (ep : ps ≡ call-parts readIdentity b z) (j : Judged) (ej : j ≡ judgedSaid (judgedBy row ps)) where
   abbrev kind : Kind
   kind = call-kind readIdentity b z .kind
 
@@ -131,7 +149,7 @@ module _ {ks : List Kind} {s : Bytes} {row no : ℕ} (b : Begun ks s row no) (z 
   said = ej ∙ ap (λ (x : List Bytes). judgedSaid (judgedBy row x)) ep ∙ ap judgedSaid (judged-kind kind row parts (call-kind readIdentity b z .at))
 
   read : readOf ks s ≡ judged readIdentity kind parts (accepted kind parts)
-  read = of-is ks s ∙ to-fields readIdentity b z
+  read = of-is ks s ∙ to
 
   pub record-refused : (j .no ≡ 0 → ⊥) → readOf ks s ≡ refused (j .no) (j .field)
   record-refused u = read ∙ denied kind parts j said u (accepted kind parts)

@@ -15,9 +15,9 @@ use Rattle.table.proofs.Arrays.{count-few, count-fields}
 use Rattle.places.specs.Places.{seven, partAt}
 use Rattle.places.proofs.Stands.{parts-count, parts-at}
 use Rattle.reading.specs.Reading.{kindWithin, kindsWithin, noKinds}
-use Rattle.reading.specs.Steps.{fieldSaid, partsBy, FirstRefused, Walked}
+use Rattle.reading.specs.Steps.{fieldSaid, partsBy, FirstRefused}
 use Rattle.reading.specs.declared.FieldSaid.{FieldSaid}
-use Rattle.reading.proofs.Fields.{Passed, passed-none, passed-all, passed-not, passed-on}
+use Rattle.reading.proofs.Fields.{Passed, passed-all, passed-not, passed-on}
 
 pub few-fields : (row n : ℕ) → n ≡ countOf row → n < 8
 few-fields row n e = omega (arith, e, count-few row)

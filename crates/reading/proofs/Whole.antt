@@ -1,17 +1,17 @@
 -- The fields together: number 8, by the row of the kind; and the fields each and together.
 -- Assumes nothing.
 use Prim.Native.Nat.{ℕ, _≤_, _<_}
-use mathlib.Core.Path.{_≡_, refl, ap, sym, _∙_}
+use mathlib.Core.Path.{_≡_, ap, sym, _∙_}
 use mathlib.Core.Bool.{Bool, true, false, true≢false, cond, not, _||_, Bool·beq}
-use mathlib.Core.Option.{Option, none, some}
+use mathlib.Core.Option.{none, some}
 use mathlib.Core.List.{List, []}
 use native.Mathlib.Omega.{arith}
 use lib.ListN.{length, getD}
-use lib.Dec.{T, eqb, eqb→eq}
+use lib.Dec.{eqb, eqb→eq}
 use Rattle.text.specs.Text.{Bytes}
 use Rattle.text.proofs.Tests.{less-or, allBelow, below}
 use Rattle.format.specs.Kinds.{Kind, Field, fieldsOf, pubkeyKinds, among}
-use Rattle.format.specs.Read.{Outcome, accepted, refused, ofKind, wholeAnswer, judged, readIdentity}
+use Rattle.format.specs.Read.{accepted, refused, wholeAnswer, judged, readIdentity}
 use Rattle.table.specs.Table.{rowOf, rowCount, missingRow, ofRow, fieldsAt, countOf, isPubkey}
 use Rattle.table.proofs.Rows.{kindAt, row-at, in-row, of-kind, past-rows}
 use Rattle.places.specs.Places.{seven, fieldAt}

@@ -4,29 +4,20 @@ use Prim.Native.Nat.{ℕ}
 use mathlib.Core.Path.{_≡_}
 use mathlib.Core.Bool.{cond}
 use mathlib.Core.List.{List}
-use lib.ListN.{length, drop}
 use lib.Dec.{eqb}
 use Rattle.text.specs.Text.{Bytes, TextType, Ident}
-use Rattle.numbers.specs.Numbers.{unknownKind, wrongCount}
+use Rattle.numbers.specs.Numbers.{unknownKind}
 use Rattle.format.specs.Kinds.{Field, Text, Identity, OrEmpty}
-use Rattle.format.specs.Read.{Outcome, passing, body, cut, each, fieldAnswer, wholeAnswer, readIdentity}
+use Rattle.format.specs.Read.{Outcome, passing, each, fieldAnswer, wholeAnswer, readIdentity}
 use Rattle.frame.specs.Frame.{checkNo}
 use Rattle.table.specs.Table.{missingRow, ofRow, markOf, countOf, fieldsAt}
 use Rattle.places.specs.Places.{seven, partsFrom}
 use Rattle.reading.specs.Reading.{kindWithin, kindsWithin}
 use Rattle.reading.specs.declared.FieldSaid.{FieldSaid}
 
--- the fields of a body by the row of its kind
-abbrev pub fieldsBy : ℕ → Bytes → List Bytes
-fieldsBy row b = drop 1 (cut (markOf row) b)
-
--- numbers 2 to 5, by the row that was found
+-- numbers 2 to 4, by the row that was found
 unfoldable pub formNo : ℕ → Bytes → ℕ
-formNo row s =
-    cond (eqb row missingRow) unknownKind
-    (cond (eqb (checkNo (markOf row) s) 0)
-    (cond (eqb (length (fieldsBy row (body s))) (countOf row)) 0 wrongCount)
-    (checkNo (markOf row) s))
+formNo row s = cond (eqb row missingRow) unknownKind (checkNo (markOf row) s)
 
 -- the text type in a field type; IDENT in that of an identity
 abbrev pub textIn : Field → TextType

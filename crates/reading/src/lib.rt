@@ -1,5 +1,5 @@
 // The reading calls: document 01, "Numbers given back". Each takes any bytes; no public one has a `requires`. The order
-// is 1, 2, 3, 4, 5, then the fields from left to right (6, or 7 before 9), then 8: `form_no` has 2 to 5, `judge` the fields.
+// is 1, 2, 3, 4, 5, then the fields from left to right (6, or 7 before 9), then 8: `form_no` has 2 to 4, `judge` the fields.
 // A record is walked over once for its fields' places: every test of a field, and every later use of one, goes by them.
 ghost use mathlib.Core.Path.{_≡_};
 ghost use mathlib.Core.Bool.{cond, _&&_};
@@ -59,7 +59,7 @@ fn refuse(no: u8, field: u8) -> Answer
     }
 }
 
-// ---- numbers 2 to 5
+// ---- numbers 2 to 4
 
 // By the row that the title and its mark have.
 fn form_no(row: usize, s: &[u8]) -> u8
@@ -68,15 +68,7 @@ fn form_no(row: usize, s: &[u8]) -> u8
     if row == table::NONE {
         return numbers::UNKNOWN_KIND;
     }
-    let mark = table::mark_of(row);
-    let no = frame::check_no(mark, s);
-    if no != numbers::ACCEPTED {
-        return no;
-    }
-    if frame::count_fields(mark, frame::body_of(s)) != table::count_of(row) {
-        return numbers::WRONG_COUNT;
-    }
-    numbers::ACCEPTED
+    frame::check_no(table::mark_of(row), s)
 }
 
 // ---- a field that is a text: number 6
@@ -149,6 +141,9 @@ pub fn read_identity(identity: &[u8]) -> Answer
     }
     let body = frame::body_of(identity);
     let found = places::places_of(table::mark_of(row), body);
+    if found.count != table::count_of(row) {
+        return refuse(numbers::WRONG_COUNT, 0);
+    }
     let starts = found.starts;
     let lens = found.lens;
     let first = identity_fields(row, body, &starts, &lens);
@@ -313,6 +308,9 @@ pub fn read_of(from: usize, to: usize, record: &[u8]) -> Answer
     }
     let body = frame::body_of(record);
     let found = places::places_of(table::mark_of(row), body);
+    if found.count != table::count_of(row) {
+        return refuse(numbers::WRONG_COUNT, 0);
+    }
     let starts = found.starts;
     let lens = found.lens;
     let judged = judge(row, body, &starts, &lens);

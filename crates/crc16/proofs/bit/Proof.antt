@@ -1,14 +1,15 @@
--- `crc16::bit` meets its contract: the bit that falls out is `state & 1`, and each arm is the step at that bit.
+-- `crc16::bit` meets its contract: the bit that falls out is `state & 1`.
 -- Assumes nothing.
-use Rattle.crc16.proofs.Steps.{step-one, step-zero}
+use native.Mathlib.Omega.{arith}
+use Rattle.crc16.proofs.Steps.{mask-fits, step-masked}
 use Rattle.crc16.proofs.bit.Statement.{statement}
 use Rattle.crc16.proofs.bit.Tie as tie
 
-returns : tie.Need-returns
-returns c = step-one (c .before .args .state) (c .if1 .taken)
+mul-result : tie.Need-mul-result
+mul-result c = omega (arith, mask-fits (c .args .state))
 
-returns-2 : tie.Need-returns-2
-returns-2 c = step-zero (c .before .args .state) (c .if1 .left)
+returns : tie.Need-returns
+returns c = step-masked (c .args .state)
 
 pub bit-spec : {M : Type 1} → statement M
-bit-spec = tie.close (tie.spec returns returns-2)
+bit-spec = tie.close (tie.spec mul-result returns)

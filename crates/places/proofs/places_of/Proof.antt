@@ -25,7 +25,7 @@ loop-holds : tie.Need-loop-holds Inv-loop μ-loop
 loop-holds c = (walk-begins _ _ _ (c .next-mark .ensures), omega arith)
 
 returns : tie.Need-returns Inv-loop μ-loop
-returns c = walk-ends _ _ _ _ _ _ (c .before .before .loop .inv .0) (c .if1 .taken)
+returns c = walk-ends _ _ _ _ _ _ (c .before .before .loop .inv .0) (c .before .before .loop .inv .1) (c .if1 .taken)
 
 next-mark-requires-2 : tie.Need-next-mark-requires-2 Inv-loop μ-loop
 next-mark-requires-2 c κs = search needs
@@ -57,8 +57,14 @@ loop-less c = search needs
 loop-again : tie.Need-loop-again Inv-loop μ-loop
 loop-again c = (walk-goes-on _ _ _ _ _ _ (c .before .before .before .loop .inv .0) (omega (arith, c .before .if1 .left)) _ (c .next-mark2 .ensures), omega (arith, c .before .before .loop-test .taken))
 
+add-j-2 : tie.Need-add-j-2 Inv-loop μ-loop
+add-j-2 c = omega (arith, c .before .before .loop .inv .1)
+
 returns-2 : tie.Need-returns-2 Inv-loop μ-loop
-returns-2 c = walk-full _ _ _ _ _ _ (c .before .loop .inv .0) (c .loop-test .left)
+returns-2 c = walk-full _ _ _ _ _ _ (c .before .before .loop .inv .0) (c .before .before .loop .inv .1) (c .before .loop-test .left) (c .if2 .taken)
+
+returns-3 : tie.Need-returns-3 Inv-loop μ-loop
+returns-3 c = walk-ends _ _ _ _ _ _ (c .before .before .loop .inv .0) (c .before .before .loop .inv .1) (c .if2 .left)
 
 pub places-of-spec : {M : Type 1} → statement M
 places-of-spec =
@@ -80,4 +86,6 @@ places-of-spec =
     add-i-2
     loop-less
     loop-again
-    returns-2)
+    add-j-2
+    returns-2
+    returns-3)

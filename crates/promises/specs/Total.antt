@@ -1,0 +1,198 @@
+-- No call expects its caller to have looked first: demand 1. `Pre` is what a call's `requires` says of its arguments, which the checker makes
+-- from the code as it makes `Post`; here it holds of any arguments, for every public call and for every function of the C interface.
+-- Assumes nothing.
+use Rattle.crc16.proofs.Crc.begin.Reads as begun
+use Rattle.crc16.proofs.Crc.add.Reads as add
+use Rattle.crc16.proofs.Crc.end.Reads as end
+use Rattle.crc16.proofs.crc_of.Reads as crc-of
+use Rattle.text.proofs.are_same.Reads as are-same
+use Rattle.text.proofs.is_ident.Reads as is-ident
+use Rattle.text.proofs.is_timestamp.Reads as is-timestamp
+use Rattle.text.proofs.is_later.Reads as is-later
+use Rattle.text.proofs.is_hex.Reads as is-hex
+use Rattle.text.proofs.is_point.Reads as is-point
+use Rattle.text.proofs.is_sig.Reads as is-sig
+use Rattle.text.proofs.is_mac.Reads as is-mac
+use Rattle.text.proofs.is_print.Reads as is-print
+use Rattle.text.proofs.hex_digit.Reads as hex-digit
+use Rattle.text.proofs.hex_value.Reads as hex-value
+use Rattle.text.proofs.check_text.Reads as check-text
+use Rattle.table.proofs.mark_of.Reads as mark-of
+use Rattle.table.proofs.count_of.Reads as count-of
+use Rattle.table.proofs.type_of.Reads as type-of
+use Rattle.table.proofs.is_pubkey.Reads as is-pubkey
+use Rattle.table.proofs.identity_kind.Reads as identity-kind
+use Rattle.table.proofs.record_kind.Reads as record-kind
+use Rattle.table.proofs.kind_named.Reads as kind-named
+use Rattle.table.proofs.is_identity.Reads as is-identity
+use Rattle.table.proofs.may_be_empty.Reads as may-be-empty
+use Rattle.table.proofs.does_permit.Reads as does-permit
+use Rattle.frame.proofs.title_of.Reads as title-of
+use Rattle.frame.proofs.mark_after.Reads as mark-after
+use Rattle.frame.proofs.next_mark.Reads as next-mark
+use Rattle.frame.proofs.part.Reads as part
+use Rattle.frame.proofs.body_of.Reads as body-of
+use Rattle.frame.proofs.check_no.Reads as check-no
+use Rattle.places.proofs.places_of.Reads as places-of
+use Rattle.places.proofs.part_at.Reads as part-at
+use Rattle.places.proofs.field_at.Reads as field-at
+use Rattle.reading.proofs.read_identity.Reads as read-identity
+use Rattle.reading.proofs.judge.Reads as judge
+use Rattle.reading.proofs.read_of.Reads as read-of
+use Rattle.reading.proofs.read_record.Reads as read-record
+use Rattle.fields.proofs.identity_place.Reads as identity-place
+use Rattle.fields.proofs.record_place.Reads as record-place
+use Rattle.fields.proofs.identity_field.Reads as identity-field
+use Rattle.fields.proofs.record_field.Reads as record-field
+use Rattle.put.proofs.put.Reads as put
+use Rattle.put.proofs.put_byte.Reads as put-byte
+use Rattle.put.proofs.refuse.Reads as refuse
+use Rattle.items.proofs.item_place.Reads as item-place
+use Rattle.items.proofs.text_item.Reads as text-item
+use Rattle.building.proofs.build.Reads as build
+use Rattle.agreement.proofs.shared_info.Reads as shared-info
+use Rattle.agreement.proofs.module_text.Reads as module-text
+use Rattle.agreement.proofs.centre_text.Reads as centre-text
+use Rattle.files.proofs.line_at.Reads as line-at
+use Rattle.files.proofs.count.Reads as count
+use Rattle.files.proofs.step_from.Reads as step-from
+use Rattle.list_text.proofs.line_text.Reads as line-text
+use Rattle.list_text.proofs.end_text.Reads as end-text
+use Rattle.list_printing.proofs.print_list.Reads as print-list
+use Rattle.subjects.proofs.are_alike.Reads as are-alike
+use Rattle.newer.proofs.newer_of.Reads as newer-of
+use Rattle.newer.proofs.newer.Reads as newer
+use Rattle.exports.proofs.check.obscurlane_crc_begin.Reads as c-crc-begin
+use Rattle.exports.proofs.check.obscurlane_crc_add.Reads as c-crc-add
+use Rattle.exports.proofs.check.obscurlane_crc_end.Reads as c-crc-end
+use Rattle.exports.proofs.check.obscurlane_crc_of.Reads as c-crc-of
+use Rattle.exports.proofs.types.obscurlane_is_ident.Reads as c-is-ident
+use Rattle.exports.proofs.types.obscurlane_is_timestamp.Reads as c-is-timestamp
+use Rattle.exports.proofs.types.obscurlane_is_hex.Reads as c-is-hex
+use Rattle.exports.proofs.types.obscurlane_is_point.Reads as c-is-point
+use Rattle.exports.proofs.types.obscurlane_is_sig.Reads as c-is-sig
+use Rattle.exports.proofs.types.obscurlane_is_mac.Reads as c-is-mac
+use Rattle.exports.proofs.types.obscurlane_is_print.Reads as c-is-print
+use Rattle.exports.proofs.records.obscurlane_read_identity.Reads as c-read-identity
+use Rattle.exports.proofs.records.obscurlane_read_record.Reads as c-read-record
+use Rattle.exports.proofs.records.obscurlane_identity_field.Reads as c-identity-field
+use Rattle.exports.proofs.records.obscurlane_record_field.Reads as c-record-field
+use Rattle.exports.proofs.writing.obscurlane_build.Reads as c-build
+use Rattle.exports.proofs.writing.obscurlane_shared_info.Reads as c-shared-info
+use Rattle.exports.proofs.writing.obscurlane_module_text.Reads as c-module-text
+use Rattle.exports.proofs.writing.obscurlane_centre_text.Reads as c-centre-text
+use Rattle.exports.proofs.walking.obscurlane_text_item.Reads as c-text-item
+use Rattle.exports.proofs.walking.obscurlane_line_at.Reads as c-line-at
+use Rattle.exports.proofs.walking.obscurlane_reader_new.Reads as c-reader-new
+use Rattle.exports.proofs.walking.obscurlane_reader_step.Reads as c-reader-step
+use Rattle.exports.proofs.walking.obscurlane_count.Reads as c-count
+use Rattle.exports.proofs.walking.obscurlane_newer.Reads as c-newer
+
+-- the call whose `requires` is P takes any arguments a, whatever the lifetimes κs
+abbrev pub Takes : {K : Type 0} {A : K → Type 0} → ((κs : K) → A κs → Type 0) → Type 0
+Takes {K} {A} P = (κs : K) (a : A κs) → P κs a
+
+pub record Total : Type 0 where
+  -- crc16
+  pub begun : Takes begun.Pre
+  pub add : Takes add.Pre
+  pub end : Takes end.Pre
+  pub crc-of : Takes crc-of.Pre
+  -- text
+  pub are-same : Takes are-same.Pre
+  pub is-ident : Takes is-ident.Pre
+  pub is-timestamp : Takes is-timestamp.Pre
+  pub is-later : Takes is-later.Pre
+  pub is-hex : Takes is-hex.Pre
+  pub is-point : Takes is-point.Pre
+  pub is-sig : Takes is-sig.Pre
+  pub is-mac : Takes is-mac.Pre
+  pub is-print : Takes is-print.Pre
+  pub hex-digit : Takes hex-digit.Pre
+  pub hex-value : Takes hex-value.Pre
+  pub check-text : Takes check-text.Pre
+  -- table
+  pub mark-of : Takes mark-of.Pre
+  pub count-of : Takes count-of.Pre
+  pub type-of : Takes type-of.Pre
+  pub is-pubkey : Takes is-pubkey.Pre
+  pub identity-kind : Takes identity-kind.Pre
+  pub record-kind : Takes record-kind.Pre
+  pub kind-named : Takes kind-named.Pre
+  pub is-identity : Takes is-identity.Pre
+  pub may-be-empty : Takes may-be-empty.Pre
+  pub does-permit : Takes does-permit.Pre
+  -- frame
+  pub title-of : Takes title-of.Pre
+  pub mark-after : Takes mark-after.Pre
+  pub next-mark : Takes next-mark.Pre
+  pub part : Takes part.Pre
+  pub body-of : Takes body-of.Pre
+  pub check-no : Takes check-no.Pre
+  -- places
+  pub places-of : Takes places-of.Pre
+  pub part-at : Takes part-at.Pre
+  pub field-at : Takes field-at.Pre
+  -- reading
+  pub read-identity : Takes read-identity.Pre
+  pub judge : Takes judge.Pre
+  pub read-of : Takes read-of.Pre
+  pub read-record : Takes read-record.Pre
+  -- fields
+  pub identity-place : Takes identity-place.Pre
+  pub record-place : Takes record-place.Pre
+  pub identity-field : Takes identity-field.Pre
+  pub record-field : Takes record-field.Pre
+  -- put
+  pub put : Takes put.Pre
+  pub put-byte : Takes put-byte.Pre
+  pub refuse : Takes refuse.Pre
+  -- items
+  pub item-place : Takes item-place.Pre
+  pub text-item : Takes text-item.Pre
+  -- building
+  pub build : Takes build.Pre
+  -- agreement
+  pub shared-info : Takes shared-info.Pre
+  pub module-text : Takes module-text.Pre
+  pub centre-text : Takes centre-text.Pre
+  -- files
+  pub line-at : Takes line-at.Pre
+  pub count : Takes count.Pre
+  pub step-from : Takes step-from.Pre
+  -- list_text
+  pub line-text : Takes line-text.Pre
+  pub end-text : Takes end-text.Pre
+  -- list_printing
+  pub print-list : Takes print-list.Pre
+  -- subjects
+  pub are-alike : Takes are-alike.Pre
+  -- newer
+  pub newer-of : Takes newer-of.Pre
+  pub newer : Takes newer.Pre
+  -- the C interface
+  pub c-crc-begin : Takes c-crc-begin.Pre
+  pub c-crc-add : Takes c-crc-add.Pre
+  pub c-crc-end : Takes c-crc-end.Pre
+  pub c-crc-of : Takes c-crc-of.Pre
+  pub c-is-ident : Takes c-is-ident.Pre
+  pub c-is-timestamp : Takes c-is-timestamp.Pre
+  pub c-is-hex : Takes c-is-hex.Pre
+  pub c-is-point : Takes c-is-point.Pre
+  pub c-is-sig : Takes c-is-sig.Pre
+  pub c-is-mac : Takes c-is-mac.Pre
+  pub c-is-print : Takes c-is-print.Pre
+  pub c-read-identity : Takes c-read-identity.Pre
+  pub c-read-record : Takes c-read-record.Pre
+  pub c-identity-field : Takes c-identity-field.Pre
+  pub c-record-field : Takes c-record-field.Pre
+  pub c-build : Takes c-build.Pre
+  pub c-shared-info : Takes c-shared-info.Pre
+  pub c-module-text : Takes c-module-text.Pre
+  pub c-centre-text : Takes c-centre-text.Pre
+  pub c-text-item : Takes c-text-item.Pre
+  pub c-line-at : Takes c-line-at.Pre
+  pub c-reader-new : Takes c-reader-new.Pre
+  pub c-reader-step : Takes c-reader-step.Pre
+  pub c-count : Takes c-count.Pre
+  pub c-newer : Takes c-newer.Pre
