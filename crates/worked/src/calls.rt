@@ -1,57 +1,62 @@
-// The calls that a step names. Each gives back what the library hands back, as text.
-use crate::value;
-use crate::value::Text;
-
-// ---- reading
-
-fn is_identity(s: &[u8]) -> bool {
-    reading::read_identity(s).no == numbers::ACCEPTED
-}
-
-fn accepted(answer: reading::Answer) -> Text {
-    value::of_part(answer.no, b"accepted")
-}
-
-// Field n of an identity, or of a record.
-fn field<'a>(of_identity: bool, s: &'a [u8], n: usize, no: &mut u8) -> &'a [u8] {
-    let mut field: u8 = 0;
-    if of_identity {
-        return fields::identity_field(s, n, no, &mut field);
-    }
-    fields::record_field(s, n, no, &mut field)
-}
-
-fn field_text(of_identity: bool, s: &[u8], n: usize) -> Text {
-    let mut no: u8 = 0;
-    let part = field(of_identity, s, n, &mut no);
-    value::of_part(no, part)
-}
+// The calls that a step names. Each prints what the library hands back, and answers up to which place the value known
+// agrees.
+use crate::say;
 
 // ---- building from the fields that reading hands back
 
-fn build(title: &[u8], fields: Text, lens: &[usize]) -> Text {
-    let bytes = fields.bytes;
-    let mut made = [0u8; 1024];
-    let w = building::build(title, value::front(&bytes, fields.len), lens, &mut made);
-    value::of_part(w.no, value::front(&made, w.len))
+// Reads an identity, or else a record.
+fn read(s: &[u8]) -> reading::Answer {
+    let read = reading::read_identity(s);
+    if read.no == numbers::ACCEPTED {
+        return read;
+    }
+    reading::read_record(s)
 }
 
-fn rebuild(s: &[u8]) -> Text {
-    let of_identity = is_identity(s);
-    let mut gathered = value::none();
-    let mut lens = [0usize; 8];
-    let mut no: u8 = 0;
+// Puts the fields one behind the other, and answers how many bytes they are.
+fn gather(s: &[u8], starts: &[usize; 7], lens: &[usize; 7], fields: &mut [u8; 1024]) -> usize {
+    let mut len: usize = 0;
     let mut k: usize = 0;
-    while k < 8 {
-        let part = field(of_identity, s, k + 1, &mut no);
-        if no != numbers::ACCEPTED {
-            break;
-        }
-        lens[k] = part.len();
-        gathered = value::add(gathered, part);
+    while k < 7 {
+        len = put::put(fields, len, places::part_at(s, starts, lens, k));
         k += 1;
     }
-    build(frame::title_of(s), gathered, &lens[..k])
+    len
+}
+
+// The first lengths, and none where there are fewer.
+fn front<'a>(lens: &'a [usize], count: usize) -> &'a [usize] {
+    if lens.len() < count {
+        return &lens[0..0];
+    }
+    &lens[0..count]
+}
+
+// A record of the kind of s, of these fields.
+fn build(known: &[u8], s: &[u8], lens: &[usize], fields: &[u8; 1024], len: usize) -> usize {
+    let mut made = [0u8; 1024];
+    let w = building::build(
+        frame::title_of(s),
+        say::cut(fields, 0, len),
+        lens,
+        &mut made,
+    );
+    say::part(known, w.no, say::cut(&made, 0, w.len))
+}
+
+fn rebuild(known: &[u8], s: &[u8]) -> usize {
+    let read = read(s);
+    let starts = read.starts;
+    let lens = read.lens;
+    let mut fields = [0u8; 1024];
+    let len = gather(s, &starts, &lens, &mut fields);
+    build(
+        known,
+        s,
+        front(&lens, table::count_of(read.kind)),
+        &fields,
+        len,
+    )
 }
 
 // ---- texts
@@ -59,66 +64,78 @@ fn rebuild(s: &[u8]) -> Text {
 fn write_text(call: usize, request: &[u8], made: &mut [u8]) -> put::Written {
     match call {
         SHARED_INFO => agreement::shared_info(request, made),
-        MODULE_TEXT => agreement::module_text(request, made),
-        _ => agreement::centre_text(request, made),
+        CENTRE_TEXT => agreement::centre_text(request, made),
+        _ => agreement::module_text(request, made),
     }
 }
 
-fn agreement_text(call: usize, request: &[u8]) -> Text {
+fn agreement_text(known: &[u8], call: usize, request: &[u8]) -> usize {
     let mut made = [0u8; 512];
     let w = write_text(call, request, &mut made);
-    value::of_text(w.no, value::front(&made, w.len))
+    say::hex(known, w.no, say::cut(&made, 0, w.len))
 }
 
 // An item of the module text.
-fn module_item(request: &[u8], n: usize) -> Text {
+fn module_item(known: &[u8], request: &[u8], n: usize) -> usize {
     let mut made = [0u8; 512];
-    let mut no: u8 = 0;
     let w = agreement::module_text(request, &mut made);
-    let item = items::text_item(value::front(&made, w.len), n, &mut no);
-    value::of_text(no, item)
+    let mut no: u8 = 0;
+    let item = items::text_item(say::cut(&made, 0, w.len), n, &mut no);
+    say::hex(known, no, item)
 }
 
-// ---- two records: the newer key, and a file
+// ---- a part of what is lent
 
-fn newer<'a>(first: &'a [u8], second: &'a [u8]) -> Text {
+fn part<'a>(known: &[u8], call: usize, n: usize, a: &'a [u8], b: &'a [u8]) -> usize {
     let mut no: u8 = 0;
     let mut field: u8 = 0;
-    let part = newer::newer(first, second, &mut no, &mut field);
-    value::of_part(no, part)
+    let part = match call {
+        NEWER => newer::newer(a, b, &mut no, &mut field),
+        IDENTITY_FIELD => fields::identity_field(a, n, &mut no, &mut field),
+        _ => fields::record_field(a, n, &mut no, &mut field),
+    };
+    say::part(known, no, part)
 }
 
-fn line_no(line: files::Line) -> usize {
-    match line {
-        files::Line::Finished { place: _ } => 99,
-        files::Line::Read { no, .. } => no as usize,
-    }
+// ---- a file
+
+// A line's number and the next place.
+struct Numbers {
+    no: usize,
+    next: usize,
 }
 
-fn next_place(line: files::Line) -> usize {
+fn numbers_of(line: files::Line) -> Numbers {
     match line {
-        files::Line::Finished { place } => place,
-        files::Line::Read { next, .. } => next,
+        files::Line::Finished { place } => Numbers {
+            no: 99,
+            next: place,
+        },
+        files::Line::Read { no, next, .. } => Numbers {
+            no: no as usize,
+            next,
+        },
     }
 }
 
 // The number of the first two lines of a file, how many lines there are, and how many are accepted.
-fn file_text(file: &[u8]) -> Text {
-    let one = files::line_at(file, 0);
-    let two = files::line_at(file, next_place(one));
+fn lines(known: &[u8], file: &[u8]) -> usize {
+    let one = numbers_of(files::line_at(file, 0));
+    let two = numbers_of(files::line_at(file, one.next));
     let totals = files::count(file);
-    let first = value::add_number(value::none(), line_no(one));
-    let both = value::add_number(value::add(first, b" "), line_no(two));
-    let lines = value::add_number(value::add(both, b" lines "), totals.lines);
-    value::add_number(value::add(lines, b" accepted "), totals.accepted)
+    let mut at = say::number(known, 0, one.no);
+    at = say::number(known, say::piece(known, at, b" "), two.no);
+    at = say::number(known, say::piece(known, at, b" lines "), totals.lines);
+    say::number(known, say::piece(known, at, b" accepted "), totals.accepted)
 }
 
 // The file that has the two records as lines, the last of them without a line feed.
-fn file(first: &[u8], second: &[u8]) -> Text {
-    let line = value::add(value::add(value::none(), first), b"\n");
-    let both = value::add(line, second);
-    let bytes = both.bytes;
-    file_text(value::front(&bytes, both.len))
+fn file(known: &[u8], first: &[u8], second: &[u8]) -> usize {
+    let mut file = [0u8; 1280];
+    let end = put::put(&mut file, 0, first);
+    let start = put::put_byte(&mut file, end, b'\n');
+    let len = put::put(&mut file, start, second);
+    lines(known, say::cut(&file, 0, len))
 }
 
 // ---- by name
@@ -128,8 +145,6 @@ const NEWER: usize = 0;
 const FILE: usize = 1;
 
 const SHARED_INFO: usize = 2;
-
-const MODULE_TEXT: usize = 3;
 
 const CENTRE_TEXT: usize = 4;
 
@@ -141,14 +156,14 @@ const READ_RECORD: usize = 7;
 
 const IDENTITY_FIELD: usize = 8;
 
-const RECORD_FIELD: usize = 9;
+const BUILD: usize = 10;
 
-const CALLS: usize = 10;
-
-// Which of the names a word is; CALLS where it is none of them.
-fn place_in(names: &[u8], name: &[u8]) -> usize {
+// Which of the names a word is; BUILD where it is none of them.
+fn call_of(name: &[u8]) -> usize {
+    let names =
+        b"newer file shared_info module_text centre_text module_item read_identity read_record identity_field record_field";
     let mut k: usize = 0;
-    while k < CALLS {
+    while k < BUILD {
         if text::are_same(name, frame::part(b' ', names, k)) {
             break;
         }
@@ -157,22 +172,15 @@ fn place_in(names: &[u8], name: &[u8]) -> usize {
     k
 }
 
-pub(crate) fn run<'a>(name: &[u8], n: usize, a: &'a [u8], b: &'a [u8]) -> Text {
-    let call = place_in(
-        b"newer file shared_info module_text centre_text module_item read_identity read_record identity_field record_field",
-        name,
-    );
+pub(crate) fn run<'a>(name: &[u8], n: usize, a: &'a [u8], b: &'a [u8], known: &[u8]) -> usize {
+    let call = call_of(name);
     match call {
-        NEWER => newer(a, b),
-        FILE => file(a, b),
-        SHARED_INFO => agreement_text(call, a),
-        MODULE_TEXT => agreement_text(call, a),
-        CENTRE_TEXT => agreement_text(call, a),
-        MODULE_ITEM => module_item(a, n),
-        READ_IDENTITY => accepted(reading::read_identity(a)),
-        READ_RECORD => accepted(reading::read_record(a)),
-        IDENTITY_FIELD => field_text(true, a, n),
-        RECORD_FIELD => field_text(false, a, n),
-        _ => rebuild(a),
+        FILE => file(known, a, b),
+        SHARED_INFO..=CENTRE_TEXT => agreement_text(known, call, a),
+        MODULE_ITEM => module_item(known, a, n),
+        READ_IDENTITY => say::part(known, reading::read_identity(a).no, b"accepted"),
+        READ_RECORD => say::part(known, reading::read_record(a).no, b"accepted"),
+        BUILD => rebuild(known, a),
+        _ => part(known, call, n, a, b),
     }
 }

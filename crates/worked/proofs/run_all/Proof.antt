@@ -1,4 +1,4 @@
--- `worked::run_all` ends.
+-- `worked::run_all` ends: each turn goes on by three lines.
 -- Assumes nothing.
 use Prim.Native.Nat.{_-_}
 use borrow.Author.Needs.{needs}
@@ -6,10 +6,10 @@ use Rattle.worked.proofs.run_all.Statement.{statement}
 use Rattle.worked.proofs.run_all.Tie as tie
 
 abbrev Inv-loop : tie.InvT-loop
-Inv-loop input tally₀ line₀ tally line = Unit {0}
+Inv-loop input agree₀ line₀ agree line = Unit {0}
 
 abbrev μ-loop : tie.MeasureT-loop
-μ-loop input tally₀ line₀ tally line = 65536 - line
+μ-loop input agree₀ line₀ agree line = 65536 - line
 
 loop-holds : tie.Need-loop-holds Inv-loop μ-loop
 loop-holds c = search needs
@@ -29,11 +29,11 @@ add-part-2 c = search needs
 part-requires-3 : tie.Need-part-requires-3 Inv-loop μ-loop
 part-requires-3 c κs = search needs
 
-is-same-requires : tie.Need-is-same-requires Inv-loop μ-loop
-is-same-requires c κs = search needs
+run-step-requires : tie.Need-run-step-requires Inv-loop μ-loop
+run-step-requires c κs = search needs
 
-tallied-requires : tie.Need-tallied-requires Inv-loop μ-loop
-tallied-requires c κs = search needs
+wrapping-add-usize-requires : tie.Need-wrapping-add-usize-requires Inv-loop μ-loop
+wrapping-add-usize-requires c κs = search needs
 
 add-line : tie.Need-add-line Inv-loop μ-loop
 add-line c = search needs
@@ -44,11 +44,14 @@ loop-less c = search needs
 loop-again : tie.Need-loop-again Inv-loop μ-loop
 loop-again c = search needs
 
+wrapping-sub-usize-requires : tie.Need-wrapping-sub-usize-requires Inv-loop μ-loop
+wrapping-sub-usize-requires c κs = search needs
+
+totals-requires : tie.Need-totals-requires Inv-loop μ-loop
+totals-requires c κs = search needs
+
 returns : tie.Need-returns Inv-loop μ-loop
 returns c = search needs
-
-returns-2 : tie.Need-returns-2 Inv-loop μ-loop
-returns-2 c = search needs
 
 pub run-all-spec : {M : Type 1} → statement M
 run-all-spec =
@@ -62,10 +65,11 @@ run-all-spec =
     part-requires-2
     add-part-2
     part-requires-3
-    is-same-requires
-    tallied-requires
+    run-step-requires
+    wrapping-add-usize-requires
     add-line
     loop-less
     loop-again
-    returns
-    returns-2)
+    wrapping-sub-usize-requires
+    totals-requires
+    returns)

@@ -1,15 +1,15 @@
--- `worked::calls::place_in` ends.
+-- `worked::calls::call_of` ends.
 -- Assumes nothing.
 use Prim.Native.Nat.{_-_}
 use borrow.Author.Needs.{needs}
-use Rattle.worked.proofs.calls.place_in.Statement.{statement}
-use Rattle.worked.proofs.calls.place_in.Tie as tie
+use Rattle.worked.proofs.calls.call_of.Statement.{statement}
+use Rattle.worked.proofs.calls.call_of.Tie as tie
 
 abbrev Inv-loop : tie.InvT-loop
-Inv-loop names name k₀ k = Unit {0}
+Inv-loop name names k₀ k = Unit {0}
 
 abbrev μ-loop : tie.MeasureT-loop
-μ-loop names name k₀ k = 10 - k
+μ-loop name names k₀ k = 10 - k
 
 loop-holds : tie.Need-loop-holds Inv-loop μ-loop
 loop-holds c = search needs
@@ -35,8 +35,8 @@ returns c = search needs
 returns-2 : tie.Need-returns-2 Inv-loop μ-loop
 returns-2 c = search needs
 
-pub place-in-spec : {M : Type 1} → statement M
-place-in-spec =
+pub call-of-spec : {M : Type 1} → statement M
+call-of-spec =
     tie.close
     (tie.spec
     Inv-loop
