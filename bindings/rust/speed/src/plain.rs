@@ -1,7 +1,8 @@
 //! The same calls in plain Rust, to measure the library against: slices, no allocation, no proof.
 //!
 //! The check is taken bit by bit in the form of the library's: nested calls of one step. As a loop LLVM would take it for a
-//! CRC and put a table of 512 bytes in its place, and the two sides would not do the same work.
+//! CRC and put a table of 512 bytes in its place, and the two sides would not do the same work. The feedback of a bit is
+//! chosen, as one writes it; the library masks it.
 
 use crate::kinds::{Kind, Type, IDENTITIES, RECORDS, WRONG_IDENTITY, WRONG_KIND, WRONG_TEXT};
 use crate::side::{
