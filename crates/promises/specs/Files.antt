@@ -3,15 +3,17 @@
 -- Assumes nothing.
 use Prim.Native.Nat.{ℕ, _+_, _<_, _≤_}
 use mathlib.Core.Path.{_≡_}
+use mathlib.Core.Logic.{_↔_}
 use mathlib.Core.List.{List, _++_, map}
 use lib.ListN.{length, replicate}
 use lib.Dec.{T}
 use denote.Ref.{RefT, now}
 use Rattle.text.specs.Text.{Bytes, without}
 use Rattle.format.specs.Build.{joined, WithoutAll}
+use Rattle.format.specs.Read.{answer}
 use Rattle.format.specs.Files as format
 use Rattle.format.specs.Files.{lineFeed, read, lineAt, walk, linesFrom, acceptedLines}
-use Rattle.files.specs.Walk.{lineSaid, startOf, lengthOf, nextOf}
+use Rattle.files.specs.Walk.{lineSaid, numberOf, startOf, lengthOf, nextOf}
 use Rattle.files.specs.Steps.{Begins, Stepped, Steps}
 use Rattle.files.specs.declared.Line.{Line}
 use Rattle.files.specs.declared.Line.the-variants.{Finished}
@@ -30,10 +32,14 @@ pub record Files : Type 0 where
   -- the file call's answer at a place is that of the walk's line there; the next place lies beyond the place, and not past the end
   pub plain-call : Holds line-at.Post (λ κs a r s. r ≡ lineSaid (lineAt (now (a .0)) (a .1 .0)))
   pub beyond : (file : Bytes) (place : ℕ) (l : format.Line) → lineAt file place ≡ read l → (place < l .next) × (l .next ≤ length file)
-  -- every answer starts at the place asked; that of a finished file has length 0, and the place asked is its next place too
+  -- the number is the record call's for that line, and 11 where no line feed ends it
+  pub number : (file : Bytes) (place : ℕ) (l : format.Line) → lineAt file place ≡ read l → numberOf (lineSaid (lineAt file place)) ≡ answer (l .said)
+  -- "finished" exactly at the end or past it
+  pub finished-exactly : (file : Bytes) (place : ℕ) → (lineSaid (lineAt file place) ≡ Finished place) ↔ (length file ≤ place)
+  -- every answer starts at the place asked; that of a finished file has number 0 and length 0, and the place asked is its next place too
   pub starts : (file : Bytes) (place : ℕ) → startOf (lineSaid (lineAt file place)) ≡ place
   pub finished : (file : Bytes) (place : ℕ) → length file ≤ place
-      → (lengthOf (lineSaid (lineAt file place)) ≡ 0) × (nextOf (lineSaid (lineAt file place)) ≡ place)
+      → (numberOf (lineSaid (lineAt file place)) ≡ 0) × (lengthOf (lineSaid (lineAt file place)) ≡ 0) × (nextOf (lineSaid (lineAt file place)) ≡ place)
   -- both totals equal the counts of lines and of accepted lines
   pub totals : Holds count.Post (λ κs a r s. (r .lines ≡ length (walk (now (a .0)))) × (r .accepted ≡ acceptedLines (walk (now (a .0)))))
   -- the steps of a new reader give the answers of the walk's lines, and then that the file is finished
