@@ -1,39 +1,49 @@
--- Each contract of the C interface is an equation on the answer, so any two answers are equal.
+-- Each contract of the C interface is an equation on the answer.
 -- Assumes nothing.
-use mathlib.Core.Path.{sym, ap, _∙_}
+use mathlib.Core.Path.{_≡_, refl, ap, _∙_}
+use denote.Ref.{now}
+use Rattle.format.specs.Files.{lineAt}
+use Rattle.files.specs.Walk.{lineSaid, nextOf}
+use Rattle.files.specs.declared.Line.{Line}
+use Rattle.files.specs.declared.Line.the-variants.{Finished, Read}
 use Rattle.exports.specs.declared.walking.Found.{Found}
+use Rattle.exports.specs.Exports.{found}
 use Rattle.promises.specs.Interface.{Interface}
+
+found-next : (l : Line) → found l .next ≡ nextOf l
+found-next (Finished place) = refl
+found-next (Read n f k start len next) = refl
 
 pub interface : Interface
 interface = record {
-  crc-begin = λ κs a x y s t p q. p ∙ sym q;
-  crc-add = λ κs a x y s t p q. p ∙ sym q;
-  crc-end = λ κs a x y s t p q. p ∙ sym q;
-  crc-of = λ κs a x y s t p q. p ∙ sym q;
-  is-ident = λ κs a x y s t p q. p ∙ sym q;
-  is-timestamp = λ κs a x y s t p q. p ∙ sym q;
-  is-hex = λ κs a x y s t p q. p ∙ sym q;
-  is-point = λ κs a x y s t p q. p ∙ sym q;
-  is-sig = λ κs a x y s t p q. p ∙ sym q;
-  is-mac = λ κs a x y s t p q. p ∙ sym q;
-  is-print = λ κs a x y s t p q. p ∙ sym q;
-  read-identity = λ κs a x y s t p q. p ∙ sym q;
-  read-record = λ κs a x y s t p q. p ∙ sym q;
-  identity-field = λ κs a x y s t p q. p .said ∙ sym (q .said);
-  record-field = λ κs a x y s t p q. p .said ∙ sym (q .said);
-  build-said = λ κs a x y s t p q. p .said ∙ sym (q .said);
-  build-out = λ κs a x y s t p q. p .left ∙ sym (q .left);
-  shared-info-said = λ κs a x y s t p q. p .said ∙ sym (q .said);
-  shared-info-out = λ κs a x y s t p q. p .left ∙ sym (q .left);
-  module-text-said = λ κs a x y s t p q. p .said ∙ sym (q .said);
-  module-text-out = λ κs a x y s t p q. p .left ∙ sym (q .left);
-  centre-text-said = λ κs a x y s t p q. p .said ∙ sym (q .said);
-  centre-text-out = λ κs a x y s t p q. p .left ∙ sym (q .left);
-  text-item = λ κs a x y s t p q. p .said ∙ sym (q .said);
-  line-at = λ κs a x y s t p q. p ∙ sym q;
-  reader-new = λ κs a x y s t p q. p .its-place ∙ sym (q .its-place);
-  reader-step-said = λ κs a x y s t p q. p .its-line ∙ sym (q .its-line);
-  reader-step-place = λ κs a x y s t p q. p .its-place ∙ ap (λ (line : Found). line .next) (p .its-line ∙ sym (q .its-line)) ∙ sym (q .its-place);
-  count = λ κs a x y s t p q. p ∙ sym q;
-  newer = λ κs a x y s t p q. p ∙ sym q;
+  crc-begin = λ κs a r s p. p;
+  crc-add = λ κs a r s p. p;
+  crc-end = λ κs a r s p. p;
+  crc-of = λ κs a r s p. p;
+  is-ident = λ κs a r s p. p;
+  is-timestamp = λ κs a r s p. p;
+  is-hex = λ κs a r s p. p;
+  is-point = λ κs a r s p. p;
+  is-sig = λ κs a r s p. p;
+  is-mac = λ κs a r s p. p;
+  is-print = λ κs a r s p. p;
+  read-identity = λ κs a r s p. p;
+  read-record = λ κs a r s p. p;
+  identity-field = λ κs a r s p. p .said;
+  record-field = λ κs a r s p. p .said;
+  build-said = λ κs a r s p. p .said;
+  build-out = λ κs a r s p. p .left;
+  shared-info-said = λ κs a r s p. p .said;
+  shared-info-out = λ κs a r s p. p .left;
+  module-text-said = λ κs a r s p. p .said;
+  module-text-out = λ κs a r s p. p .left;
+  centre-text-said = λ κs a r s p. p .said;
+  centre-text-out = λ κs a r s p. p .left;
+  text-item = λ κs a r s p. p .said;
+  line-at = λ κs a r s p. p;
+  reader-new = λ κs a r s p. p .its-place;
+  reader-step-said = λ κs a r s p. p .its-line;
+  reader-step-place = λ κs a r s p. p .its-place ∙ ap (λ (line : Found). line .next) (p .its-line) ∙ found-next (lineSaid (lineAt (now (a .0)) (now (a .1 .0))));
+  count = λ κs a r s p. p;
+  newer = λ κs a r s p. p;
 }

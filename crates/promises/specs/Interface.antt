@@ -1,4 +1,5 @@
--- The contracts of the C interface determine everything that its functions answer and leave in a lent output or behind a pointer.
+-- Which definition each function of the C interface answers by, and what it leaves in a lent output or behind a pointer: an equation for
+-- each, on everything that comes back, so that no function can stand under another one's name, and none has two answers.
 -- Assumes nothing.
 use denote.Ref.{now}
 use Rattle.exports.proofs.check.obscurlane_crc_begin.Reads as crc-begin
@@ -26,41 +27,58 @@ use Rattle.exports.proofs.walking.obscurlane_reader_new.Reads as reader-new
 use Rattle.exports.proofs.walking.obscurlane_reader_step.Reads as reader-step
 use Rattle.exports.proofs.walking.obscurlane_count.Reads as count
 use Rattle.exports.proofs.walking.obscurlane_newer.Reads as newer
-use Rattle.promises.specs.Determined.{OneAnswer, OneLeft}
+use lib.ListN.{length}
+use Rattle.crc16.specs.Crc.{begin, add, end, crcOf}
+use Rattle.text.specs.Text.{isIdent, isTimestamp, isHex, isPoint, isSig, isMac, isPrint}
+use Rattle.format.specs.Read.{readIdentity, readRecord}
+use Rattle.format.specs.Files.{lineAt, walk}
+use Rattle.reading.specs.Reading.{answerOf}
+use Rattle.fields.specs.Fields.{placeSaid}
+use Rattle.put.specs.Made.{says, leaves}
+use Rattle.building.specs.Building.{build as built}
+use Rattle.items.specs.Place.{itemPlace}
+use Rattle.agreement.specs.Texts.{sharedInfo, moduleText, centreText}
+use Rattle.files.specs.Walk.{lineSaid, nextOf, totalsOf}
+use Rattle.newer.specs.Newer.{newer as newest, choiceSaid}
+use Rattle.exports.specs.Exports.{found}
+use Rattle.promises.specs.Calls.{Answers, Leaves}
 
 pub record Interface : Type 0 where
   -- the check
-  pub crc-begin : OneAnswer crc-begin.Post
-  pub crc-add : OneAnswer crc-add.Post
-  pub crc-end : OneAnswer crc-end.Post
-  pub crc-of : OneAnswer crc-of.Post
+  pub crc-begin : Answers crc-begin.Post (λ κs a. begin)
+  pub crc-add : Answers crc-add.Post (λ κs a. add (a .0) (a .1 .0))
+  pub crc-end : Answers crc-end.Post (λ κs a. end (a .0))
+  pub crc-of : Answers crc-of.Post (λ κs a. crcOf (now (a .0)))
   -- text types
-  pub is-ident : OneAnswer is-ident.Post
-  pub is-timestamp : OneAnswer is-timestamp.Post
-  pub is-hex : OneAnswer is-hex.Post
-  pub is-point : OneAnswer is-point.Post
-  pub is-sig : OneAnswer is-sig.Post
-  pub is-mac : OneAnswer is-mac.Post
-  pub is-print : OneAnswer is-print.Post
+  pub is-ident : Answers is-ident.Post (λ κs a. isIdent (now (a .0)))
+  pub is-timestamp : Answers is-timestamp.Post (λ κs a. isTimestamp (now (a .0)))
+  pub is-hex : Answers is-hex.Post (λ κs a. isHex (a .0) (now (a .1 .0)))
+  pub is-point : Answers is-point.Post (λ κs a. isPoint (now (a .0)))
+  pub is-sig : Answers is-sig.Post (λ κs a. isSig (now (a .0)))
+  pub is-mac : Answers is-mac.Post (λ κs a. isMac (now (a .0)))
+  pub is-print : Answers is-print.Post (λ κs a. isPrint (now (a .0)))
   -- reading, and one field
-  pub read-identity : OneAnswer read-identity.Post
-  pub read-record : OneAnswer read-record.Post
-  pub identity-field : OneAnswer identity-field.Post
-  pub record-field : OneAnswer record-field.Post
-  -- building, and the key agreement texts
-  pub build-said : OneAnswer build.Post
-  pub build-out : OneLeft build.Post (λ κs s. now (s .1 .1 .1 .0))
-  pub shared-info-said : OneAnswer shared-info.Post
-  pub shared-info-out : OneLeft shared-info.Post (λ κs s. now (s .1 .0))
-  pub module-text-said : OneAnswer module-text.Post
-  pub module-text-out : OneLeft module-text.Post (λ κs s. now (s .1 .0))
-  pub centre-text-said : OneAnswer centre-text.Post
-  pub centre-text-out : OneLeft centre-text.Post (λ κs s. now (s .1 .0))
-  -- items, files, and the newer key
-  pub text-item : OneAnswer text-item.Post
-  pub line-at : OneAnswer line-at.Post
-  pub reader-new : OneAnswer reader-new.Post
-  pub reader-step-said : OneAnswer reader-step.Post
-  pub reader-step-place : OneLeft reader-step.Post (λ κs s. now (s .1 .0))
-  pub count : OneAnswer count.Post
-  pub newer : OneAnswer newer.Post
+  pub read-identity : Answers read-identity.Post (λ κs a. answerOf (readIdentity (now (a .0))))
+  pub read-record : Answers read-record.Post (λ κs a. answerOf (readRecord (now (a .0))))
+  pub identity-field : Answers identity-field.Post (λ κs a. placeSaid (readIdentity (now (a .0))) (a .1 .0))
+  pub record-field : Answers record-field.Post (λ κs a. placeSaid (readRecord (now (a .0))) (a .1 .0))
+  -- building
+  pub build-said : Answers build.Post (λ κs a. says (built (now (a .0)) (now (a .1 .0)) (now (a .1 .1 .0)) (length (now (a .1 .1 .1 .0)))))
+  pub build-out : Leaves build.Post (λ κs s. now (s .1 .1 .1 .0))
+      (λ κs a. leaves (built (now (a .0)) (now (a .1 .0)) (now (a .1 .1 .0)) (length (now (a .1 .1 .1 .0)))) (now (a .1 .1 .1 .0)))
+  -- the key agreement texts, and an item of one
+  pub shared-info-said : Answers shared-info.Post (λ κs a. says (sharedInfo (now (a .0)) (length (now (a .1 .0)))))
+  pub shared-info-out : Leaves shared-info.Post (λ κs s. now (s .1 .0)) (λ κs a. leaves (sharedInfo (now (a .0)) (length (now (a .1 .0)))) (now (a .1 .0)))
+  pub module-text-said : Answers module-text.Post (λ κs a. says (moduleText (now (a .0)) (length (now (a .1 .0)))))
+  pub module-text-out : Leaves module-text.Post (λ κs s. now (s .1 .0)) (λ κs a. leaves (moduleText (now (a .0)) (length (now (a .1 .0)))) (now (a .1 .0)))
+  pub centre-text-said : Answers centre-text.Post (λ κs a. says (centreText (now (a .0)) (length (now (a .1 .0)))))
+  pub centre-text-out : Leaves centre-text.Post (λ κs s. now (s .1 .0)) (λ κs a. leaves (centreText (now (a .0)) (length (now (a .1 .0)))) (now (a .1 .0)))
+  pub text-item : Answers text-item.Post (λ κs a. itemPlace (now (a .0)) (a .1 .0))
+  -- files: a reader is its place, and goes on to the next one
+  pub line-at : Answers line-at.Post (λ κs a. found (lineSaid (lineAt (now (a .0)) (a .1 .0))))
+  pub reader-new : Answers reader-new.Post (λ κs a. 0)
+  pub reader-step-said : Answers reader-step.Post (λ κs a. found (lineSaid (lineAt (now (a .0)) (now (a .1 .0)))))
+  pub reader-step-place : Leaves reader-step.Post (λ κs s. now (s .1 .0)) (λ κs a. nextOf (lineSaid (lineAt (now (a .0)) (now (a .1 .0)))))
+  pub count : Answers count.Post (λ κs a. totalsOf (walk (now (a .0))))
+  -- the newer key
+  pub newer : Answers newer.Post (λ κs a. choiceSaid (newest (now (a .0)) (now (a .1 .0))))
