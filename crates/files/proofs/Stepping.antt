@@ -36,13 +36,13 @@ module _ (file : Bytes) where
       let o : _≡_ {A = ℕ} 0 1 = cc in
       omega arith
 
-  none-left : (place : ℕ) → rest file place ≡ [] → length file ≤ place
+  pub none-left : (place : ℕ) → rest file place ≡ [] → length file ≤ place
   none-left place r =
       by-place file place (λ h. h)
       (λ e f h. absurd (some-left place (lineTo file place e) (at-line file place e f h) r))
       (λ e f l h. absurd (some-left place (unfinishedTo file place e) (at-unfinished file place e f l h) r))
 
-  first-left : (place : ℕ) (l : files.Line) (ls : List files.Line) → rest file place ≡ l ∷ ls → (lineAt file place ≡ read l) × (rest file (l .next) ≡ ls)
+  pub first-left : (place : ℕ) (l : files.Line) (ls : List files.Line) → rest file place ≡ l ∷ ls → (lineAt file place ≡ read l) × (rest file (l .next) ≡ ls)
   first-left place l ls r = go (lineAt file place) refl
     where
       go : (s : Said) → lineAt file place ≡ s → (lineAt file place ≡ read l) × (rest file (l .next) ≡ ls)

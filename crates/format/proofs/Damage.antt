@@ -47,6 +47,12 @@ part-law R z p n k x y f =
     (λ h. rw (part-at p n k x h, part-at p n k y h) (f h))
     (λ h. rw (beyond (drop p x) h, beyond (drop p y) h) z)
 
+-- and the parts are equal where the lists are
+pub part-same : (p n : ℕ) (x y : Bytes) → length x ≡ length y → ((k : ℕ) → p ≤ k → k < p + n → getD x k 0 ≡ getD y k 0) → part p n x ≡ part p n y
+part-same p n x y long f =
+    ext-getD 0 (part p n x) (part p n y) (simp (length-take, length-drop, long))
+    (λ k _. part-law _≡_ refl p n k x y (λ t. f (p + k) (omega arith) (omega arith)))
+
 part-bytes : (p n : ℕ) (s : Bytes) → AreBytes s → AreBytes (part p n s)
 part-bytes p n s h k = part-law (λ c d. c < 256) (omega arith) p n k s s (λ _. h (p + k))
 
@@ -137,7 +143,7 @@ module _ (a b : Bytes) (d : Damaged a b) where
             accepted-damaged x y (part-bytes start n a (d .bytes-a)) (part-bytes start n b (d .bytes-b)) long (i - start) near (d .in-accepted _ m p (l, h) differ) acc in
             let z : start + (p - start) ≡ p = omega arith in
             differ (cc (part-at start n (p - start) a (omega arith), part-at start n (p - start) b (omega arith))));
-        same-said = λ f. ap readRecord (ext-getD 0 x y long (λ k _. part-law _≡_ refl start n k a b (λ t. f (start + k) (omega arith))));
+        same-said = λ f. ap readRecord (part-same start n a b (d .long) (λ k h g. f k (h, g)));
       }
 
   all-caught : (n p : ℕ) → ((l : Line) → List·Memᴰ l (walkFrom n a p) → List·Memᴰ l (walk a)) → AllCaught a b (walkFrom n a p) (walkFrom n b p)

@@ -5,3 +5,4 @@ pub mod Fields
 pub mod Exactly
 pub mod Lines
 pub mod Damage
+pub mod Refusals

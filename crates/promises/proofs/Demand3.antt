@@ -1,7 +1,78 @@
--- Demand 3, by the damage theorem of format.
+-- Demand 3, by the damage theorem of format: what the file call answers is what the walk's lines say.
 -- Assumes nothing.
-use Rattle.format.proofs.Damage.{damage-caught}
-use Rattle.promises.specs.Demand3.{Demand3}
+use Prim.Native.Nat.{ℕ, suc, _+_}
+use mathlib.Core.Path.{_≡_, refl, sym, ap, _∙_}
+use mathlib.Core.Logic.{_≢_}
+use mathlib.Core.List.{List, [], _∷_}
+use native.Mathlib.Omega.{arith}
+use lib.ListN.{length, getD}
+use lib.Seq.{ext-getD}
+use denote.Ref.{RefT, now}
+use Rattle.text.specs.Text.{Bytes, part}
+use Rattle.format.specs.Read.{Outcome, accepted, refused, answer}
+use Rattle.format.specs.Files as format
+use Rattle.format.specs.Files.{read, lineAt, walk}
+use Rattle.format.specs.Damage.{Damaged, Accepted, Refused, Caught, AllCaught, Differ}
+use Rattle.format.proofs.Lines.{at-end, next-inside, rest, rest-walk}
+use Rattle.format.proofs.Damage.{part-same, damage-caught}
+use Rattle.reading.specs.Reading.{answerOf}
+use Rattle.files.specs.declared.Line.{Line}
+use Rattle.files.specs.declared.Line.the-variants.{Finished}
+use Rattle.files.specs.Walk.{lineSaid, numberOf, startOf, lengthOf, nextOf}
+use Rattle.files.proofs.Stepping.{none-left, first-left}
+use Rattle.promises.specs.Demand3.{Called, none, more, CaughtSaid, AllCaughtSaid, Demand3}
+
+-- ---- a line of each file
+
+module _ (a b : Bytes) (long : length a ≡ length b) where
+  line-caught : (l m : format.Line) → Caught a b l m → CaughtSaid a b (lineSaid (read l)) (lineSaid (read m))
+  line-caught l m c = record {
+    same-start = c .same-start;
+    same-size = c .same-size;
+    same-next = c .same-next;
+    refused-there = λ p h differ z.
+        let (n, i, e, no-zero) = c .refused-there p h differ in
+        no-zero (sym (ap (λ (o : Outcome). answerOf o .no) e) ∙ z);
+    same-said = λ f. (
+      λ i. lineSaid (read (record { said = c .same-said f i; start = c .same-start i; size = c .same-size i; next = c .same-next i })),
+      rw (← c .same-start, ← c .same-size) (part-same (l .start) (l .size) a b long (λ p h k. f p (h, k))),
+    );
+  }
+
+  end-caught : (place : ℕ) → CaughtSaid a b (Finished place) (Finished place)
+  end-caught place = record {
+    same-start = refl;
+    same-size = refl;
+    same-next = refl;
+    refused-there = λ p (h, k) differ. absurd (omega arith);
+    same-said = λ f. (refl, refl);
+  }
+
+-- ---- call by call
+
+module _ (f g : RefT Bytes) (long : length (now f) ≡ length (now g)) where
+  calls-caught : (place : ℕ) (xs ys : List format.Line) → rest (now f) place ≡ xs → rest (now g) place ≡ ys → AllCaught (now f) (now g) xs ys
+      → (ls ms : List Line) → Called f place ls → Called g place ms → length ls ≡ length ms → AllCaughtSaid (now f) (now g) ls ms
+  unfolding AllCaught AllCaughtSaid
+  calls-caught place xs ys r t c [] [] none none e = tt
+  calls-caught place xs ys r t c [] (m ∷ ms) p q e = absurd (omega arith)
+  calls-caught place xs ys r t c (l ∷ ls) [] p q e = absurd (omega arith)
+  calls-caught place [] [] r t c (l ∷ ls) (m ∷ ms) (more (κ, (s, p)) ps) (more (κ′, (s′, q)) qs) e =
+      let here : l ≡ Finished place = p ∙ ap lineSaid (at-end (now f) place (none-left (now f) place r)) in
+      let there : m ≡ Finished place = q ∙ ap lineSaid (at-end (now g) place (none-left (now g) place t)) in
+      (
+        rw (here, there) (end-caught (now f) (now g) long place),
+        calls-caught place [] [] r t c ls ms (rw here at ps) (rw there at qs) (omega (arith, e)),
+      )
+  calls-caught place (x ∷ xs) (y ∷ ys) r t c (l ∷ ls) (m ∷ ms) (more (κ, (s, p)) ps) (more (κ′, (s′, q)) qs) e =
+      let (is, left) = first-left (now f) place x xs r in
+      let (is′, left′) = first-left (now g) place y ys t in
+      let here : l ≡ lineSaid (read x) = p ∙ ap lineSaid is in
+      let there : m ≡ lineSaid (read y) = q ∙ ap lineSaid is′ in
+      (
+        rw (here, there) (line-caught (now f) (now g) long x y (c .0)),
+        calls-caught (x .next) xs ys left (rw (c .0 .same-next) left′) (c .1) ls ms (rw here at ps) (rw (there, ← c .0 .same-next) at qs) (omega (arith, e)),
+      )
 
 pub demand3 : Demand3
-demand3 = damage-caught
+demand3 f g d ls ms p q e = calls-caught f g (d .long) 0 (walk (now f)) (walk (now g)) (rest-walk (now f)) (rest-walk (now g)) (damage-caught (now f) (now g) d) ls ms p q e

@@ -13,3 +13,7 @@ Answers {K} {A} {R} {S} Q f = (κs : K) (a : A κs) (r : R κs) (s : S κs) → 
 -- and what stands behind a `&mut` parameter afterwards, which `left` picks
 abbrev pub Leaves : {K X : Type 0} {A R S : K → Type 0} → ((κs : K) → A κs → R κs → S κs → Type 0) → ((κs : K) → S κs → X) → ((κs : K) → A κs → X) → Type 0
 Leaves {K} {X} {A} {R} {S} Q left f = (κs : K) (a : A κs) (r : R κs) (s : S κs) → Q κs a r s → left κs s ≡ f κs a
+
+-- the contract Q allows the answer r for the arguments a, with some lifetimes and some contents of the parameters afterwards
+abbrev pub Allows : {K : Type 0} {A R S : K → Type 0} → ((κs : K) → A κs → R κs → S κs → Type 0) → ((κs : K) → A κs) → ((κs : K) → R κs) → Type 0
+Allows {K} {A} {R} {S} Q a r = (κs : K) × ((s : S κs) × Q κs (a κs) (r κs) s)

@@ -1,0 +1,103 @@
+-- Which numbers a call can give: those of the form, those that the types of a kind's fields can be refused with, and 8 where the kind has
+-- Issuer and Signature.
+-- Assumes nothing.
+use Prim.Native.Nat.{ℕ, zero, suc}
+use mathlib.Core.Path.{_≡_}
+use mathlib.Core.Logic.{⊎-elim}
+use mathlib.Core.Bool.{Bool, true, false, cond, not, _&&_, _||_}
+use mathlib.Core.List.{List, [], _∷_, map}
+use lib.Dec.{T, leb, eqb}
+use lib.ListN.{length}
+use mir.Facts.{and-yes, or-yes}
+use Rattle.crc16.specs.Crc.{crcOf}
+use Rattle.text.specs.Text.{Bytes, allOf, oneOf, same, isHex, isOf}
+use Rattle.text.specs.Base16.{checkText}
+use Rattle.text.proofs.Tests.{T-true, or-left}
+use Rattle.numbers.specs.Numbers.{tooLong, unknownKind, missingCheck, wrongCheck, wrongCount, wrongText, wrongIdentity, unpaired, wrongKind}
+use Rattle.format.specs.Kinds.{Kind, Field, Text, Identity, OrEmpty, mark, fieldsOf, pubkeyKinds, among}
+use Rattle.format.specs.Build.{empty, paired}
+use Rattle.format.specs.Read.{Outcome, accepted, refused, answer, provided, passing, title, markAfter, kindIn, body, check, endsIn, checkNo, fieldsIn, identityAnswer, fieldAnswer, each, wholeAnswer, judged, readAs, readOver}
+use Rattle.format.proofs.Table.{All, all-among, kindIn-some}
+use Rattle.format.proofs.Outcomes.{ofKind-law}
+
+abbrev pub Gives : List ℕ → Outcome → Type 0
+Gives ns o = T (oneOf ns (answer o))
+
+-- the numbers that a field of this type can be refused with are among ns
+abbrev covered : List ℕ → Field → Bool
+covered ns (Text t) = oneOf ns wrongText
+covered ns (Identity ks) = oneOf ns wrongIdentity && oneOf ns wrongKind
+covered ns (OrEmpty t) = covered ns t
+
+-- and those of the fields of this kind, each and together
+abbrev pub covers : List ℕ → Kind → Bool
+covers ns k = allOf (map (covered ns) (fieldsOf k)) && (not (among k pubkeyKinds) || oneOf ns unpaired)
+
+module _ (ns : List ℕ) (z : T (oneOf ns 0)) where
+  either-given : (b : Bool) (n m : ℕ) → T (oneOf ns n) → T (oneOf ns m) → T (oneOf ns (cond b n m))
+  either-given true n m h k = h
+  either-given false n m h k = k
+
+  pub provided-given : (b : Bool) (n : ℕ) (o : Outcome) → T (oneOf ns n) → Gives ns o → Gives ns (provided b n o)
+  provided-given true n o h g = g
+  provided-given false n o h g = h
+
+  passing-given : (n i : ℕ) (o : Outcome) → T (oneOf ns n) → Gives ns o → Gives ns (passing n i o)
+  passing-given zero i o h g = g
+  passing-given (suc n) i o h g = h
+
+  -- ---- the fields
+
+  identity-given : (ks : List Kind) (o : Outcome) → T (oneOf ns wrongIdentity) → T (oneOf ns wrongKind) → T (oneOf ns (identityAnswer ks o))
+  unfolding identityAnswer
+  identity-given ks (accepted k fs) h g = either-given (among k ks) 0 wrongKind z g
+  identity-given ks (refused n i) h g = h
+
+  module _ (ask : Bytes → Outcome) where
+    field-given : (t : Field) (f : Bytes) → T (covered ns t) → T (oneOf ns (fieldAnswer ask t f))
+    unfolding fieldAnswer
+    field-given (Text t) f h = either-given (isOf t f) 0 wrongText z h
+    field-given (Identity ks) f h =
+        let both = and-yes (oneOf ns wrongIdentity) (oneOf ns wrongKind) h in
+        identity-given ks (ask f) (both .0) (both .1)
+    field-given (OrEmpty t) f h = either-given (empty f) 0 (fieldAnswer ask t f) z (field-given t f h)
+
+    each-given : (i : ℕ) (ts : List Field) (fs : List Bytes) (o : Outcome) → T (allOf (map (covered ns) ts)) → Gives ns o → Gives ns (each ask i ts fs o)
+    each-given i [] fs o h g = g
+    each-given i (t ∷ ts) [] o h g = g
+    each-given i (t ∷ ts) (f ∷ fs) o h g =
+        let both = and-yes (covered ns t) (allOf (map (covered ns) ts)) h in
+        passing-given (fieldAnswer ask t f) i (each ask (suc i) ts fs o) (field-given t f (both .0)) (each-given (suc i) ts fs o (both .1) g)
+
+    whole-given : (k : Kind) (fs : List Bytes) → T (not (among k pubkeyKinds) || oneOf ns unpaired) → T (oneOf ns (wholeAnswer k fs))
+    unfolding wholeAnswer
+    whole-given k fs h =
+        ⊎-elim
+        (λ no-key. rw (T-true (paired k fs) (or-left (not (among k pubkeyKinds)) _ no-key)) z)
+        (λ there. either-given (paired k fs) 0 unpaired z there)
+        (or-yes (not (among k pubkeyKinds)) (oneOf ns unpaired) h)
+
+    pub judged-given : (k : Kind) (fs : List Bytes) (o : Outcome) → T (covers ns k) → Gives ns o → Gives ns (judged ask k fs o)
+    unfolding judged
+    judged-given k fs o h g =
+        let both = and-yes (allOf (map (covered ns) (fieldsOf k))) _ h in
+        each-given 1 (fieldsOf k) fs (passing (wholeAnswer k fs) 0 o) (both .0) (passing-given (wholeAnswer k fs) 0 o (whole-given k fs (both .1)) g)
+
+    -- ---- a call that reads the kinds ks
+
+    -- numbers 1 to 5 are among ns
+    abbrev pub Form : Type 0
+    Form = T (oneOf ns tooLong) × T (oneOf ns unknownKind) × T (oneOf ns missingCheck) × T (oneOf ns wrongCheck) × T (oneOf ns wrongCount)
+
+    pub over-given : Form → (ks : List Kind) → All (λ k. T (covers ns k)) ks → (s : Bytes) → Gives ns (readOver ask ks s)
+    unfolding readOver readAs checkNo
+    over-given (long, kind, missing, wrong, count) ks h s =
+        provided-given (leb (length s) 1024) tooLong _ long
+        (ofKind-law (Gives ns) (kindIn ks (title s) (markAfter s)) (readAs ask s) kind
+        (λ k e.
+        let fs : List Bytes = fieldsIn k s in
+        passing-given (checkNo (mark k) s) 0 _
+        (either-given (isHex 4 (check s) && endsIn (mark k) (body s)) _ missingCheck
+        (either-given (same (check s) (checkText (crcOf (body s)))) 0 wrongCheck z wrong) missing)
+        (provided-given (eqb (length fs) (length (fieldsOf k))) wrongCount _ count
+        (judged-given k fs (accepted k fs) (all-among (λ k. T (covers ns k)) ks h k (kindIn-some ks (title s) (markAfter s) k e .0)) z))))
