@@ -10,3 +10,4 @@ pub mod Demand3
 pub mod Newer
 pub mod Interface
 pub mod Total
+pub mod Fixed

@@ -12,3 +12,5 @@ pub mod Demand3
 pub mod Newer
 pub mod Interface
 pub mod Total
+pub mod Values
+pub mod Fixed

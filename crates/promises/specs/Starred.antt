@@ -1,33 +1,17 @@
--- The starred values of document 01, "Values on each side", as one set. proofs/Starred.antt proves `AllStarred starred` by
+-- The starred values of document 01, "Values on each side", as one set. proofs/Starred.antt proves `AllCome starred` by
 -- computing each.
 -- Assumes nothing.
-use Prim.Native.Nat.{ℕ}
-use mathlib.Core.Path.{_≡_}
-use mathlib.Core.Bool.{Bool, true, false}
+use mathlib.Core.Bool.{true, false}
 use mathlib.Core.List.{List, [], _∷_}
 use Rattle.crc16.specs.Crc.{crcOf}
 use lib.ListN.{length}
-use Rattle.text.specs.Text.{Bytes, ascii, isTimestamp, isHex}
+use Rattle.text.specs.Text.{ascii, isTimestamp, isHex}
 use Rattle.items.specs.Items.{lvConcat}
 use Rattle.agreement.specs.Texts.{sharedItems, moduleItems, centreItems}
+use Rattle.promises.specs.Values.{Value, number, bytes, test}
 use Rattle.promises.specs.Worked.{idSm, idKmc, centreKey, requestFields, request, response}
 
--- what is computed, and what it must be
-pub data Star : Type 0 where
-  number : ℕ → ℕ → Star
-  bytes : Bytes → Bytes → Star
-  test : Bool → Bool → Star
-
-abbrev pub Comes : Star → Type 0
-Comes (number n m) = n ≡ m
-Comes (bytes s t) = s ≡ t
-Comes (test b c) = b ≡ c
-
-abbrev pub AllStarred : List Star → Type 0
-AllStarred [] = Unit {0}
-AllStarred (s ∷ ss) = Comes s × AllStarred ss
-
-unfoldable pub starred : List Star
+unfoldable pub starred : List Value
 starred =
     number (crcOf []) 0xFFFF
     ∷ number (crcOf (0x00 ∷ [])) 0x40BF

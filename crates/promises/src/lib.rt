@@ -11,8 +11,10 @@ ghost use Rattle.promises.specs.Agreement.{Agreement};
 ghost use Rattle.promises.specs.Files.{Files};
 ghost use Rattle.promises.specs.Demand3.{Demand3};
 ghost use Rattle.promises.specs.Newer.{Newer};
-ghost use Rattle.promises.specs.Starred.{AllStarred, starred};
+ghost use Rattle.promises.specs.Values.{AllCome};
+ghost use Rattle.promises.specs.Starred.{starred};
+ghost use Rattle.promises.specs.Fixed.{fixed};
 
 fn promised()
-    ensures { λ _. ⌜ Total × Determined × Interface × Check × TextTypes × Reading × Building × Agreement × Files × Demand3 × Newer × AllStarred starred ⌝ }
+    ensures { λ _. ⌜ Total × Determined × Interface × Check × TextTypes × Reading × Building × Agreement × Files × Demand3 × Newer × AllCome starred × AllCome fixed ⌝ }
 {}

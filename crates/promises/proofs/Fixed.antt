@@ -1,0 +1,49 @@
+-- What document 01 fixes, each computed by the checker.
+-- Assumes nothing.
+use mathlib.Core.Path.{refl}
+use mathlib.Core.List.{List, [], _∷_, _++_}
+use Rattle.crc16.specs.Crc.{bitStep, bitSteps, add, addAll, crcOf}
+use Rattle.text.specs.Text.{looks, numberFrom, isIdent, isTimestamp, isHex, isPoint}
+use Rattle.text.specs.Base16.{hexDigit, checkText}
+use Rattle.format.specs.Build.{withCheck, recordOf}
+use Rattle.format.specs.Read.{checkNo, identityAnswer, fieldAnswer, wholeAnswer, judged, readAs, readOver, readIdentity, readOf, readRecord}
+use Rattle.promises.specs.Values.{Value, AllCome, admittedFrom}
+use Rattle.promises.specs.Worked.{idManFields, idMan, idSmFields, idSm, idKmcFields, idKmc, manufacturerKeyFields, manufacturerKey, moduleKeyFields, moduleKey, centreKeyFields, centreKey, requestFields, request, responseFields, response}
+use Rattle.promises.specs.Fixed.{rows, alphabets, limits, labels, checks, numbers, fixed}
+
+-- two sets of values are one
+both : (vs us : List Value) → AllCome vs → AllCome us → AllCome (vs ++ us)
+both [] us p q = q
+both (v ∷ vs) us p q = (p .0, both vs us (p .1) q)
+
+all-rows : AllCome rows
+unfolding rows
+all-rows = (refl, (refl, (refl, (refl, (refl, (refl, (refl, (refl, (refl, (refl, (refl, (refl, (refl, (refl, (refl, (refl, tt))))))))))))))))
+
+all-alphabets : AllCome alphabets
+unfolding alphabets admittedFrom isIdent isTimestamp looks numberFrom isHex
+all-alphabets = (refl, (refl, (refl, (refl, (refl, (refl, (refl, (refl, (refl, (refl, (refl, (refl, (refl, (refl, tt))))))))))))))
+
+all-limits : AllCome limits
+unfolding limits isIdent isTimestamp looks numberFrom isHex isPoint readRecord readOf readIdentity readOver
+all-limits = (refl, (refl, (refl, (refl, (refl, (refl, (refl, (refl, (refl, (refl, (refl, (refl, (refl, (refl, (refl, (refl, (refl, (refl, (refl, tt)))))))))))))))))))
+
+all-labels : AllCome labels
+unfolding labels requestFields
+all-labels = (refl, (refl, (refl, tt)))
+
+all-checks : AllCome checks
+unfolding checks idManFields idMan idSmFields idSm idKmcFields idKmc manufacturerKeyFields manufacturerKey moduleKeyFields moduleKey centreKeyFields centreKey requestFields request responseFields response recordOf withCheck checkText hexDigit crcOf addAll add bitSteps bitStep
+all-checks = (refl, (refl, (refl, (refl, (refl, (refl, (refl, (refl, tt))))))))
+
+all-numbers : AllCome numbers
+unfolding numbers idManFields idMan idSmFields idSm idKmcFields idKmc manufacturerKeyFields centreKeyFields centreKey recordOf withCheck checkText hexDigit crcOf addAll add bitSteps bitStep isIdent isTimestamp looks numberFrom isHex isPoint checkNo identityAnswer fieldAnswer wholeAnswer judged readAs readOver readIdentity readOf readRecord
+all-numbers = (refl, (refl, (refl, (refl, (refl, (refl, (refl, (refl, (refl, (refl, (refl, (refl, (refl, tt)))))))))))))
+
+pub all-fixed : AllCome fixed
+unfolding fixed
+all-fixed =
+    both (rows ++ alphabets ++ limits ++ labels ++ checks) numbers
+    (both (rows ++ alphabets ++ limits ++ labels) checks
+    (both (rows ++ alphabets ++ limits) labels
+    (both (rows ++ alphabets) limits (both rows alphabets all-rows all-alphabets) all-limits) all-labels) all-checks) all-numbers
