@@ -11,3 +11,6 @@ pub mod Newer
 pub mod Interface
 pub mod Total
 pub mod Fixed
+pub mod Permitted
+pub mod DamagedFile
+pub mod Witnesses

@@ -14,3 +14,4 @@ pub mod Interface
 pub mod Total
 pub mod Values
 pub mod Fixed
+pub mod Witnesses

@@ -1,0 +1,62 @@
+-- The fields of 003's records are permitted, so their records are built, and read.
+-- Assumes nothing.
+use mathlib.Core.Path.{refl}
+use mathlib.Core.Logic.{inl, inr}
+use mathlib.Core.List.{List}
+use lib.Dec.{T}
+use Rattle.text.specs.Text.{Bytes, looks, numberFrom, isIdent, isTimestamp, isHex, isPoint}
+use Rattle.format.specs.Kinds.{Kind, SMMAN, SMID, KMCID, ECDSA, ECDH, REQ, RESP, among}
+use Rattle.format.specs.Build.{withCheck, recordOf, Fits, FitAll, PermittedOver, NeverIdentity, IsIdentity, Permitted, Built}
+use Rattle.promises.specs.Worked.{idManFields, idMan, idSmFields, idSm, idKmcFields, idKmc, manufacturerKeyFields, moduleKeyFields, centreKeyFields, requestFields, responseFields, fieldsOfWorked, unsignedKeyFields, laterIdFields, laterKeyFields}
+
+-- an identity whose fields are texts as the table says
+pub names-permitted : (I : Kind → Bytes → Type 0) → PermittedOver I SMMAN idManFields × PermittedOver I SMID idSmFields × PermittedOver I KMCID idKmcFields
+    × PermittedOver I KMCID laterIdFields
+unfolding FitAll Fits idManFields idSmFields idKmcFields laterIdFields isIdent isTimestamp looks numberFrom isHex
+names-permitted I = (
+  record { fit = (tt, (tt, (tt, (tt, tt)))); both = tt },
+  record { fit = (tt, (tt, (tt, (tt, tt)))); both = tt },
+  record { fit = (tt, (tt, (tt, (tt, tt)))); both = tt },
+  record { fit = (tt, (tt, (tt, (tt, tt)))); both = tt },
+)
+
+is-man : IsIdentity SMMAN idMan
+unfolding IsIdentity idMan
+is-man = (idManFields, record { of-kind = tt; permitted = names-permitted NeverIdentity .0; built = refl })
+
+is-sm : IsIdentity SMID idSm
+unfolding IsIdentity idSm
+is-sm = (idSmFields, record { of-kind = tt; permitted = names-permitted NeverIdentity .1; built = refl })
+
+is-kmc : IsIdentity KMCID idKmc
+unfolding IsIdentity idKmc
+is-kmc = (idKmcFields, record { of-kind = tt; permitted = names-permitted NeverIdentity .2; built = refl })
+
+is-later : IsIdentity KMCID (recordOf KMCID laterIdFields)
+unfolding IsIdentity
+is-later = (laterIdFields, record { of-kind = tt; permitted = names-permitted NeverIdentity .3; built = refl })
+
+pub permitted : (k : Kind) → Permitted k (fieldsOfWorked k)
+unfolding FitAll Fits idMan recordOf withCheck fieldsOfWorked manufacturerKeyFields moduleKeyFields requestFields responseFields isIdent isTimestamp looks numberFrom isHex isPoint
+permitted SMMAN = names-permitted IsIdentity .0
+permitted SMID = names-permitted IsIdentity .1
+permitted KMCID = names-permitted IsIdentity .2
+permitted ECDSA = record { fit = ((SMMAN, tt, is-man), (tt, (tt, (inr (SMMAN, tt, is-man), (inr tt, tt))))); both = tt }
+permitted ECDH = record { fit = ((SMID, tt, is-sm), (tt, (tt, (inr (SMMAN, tt, is-man), (inr tt, tt))))); both = tt }
+permitted REQ = record { fit = ((SMID, tt, is-sm), ((KMCID, tt, is-kmc), (tt, (tt, (tt, (tt, (tt, tt))))))); both = tt }
+permitted RESP = record { fit = ((KMCID, tt, is-kmc), ((SMID, tt, is-sm), (tt, (tt, tt)))); both = tt }
+
+pub unsigned : Permitted ECDSA unsignedKeyFields × Permitted ECDH centreKeyFields
+unfolding FitAll Fits manufacturerKeyFields unsignedKeyFields centreKeyFields isTimestamp looks numberFrom isHex isPoint
+unsigned = (
+  record { fit = ((SMMAN, tt, is-man), (tt, (tt, (inl tt, (inl tt, tt))))); both = tt },
+  record { fit = ((KMCID, tt, is-kmc), (tt, (tt, (inl tt, (inl tt, tt))))); both = tt },
+)
+
+pub later-permitted : Permitted ECDH laterKeyFields
+unfolding FitAll Fits centreKeyFields laterKeyFields isTimestamp looks numberFrom isHex isPoint
+later-permitted = record { fit = ((KMCID, tt, is-later), (tt, (tt, (inl tt, (inl tt, tt))))); both = tt }
+
+-- a record of permitted fields, as a record of one of the kinds ks
+pub built-of : (ks : List Kind) (k : Kind) (fs : List Bytes) → T (among k ks) → Permitted k fs → Built ks (recordOf k fs) k fs
+built-of ks k fs t p = record { of-kind = t; permitted = p; built = refl }

@@ -1,0 +1,116 @@
+-- What meets the conditions of the promises, computed from 003's records.
+-- Assumes nothing.
+use Prim.Native.Nat.{ℕ, zero, suc}
+use Prim.Native.Char.{code}
+use mathlib.Core.Path.{_≡_, refl, sym, ap, _∙_}
+use mathlib.Core.Logic.{inl, inr}
+use mathlib.Core.List.{List, [], _∷_, _++_}
+use native.Mathlib.Omega.{arith}
+use lib.ListN.{length, getD, replicate, length-replicate}
+use denote.Ref.{RefT, now}
+use lib.Dec.{T, eqb}
+use mir.Facts.{yes-and, yes-eqb}
+use Rattle.crc16.specs.Crc.{bitStep, bitSteps, add, addAll, crcOf}
+use Rattle.text.specs.Text.{Bytes, ascii, every, hexadecimal, TextType, Ident, Timestamp, Point, Sig, Mac, Print, Hex, isOf, looks, numberFrom, isIdent, isTimestamp, isHex, isPoint}
+use Rattle.text.specs.Base16.{hexDigit, checkText}
+use Rattle.format.specs.Kinds.{Kind, SMMAN, SMID, KMCID, ECDSA, ECDH, REQ, RESP, identityKinds, recordKinds, pubkeyKinds, among}
+use Rattle.format.specs.Build.{withCheck, recordOf, Fits, FitAll, PermittedOver, NeverIdentity, IsIdentity, Permitted, Built}
+use Rattle.format.specs.Read.{Outcome, accepted, checkNo, identityAnswer, fieldAnswer, wholeAnswer, judged, readAs, readOver, readIdentity, readOf, readRecord}
+use Rattle.format.proofs.Exactly.{identity-exact, read-exact, record-exact}
+use Rattle.format.specs.Files.{lineAt}
+use Rattle.subjects.specs.Subjects.{alike}
+use Rattle.files.specs.declared.Line.{Line}
+use Rattle.files.specs.declared.Reader.{Reader}
+use Rattle.files.specs.Walk.{lineSaid, nextOf}
+use Rattle.files.specs.Steps as steps
+use Rattle.files.specs.Steps.{Steps}
+use Rattle.text.specs.Later.{later}
+use Rattle.newer.specs.Newer.{theFirst, theSecond, newer}
+use Rattle.newer.specs.Keys.{Key, Agreed}
+use Rattle.newer.proofs.Choosing.{newer-keys}
+use Rattle.promises.specs.Demand3.{Called, none, more}
+use Rattle.promises.specs.Worked.{idManFields, idMan, idSmFields, idSm, idKmcFields, idKmc, manufacturerKeyFields, moduleKeyFields, centreKeyFields, centreKey, requestFields, request, responseFields, response, fieldsOfWorked, unsignedKeyFields, laterIdFields, laterKeyFields, laterKey, soundLines, soundFile, damagedFile}
+use Rattle.promises.proofs.Permitted.{names-permitted, permitted, unsigned, later-permitted, built-of}
+use Rattle.promises.proofs.DamagedFile.{damaged, caught}
+use Rattle.promises.specs.Witnesses.{Witnesses}
+
+-- ---- a text of each type
+
+hex-zeros : (n : ℕ) → T (every hexadecimal (replicate n (code "0")))
+hex-zeros zero = tt
+hex-zeros (suc n) = hex-zeros n
+
+texts : (t : TextType) → (s : Bytes) × T (isOf t s)
+unfolding isIdent isTimestamp looks numberFrom isHex isPoint
+texts Ident = (ascii "A", tt)
+texts Timestamp = (ascii "20180120T090000Z", tt)
+texts Point = (ascii "04" ++ replicate 192 (code "0"), tt)
+texts Sig = (replicate 192 (code "0"), tt)
+texts Mac = (replicate 48 (code "0"), tt)
+texts Print = (replicate 16 (code "0"), tt)
+texts (Hex n) = (replicate n (code "0"), yes-and (eqb (length (replicate n (code "0"))) n) _ (yes-eqb (length-replicate n (code "0"))) (hex-zeros n))
+
+-- ---- two public keys
+
+key-of : (fs names : List Bytes) → Permitted ECDH fs → getD fs 0 [] ≡ recordOf KMCID names → Permitted KMCID names → Key (recordOf ECDH fs)
+key-of fs names p e q = record {
+  kind = ECDH;
+  fields = fs;
+  is = read-exact pubkeyKinds (recordOf ECDH fs) ECDH fs .1 (built-of pubkeyKinds ECDH fs tt p);
+  who = KMCID;
+  names = names;
+  known = ap readIdentity e ∙ identity-exact (recordOf KMCID names) KMCID names .1 (built-of identityKinds KMCID names tt q);
+}
+
+centre : Key centreKey
+unfolding centreKey centreKeyFields idKmc
+centre = key-of centreKeyFields idKmcFields (unsigned .1) refl (names-permitted IsIdentity .2)
+
+later-centre : Key laterKey
+unfolding laterKey laterKeyFields centreKeyFields
+later-centre = key-of laterKeyFields laterIdFields later-permitted refl (names-permitted IsIdentity .3)
+
+agreed : Agreed centreKey laterKey
+unfolding centre later-centre key-of idKmcFields laterIdFields
+agreed = record { one = centre; other = later-centre; kinds = refl; manufacturers = refl; mids = refl }
+
+choices : (newer centreKey laterKey ≡ theSecond) × (newer laterKey centreKey ≡ theFirst) × (newer centreKey centreKey ≡ theFirst)
+unfolding centre later-centre key-of idKmcFields laterIdFields alike later numberFrom
+choices = (newer-keys _ _ centre later-centre, newer-keys _ _ later-centre centre, newer-keys _ _ centre centre)
+
+-- ---- calls and steps
+
+called : (lent : RefT Bytes) (n place : ℕ) → (ls : List Line) × Called lent place ls × (length ls ≡ n)
+called lent zero place = ([], none, refl)
+called lent (suc n) place =
+    let l : Line = lineSaid (lineAt (now lent) place) in
+    let (ls, c, e) = called lent n (nextOf l) in
+    (l ∷ ls, more (([], tt), ((lent, (place, tt)), refl)) c, ap suc e)
+
+stepped : (n : ℕ) (before : Reader) → (said : List Line) × ((after : Reader) × Steps before said after × (length said ≡ n))
+stepped zero before = ([], (before, steps.none, refl))
+stepped (suc n) before =
+    let l : Line = lineSaid (lineAt (now (before .file)) (before .place)) in
+    let next : Reader = record { file = before .file; place = nextOf l } in
+    let (said, (after, s, e)) = stepped n next in
+    (l ∷ said, (after, steps.more (record { its-line = refl; same-file = refl; its-place = refl }) s, ap suc e))
+
+pub witnesses : Witnesses
+unfolding request requestFields fieldsOfWorked
+witnesses = record {
+  texts = texts;
+  permitted = permitted;
+  unsigned = unsigned;
+  identity-accepted = λ k t. identity-exact (recordOf k (fieldsOfWorked k)) k (fieldsOfWorked k) .1 (built-of identityKinds k (fieldsOfWorked k) t (permitted k));
+  record-accepted = λ k t. record-exact (recordOf k (fieldsOfWorked k)) k (fieldsOfWorked k) .1 (built-of recordKinds k (fieldsOfWorked k) t (permitted k));
+  builds = λ k. record { named-so = refl; lengths-so = refl; bytes-so = refl; permitted-so = permitted k; room-so = omega arith };
+  requested = built-of (REQ ∷ []) REQ requestFields tt (permitted REQ);
+  agreed = agreed;
+  second-newer = choices .0;
+  first-newer = choices .1;
+  first-when-equal = choices .2;
+  called = called;
+  stepped = stepped;
+  damaged = damaged;
+  caught = caught;
+}

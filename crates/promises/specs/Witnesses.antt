@@ -1,0 +1,53 @@
+-- Nothing is promised of nothing: for each condition that a promise makes, something that meets it. So a library that accepts nothing, or
+-- a condition that cannot be met, has no proof here. The records are those of 003 (Worked.antt).
+-- Assumes nothing.
+use Prim.Native.Nat.{ℕ}
+use mathlib.Core.Path.{_≡_}
+use mathlib.Core.Logic.{_≢_}
+use mathlib.Core.List.{List, [], _∷_}
+use lib.ListN.{length}
+use lib.Dec.{T}
+use denote.Ref.{RefT, now}
+use Rattle.text.specs.Text.{Bytes, TextType, isOf}
+use Rattle.format.specs.Kinds.{Kind, ECDSA, ECDH, REQ, name, identityKinds, recordKinds, among}
+use Rattle.format.specs.Build.{recordOf, Permitted, Built}
+use Rattle.format.specs.Read.{accepted, readIdentity, readRecord}
+use Rattle.format.specs.Damage.{Damaged}
+use Rattle.places.specs.Places.{lengths}
+use Rattle.building.specs.Building.{run, Builds}
+use Rattle.files.specs.declared.Line.{Line}
+use Rattle.files.specs.declared.Reader.{Reader}
+use Rattle.files.specs.Walk.{numberOf}
+use Rattle.files.specs.Steps.{Steps}
+use Rattle.files.proofs.line_at.Reads as line-at
+use Rattle.newer.specs.Keys.{Agreed}
+use Rattle.newer.specs.Newer.{theFirst, theSecond, newer}
+use Rattle.promises.specs.Calls.{Allows}
+use Rattle.promises.specs.Demand3.{Called}
+use Rattle.promises.specs.Worked.{fieldsOfWorked, unsignedKeyFields, centreKeyFields, centreKey, laterKey, requestFields, request, soundFile, damagedFile}
+
+pub record Witnesses : Type 0 where
+  -- every text type has a text
+  pub texts : (t : TextType) → (s : Bytes) × T (isOf t s)
+  -- every kind has a permitted list of fields, and a public key may go without Issuer and Signature
+  pub permitted : (k : Kind) → Permitted k (fieldsOfWorked k)
+  pub unsigned : Permitted ECDSA unsignedKeyFields × Permitted ECDH centreKeyFields
+  -- its record is accepted by the call that reads its kind
+  pub identity-accepted : (k : Kind) → T (among k identityKinds) → readIdentity (recordOf k (fieldsOfWorked k)) ≡ accepted k (fieldsOfWorked k)
+  pub record-accepted : (k : Kind) → T (among k recordKinds) → readRecord (recordOf k (fieldsOfWorked k)) ≡ accepted k (fieldsOfWorked k)
+  -- and is built in exact room
+  pub builds : (k : Kind) → Builds (name k) (run (fieldsOfWorked k)) (lengths (fieldsOfWorked k)) (length (recordOf k (fieldsOfWorked k))) k (fieldsOfWorked k)
+  -- there is a request for the texts
+  pub requested : Built (REQ ∷ []) request REQ requestFields
+  -- two public keys of one Subject: the second is the newer, the first is, and neither
+  pub agreed : Agreed centreKey laterKey
+  pub second-newer : newer centreKey laterKey ≡ theSecond
+  pub first-newer : newer laterKey centreKey ≡ theFirst
+  pub first-when-equal : newer centreKey centreKey ≡ theFirst
+  -- the file call can be called, and a reader stepped, as often as one likes
+  pub called : (lent : RefT Bytes) (n place : ℕ) → (ls : List Line) × Called lent place ls × (length ls ≡ n)
+  pub stepped : (n : ℕ) (before : Reader) → (said : List Line) × ((after : Reader) × Steps before said after × (length said ≡ n))
+  -- demand 3: a file that is damaged as it says, and what the file call answers of its first line before and after
+  pub damaged : Damaged soundFile damagedFile
+  pub caught : (f g : RefT Bytes) → now f ≡ soundFile → now g ≡ damagedFile → (l m : Line)
+      → Allows line-at.Post (λ κs. (f, (0, tt))) (λ κs. l) → Allows line-at.Post (λ κs. (g, (0, tt))) (λ κs. m) → (numberOf l ≡ 0) × (numberOf m ≢ 0)
