@@ -14,3 +14,4 @@ pub mod Fixed
 pub mod Permitted
 pub mod DamagedFile
 pub mod Witnesses
+pub mod Refusals

@@ -15,3 +15,4 @@ pub mod Total
 pub mod Values
 pub mod Fixed
 pub mod Witnesses
+pub mod Refusals

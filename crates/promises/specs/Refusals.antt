@@ -1,0 +1,71 @@
+-- One numbered refusal: for each call that can refuse, the numbers that it can give, and it gives no other. Document 01, "Numbers given
+-- back"; docs/CONTRACTS.md prints the same lists. A function of the C interface answers by the definition of its call (Interface.antt), so
+-- the call's list is its own.
+-- Assumes nothing.
+use Prim.Native.Nat.{ℕ}
+use mathlib.Core.List.{List, [], _∷_}
+use lib.Dec.{T}
+use denote.Ref.{now}
+use Rattle.text.specs.Text.{oneOf}
+use Rattle.files.specs.Walk.{numberOf}
+use Rattle.frame.proofs.check_no.Reads as check-no
+use Rattle.reading.proofs.read_identity.Reads as read-identity
+use Rattle.reading.proofs.read_record.Reads as read-record
+use Rattle.reading.proofs.read_of.Reads as read-of
+use Rattle.reading.proofs.judge.Reads as judge
+use Rattle.fields.proofs.identity_place.Reads as identity-place
+use Rattle.fields.proofs.record_place.Reads as record-place
+use Rattle.fields.proofs.identity_field.Reads as identity-field
+use Rattle.fields.proofs.record_field.Reads as record-field
+use Rattle.building.proofs.build.Reads as build
+use Rattle.items.proofs.item_place.Reads as item-place
+use Rattle.items.proofs.text_item.Reads as text-item
+use Rattle.agreement.proofs.shared_info.Reads as shared-info
+use Rattle.agreement.proofs.module_text.Reads as module-text
+use Rattle.agreement.proofs.centre_text.Reads as centre-text
+use Rattle.files.proofs.line_at.Reads as line-at
+use Rattle.files.proofs.step_from.Reads as step-from
+use Rattle.newer.proofs.newer_of.Reads as newer-of
+use Rattle.newer.proofs.newer.Reads as newer
+
+-- the number that `number` picks of an answer is one of ns, whatever the contract Q allows
+abbrev pub GivesOnly : {K : Type 0} {A R S : K → Type 0} → ((κs : K) → A κs → R κs → S κs → Type 0) → ((κs : K) → R κs → S κs → ℕ) → List ℕ → Type 0
+GivesOnly {K} {A} {R} {S} Q number ns = (κs : K) (a : A κs) (r : R κs) (s : S κs) → Q κs a r s → T (oneOf ns (number κs r s))
+
+-- an identity has no identity in it, and no Issuer and Signature
+abbrev pub ofIdentities : List ℕ
+ofIdentities = 0 ∷ 1 ∷ 2 ∷ 3 ∷ 4 ∷ 5 ∷ 6 ∷ []
+
+abbrev pub ofRecords : List ℕ
+ofRecords = 0 ∷ 1 ∷ 2 ∷ 3 ∷ 4 ∷ 5 ∷ 6 ∷ 7 ∷ 8 ∷ 9 ∷ []
+
+-- a request has no Issuer and Signature
+abbrev pub ofTexts : List ℕ
+ofTexts = 0 ∷ 1 ∷ 2 ∷ 3 ∷ 4 ∷ 5 ∷ 6 ∷ 7 ∷ 9 ∷ 10 ∷ []
+
+pub record Refusals : Type 0 where
+  pub check-no : GivesOnly check-no.Post (λ κs r s. r) (0 ∷ 3 ∷ 4 ∷ [])
+  -- reading
+  pub read-identity : GivesOnly read-identity.Post (λ κs r s. r .no) ofIdentities
+  pub read-record : GivesOnly read-record.Post (λ κs r s. r .no) ofRecords
+  pub read-of : GivesOnly read-of.Post (λ κs r s. r .no) ofRecords
+  pub judge : GivesOnly judge.Post (λ κs r s. r .no) (0 ∷ 2 ∷ 6 ∷ 7 ∷ 8 ∷ 9 ∷ [])
+  -- one field
+  pub identity-place : GivesOnly identity-place.Post (λ κs r s. r .no) (12 ∷ ofIdentities)
+  pub record-place : GivesOnly record-place.Post (λ κs r s. r .no) (12 ∷ ofRecords)
+  pub identity-field : GivesOnly identity-field.Post (λ κs r s. now (s .1 .1 .0)) (12 ∷ ofIdentities)
+  pub record-field : GivesOnly record-field.Post (λ κs r s. now (s .1 .1 .0)) (12 ∷ ofRecords)
+  -- building
+  pub build : GivesOnly build.Post (λ κs r s. r .no) (0 ∷ 2 ∷ 5 ∷ 6 ∷ 7 ∷ 8 ∷ 9 ∷ 10 ∷ [])
+  -- texts and their items
+  pub shared-info : GivesOnly shared-info.Post (λ κs r s. r .no) ofTexts
+  pub module-text : GivesOnly module-text.Post (λ κs r s. r .no) ofTexts
+  pub centre-text : GivesOnly centre-text.Post (λ κs r s. r .no) ofTexts
+  pub item-place : GivesOnly item-place.Post (λ κs r s. r .no) (0 ∷ 12 ∷ [])
+  pub text-item : GivesOnly text-item.Post (λ κs r s. now (s .1 .1 .0)) (0 ∷ 12 ∷ [])
+  -- files; a finished file has number 0
+  pub line-at : GivesOnly line-at.Post (λ κs r s. numberOf r) (11 ∷ ofRecords)
+  pub step-from : GivesOnly step-from.Post (λ κs r s. numberOf r) (11 ∷ ofRecords)
+  -- the newer key
+  pub newer-of : GivesOnly newer-of.Post (λ κs r s. r .no) (13 ∷ ofRecords)
+  pub newer : GivesOnly newer.Post (λ κs r s. now (s .1 .1 .0)) (13 ∷ ofRecords)
