@@ -15,7 +15,7 @@ use Rattle.format.specs.Build.{Fits, IsIdentity, Permitted, Built}
 use Rattle.format.specs.Read.{Outcome, accepted, fieldsIn, readOf}
 use Rattle.format.proofs.Table.{among-one, absent, longestOf}
 use Rattle.format.proofs.Fields.{fit-length, fit-at, field-held}
-use Rattle.format.proofs.Exactly.{identity-tame, read-exact, read-says, its-fields, its-parts, its-count}
+use Rattle.format.proofs.Exactly.{identity-tame, read-exact, read-says, its-fields, its-parts, its-few}
 use Rattle.places.specs.Places.{fieldAt}
 use Rattle.places.proofs.Stands.{record-field}
 use Rattle.reading.specs.Reading.{answerOf}
@@ -60,5 +60,5 @@ module _ (s : Bytes) (a : Answer) (e : a ≡ answerOf (readOf (REQ ∷ []) s)) (
       let r = request-read s a e z in
       let b = read-exact (REQ ∷ []) s REQ (fieldsIn REQ s) .0 r in
       record {
-        field = λ n. ap (λ (x : Answer). fieldAt s (x .starts) (x .lens) n) (e ∙ ap answerOf r) ∙ record-field REQ s (fieldsIn REQ s) (omega (arith, its-count b)) (its-parts b) n;
+        field = λ n. ap (λ (x : Answer). fieldAt s (x .starts) (x .lens) n) (e ∙ ap answerOf r) ∙ record-field REQ s (fieldsIn REQ s) (its-few b) (its-parts b) n;
       }

@@ -16,6 +16,6 @@ found (Finished place) = record { line = false; no = 0; field = 0; kind = missin
 found (Read n f k start len next) = record { line = true; no = n; field = f; kind = k; start = start; len = len; next = next }
 
 -- one step of a reader of this file: the line at its place, and afterwards the next place
-pub record Stepped (file : Bytes) (before : ℕ) (said : Found) (after : ℕ) : Type 0 where
+pub record PlaceStepped (file : Bytes) (before : ℕ) (said : Found) (after : ℕ) : Type 0 where
   pub its-line : said ≡ found (stepFrom file before)
   pub its-place : after ≡ said .next

@@ -1,11 +1,11 @@
 // An item of a text; the lines of a file; the newer of two public keys.
 ghost use mathlib.Core.Path.{_≡_};
 ghost use Rattle.format.specs.Files.{lineAt, walk};
-ghost use Rattle.items.specs.Place.{Placed};
+ghost use Rattle.items.specs.Place.{ItemPlaced};
 ghost use Rattle.files.specs.Walk.{lineSaid, totalsOf};
 ghost use Rattle.files.specs.Steps.{Begins};
 ghost use Rattle.newer.specs.Newer.{newer, choiceSaid};
-ghost use Rattle.exports.specs.Exports.{found, Stepped};
+ghost use Rattle.exports.specs.Exports.{found, PlaceStepped};
 
 // What stands at a place of a file, or that it is finished.
 #[repr(C)]
@@ -22,7 +22,7 @@ pub struct Found {
 // An item of a key agreement text, counted from 1.
 #[no_mangle]
 pub extern "C" fn obscurlane_text_item(text: &[u8], wanted: usize) -> items::Place
-    ensures { λ r. ⌜ Placed (now (text .entry)) wanted r ⌝ }
+    ensures { λ r. ⌜ ItemPlaced (now (text .entry)) wanted r ⌝ }
 {
     items::item_place(text, wanted)
 }
@@ -79,7 +79,7 @@ pub extern "C" fn obscurlane_reader_new(file: &[u8]) -> usize
 // The line at the reader's place, which goes on to the next line.
 #[no_mangle]
 pub extern "C" fn obscurlane_reader_step(file: &[u8], place: &mut usize) -> Found
-    ensures { λ r. ⌜ Stepped (now (file .entry)) (now (place .entry)) r (now (place .exit)) ⌝ }
+    ensures { λ r. ⌜ PlaceStepped (now (file .entry)) (now (place .entry)) r (now (place .exit)) ⌝ }
 {
     let step = find(files::step_from(file, *place));
     *place = step.next;

@@ -10,14 +10,16 @@ use lib.Seq.{length-take-le}
 use lib.Dec.{T, leb, leb→le}
 use mir.Facts.{and-yes}
 use borrow.Author.Tests.{le-leb, lt-leb}
+use denote.Ref.{RefT, now}
 use Rattle.text.specs.Text.{Bytes, between}
+use Rattle.text.proofs.Part.{same-part}
 use Rattle.text.proofs.Tests.{by-test, less-or, T-true, T-false}
 use Rattle.format.specs.Kinds.{Kind, name, mark, fieldsOf, identityKinds}
 use Rattle.format.specs.Build.{joined, Built}
 use Rattle.format.specs.Read.{Outcome, accepted, refused, place}
 use Rattle.format.proofs.Outcomes.{Honest}
-use Rattle.format.proofs.Exactly.{identity-says, read-says, its-parts, its-count}
-use Rattle.table.specs.Table.{rowOf, countOf}
+use Rattle.format.proofs.Exactly.{identity-says, read-says, its-parts, its-count, its-few}
+use Rattle.table.specs.Table.{countOf}
 use Rattle.table.proofs.Rows.{of-kind}
 use Rattle.table.proofs.Arrays.{count-few}
 use Rattle.places.specs.Places.{startsOf, lensOf}
@@ -75,6 +77,14 @@ outside fs (suc w) h =
     (λ l. absurd (rw (le-leb 1 (suc w) (omega arith), le-leb (suc w) (length fs) l) at h))
     (λ l. sym (List·getD-eq-default fs [] l))
 
+pub nowhere : (o : Outcome) (wanted : ℕ) → (wantedNo o wanted ≡ 0 → ⊥) → (0 ≡ wantedStart o wanted) × ([] ≡ wantedPart o wanted)
+unfolding wantedNo wantedPart wantedStart
+nowhere (accepted k fs) wanted n =
+    by-test (between 1 (length fs) wanted)
+    (λ t. absurd (n (rw (T-true (between 1 (length fs) wanted) t))))
+    (λ t. (rw (T-false (between 1 (length fs) wanted) t), outside fs wanted t))
+nowhere (refused m i) wanted n = (refl, refl)
+
 module _ (s : Bytes) (wanted : ℕ) where
   placed : (o : Outcome) (n f start len : ℕ) → n ≡ wantedNo o wanted → f ≡ place o → start ≡ wantedStart o wanted
       → start + len ≤ length s → take len (drop start s) ≡ wantedPart o wanted
@@ -83,19 +93,8 @@ module _ (s : Bytes) (wanted : ℕ) where
       let l : len ≡ length (wantedPart o wanted) = sym (length-take-le len (drop start s) (omega (arith, length-drop start s))) ∙ ap length e in
       record { said = cc; inside = h; bytes = e }
 
-  nowhere : (o : Outcome) → (wantedNo o wanted ≡ 0 → ⊥) → (0 ≡ wantedStart o wanted) × ([] ≡ wantedPart o wanted)
-  unfolding wantedNo wantedPart wantedStart
-  nowhere (accepted k fs) n =
-      by-test (between 1 (length fs) wanted)
-      (λ t. absurd (n (rw (T-true (between 1 (length fs) wanted) t))))
-      (λ t. (rw (T-false (between 1 (length fs) wanted) t), outside fs wanted t))
-  nowhere (refused m i) n = (refl, refl)
-
   -- a field of an accepted record
   module _ (ks : List Kind) (k : Kind) (fs : List Bytes) (b : Built ks s k fs) where
-    few : length fs ≤ 7
-    few = omega (arith, its-count b, of-kind (λ j. length (fieldsOf j)) 0 k, count-few (rowOf k))
-
     record Here (v : ℕ) : Type 0 where
       start : getD (startsOf k fs) (v - 1) 0 ≡ length (joined (mark k) (take v (name k ∷ fs)))
       within : getD (startsOf k fs) (v - 1) 0 + getD (lensOf fs) (v - 1) 0 ≤ length s
@@ -106,8 +105,8 @@ module _ (s : Bytes) (wanted : ℕ) where
     here (suc v) h =
         let e : suc v - 1 ≡ v = omega arith in
         let l : v < length fs = omega (arith, leb→le (suc v) (length fs) (and-yes (leb 1 (suc v)) (leb (suc v) (length fs)) h .1)) in
-        let place = record-place k s fs few (its-parts b) v in
-        record { start = rw e (record-start k s fs few (its-parts b) v l); within = rw e (place .0); bytes = rw e (place .1) }
+        let place = record-place k s fs (its-few b) (its-parts b) v in
+        record { start = rw e (record-start k s fs (its-few b) (its-parts b) v l); within = rw e (place .0); bytes = rw e (place .1) }
 
   there-said : (o : Outcome) (ks : List Kind) → Honest (Built ks s) o → (a : Answer) → a ≡ answerOf o → wantedNo o wanted ≡ 0 → (i n : ℕ)
       → i ≡ getD (a .starts) (wanted - 1) 0 → n ≡ getD (a .lens) (wanted - 1) 0
@@ -126,7 +125,7 @@ module _ (s : Bytes) (wanted : ℕ) where
 
   module _ (o : Outcome) (r : Reads s o) (a : Answer) (q : a ≡ answerOf o) (n : ℕ) (e : n ≡ wantedNo o wanted) where
     pub place-none : (n ≡ 0 → ⊥) → Placed o wanted s (record { no = n; field = a .field; start = 0; len = 0 })
-    place-none z = let h = nowhere o (λ (y : wantedNo o wanted ≡ 0). z (e ∙ y)) in placed o n (a .field) 0 0 e (told o a q .1) (h .0) (omega arith) (h .1)
+    place-none z = let h = nowhere o wanted (λ (y : wantedNo o wanted ≡ 0). z (e ∙ y)) in placed o n (a .field) 0 0 e (told o a q .1) (h .0) (omega arith) (h .1)
 
     -- i and l are the start and the length as the code has them
     pub place-there : n ≡ 0 → (i l : ℕ) → i ≡ getD (a .starts) (wanted - 1) 0 → l ≡ getD (a .lens) (wanted - 1) 0 → Placed o wanted s (record { no = n; field = a .field; start = i; len = l })
@@ -134,5 +133,5 @@ module _ (s : Bytes) (wanted : ℕ) where
 
 -- ---- the part at a place
 
-pub field-said : {o : Outcome} {wanted : ℕ} {s part : Bytes} {no field : ℕ} {at : Place} → Placed o wanted s at → Handed at s part no field → FieldSaid o wanted part no field
-field-said p h = record { its-part = h .its-part ∙ p .bytes; its-no = h .its-no ∙ ap (λ (x : Place). x .no) (p .said); its-field = h .its-field ∙ ap (λ (x : Place). x .field) (p .said) }
+pub field-said : {o : Outcome} {wanted : ℕ} {s r : RefT Bytes} {no field : ℕ} {at : Place} → Placed o wanted (now s) at → Handed at s r no field → FieldSaid o wanted s r no field
+field-said p h = record { its-part = same-part (ap (λ (x : Place). x .start) (p .said)) (p .bytes) (h .its-part); its-no = h .its-no ∙ ap (λ (x : Place). x .no) (p .said); its-field = h .its-field ∙ ap (λ (x : Place). x .field) (p .said) }

@@ -4,11 +4,13 @@
 use Prim.Native.Nat.{ℕ, _+_, _≤_}
 use mathlib.Core.Path.{_≡_}
 use mathlib.Core.Bool.{cond}
-use mathlib.Core.List.{[], _∷_}
+use mathlib.Core.List.{List, [], _∷_}
 use lib.ListN.{length, take, drop, getD}
+use denote.Ref.{RefT}
 use Rattle.text.specs.Text.{Bytes, between}
+use Rattle.text.specs.Part.{Part}
 use Rattle.numbers.specs.Numbers.{missingItem}
-use Rattle.format.specs.Kinds.{name, mark}
+use Rattle.format.specs.Kinds.{Kind, name, mark}
 use Rattle.format.specs.Build.{joined}
 use Rattle.format.specs.Read.{Outcome, accepted, refused, place}
 use Rattle.fields.specs.declared.Place.{Place}
@@ -23,18 +25,23 @@ unfoldable pub wantedNo : Outcome → ℕ → ℕ
 wantedNo (accepted k fs) wanted = cond (between 1 (length fs) wanted) 0 missingItem
 wantedNo (refused n i) wanted = n
 
--- what such a call says where reading says o
-pub record FieldSaid (o : Outcome) (wanted : ℕ) (part : Bytes) (no field : ℕ) : Type 0 where
-  pub its-part : part ≡ wantedPart o wanted
+-- where field n, from 1, of the fields fs stands: behind the kind's name and the fields before it, each with its mark, as the build
+-- rules write them
+abbrev pub startIn : Kind → List Bytes → ℕ → ℕ
+startIn k fs n = length (joined (mark k) (take n (name k ∷ fs)))
+
+-- where the field stands; at the front with a refusal
+unfoldable pub wantedStart : Outcome → ℕ → ℕ
+wantedStart (accepted k fs) wanted = cond (between 1 (length fs) wanted) (startIn k fs wanted) 0
+wantedStart (refused n i) wanted = 0
+
+-- what a call says that was lent s, where reading says o: a field as the part r of s that stands there
+pub record FieldSaid (o : Outcome) (wanted : ℕ) (s r : RefT Bytes) (no field : ℕ) : Type 0 where
+  pub its-part : Part s (wantedStart o wanted) (wantedPart o wanted) r
   pub its-no : no ≡ wantedNo o wanted
   pub its-field : field ≡ place o
 
--- where the field stands: behind the kind's name and the fields before it, each with its mark, as the build rules write them
-unfoldable pub wantedStart : Outcome → ℕ → ℕ
-wantedStart (accepted k fs) wanted = cond (between 1 (length fs) wanted) (length (joined (mark k) (take wanted (name k ∷ fs)))) 0
-wantedStart (refused n i) wanted = 0
-
--- what a call says that hands a field of s back as start and length; the field is what stands there
+-- a field of s as start and length; the field is what stands there
 abbrev pub placeSaid : Outcome → ℕ → Place
 placeSaid o wanted = record { no = wantedNo o wanted; field = place o; start = wantedStart o wanted; len = length (wantedPart o wanted) }
 

@@ -83,7 +83,7 @@ pub fn record_place(record: &[u8], wanted: usize) -> Place
 // The part of s at this place, and the place's numbers.
 fn part_at<'a>(place: Place, s: &'a [u8], no: &mut u8, field: &mut u8) -> &'a [u8]
     requires { ⌜ place .start + place .len ≤ length (now s) ⌝ }
-    ensures { λ r. ⌜ Handed place (now (s .entry)) (now r) (now (no .exit)) (now (field .exit)) ⌝ }
+    ensures { λ r. ⌜ Handed place (s .entry) r (now (no .exit)) (now (field .exit)) ⌝ }
 {
     *no = place.no;
     *field = place.field;
@@ -92,14 +92,14 @@ fn part_at<'a>(place: Place, s: &'a [u8], no: &mut u8, field: &mut u8) -> &'a [u
     &s[start..end]
 }
 
-// The field that stands there, as a part of the caller's own bytes; with a refusal an empty one.
+// The field that stands there, as a part of the caller's own bytes; with a refusal an empty one, at their front.
 pub fn identity_field<'a>(
     identity: &'a [u8],
     wanted: usize,
     no: &mut u8,
     field: &mut u8,
 ) -> &'a [u8]
-    ensures { λ r. ⌜ FieldSaid (readIdentity (now (identity .entry))) wanted (now r) (now (no .exit)) (now (field .exit)) ⌝ }
+    ensures { λ r. ⌜ FieldSaid (readIdentity (now (identity .entry))) wanted (identity .entry) r (now (no .exit)) (now (field .exit)) ⌝ }
 {
     part_at(identity_place(identity, wanted), identity, no, field)
 }
@@ -113,14 +113,14 @@ fn field_of<'a>(
     no: &mut u8,
     field: &mut u8,
 ) -> &'a [u8]
-    ensures { λ r. ⌜ FieldSaid (readOf (kindsFrom from to) (now («record» .entry))) wanted (now r) (now (no .exit)) (now (field .exit)) ⌝ }
+    ensures { λ r. ⌜ FieldSaid (readOf (kindsFrom from to) (now («record» .entry))) wanted («record» .entry) r (now (no .exit)) (now (field .exit)) ⌝ }
 {
     part_at(place_of(from, to, record, wanted), record, no, field)
 }
 
 // The same of a record of any of the four record kinds.
 pub fn record_field<'a>(record: &'a [u8], wanted: usize, no: &mut u8, field: &mut u8) -> &'a [u8]
-    ensures { λ r. ⌜ FieldSaid (readRecord (now («record» .entry))) wanted (now r) (now (no .exit)) (now (field .exit)) ⌝ }
+    ensures { λ r. ⌜ FieldSaid (readRecord (now («record» .entry))) wanted («record» .entry) r (now (no .exit)) (now (field .exit)) ⌝ }
 {
     field_of(table::ECDSA, table::ROWS, record, wanted, no, field)
 }

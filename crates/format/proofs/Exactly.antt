@@ -22,7 +22,7 @@ use Rattle.numbers.specs.Numbers.{tooLong, missingCheck, wrongCheck, wrongCount
 use Rattle.format.specs.Kinds.{Kind, Field, name, mark, fieldsOf, identityFields, identityKinds, recordKinds, pubkeyKinds, among}
 use Rattle.format.specs.Build.{WithoutAll, recordOf, empty, Fits, FitAll, PermittedOver, BuiltOver, NeverIdentity, IsIdentity, Permitted, Built}
 use Rattle.format.specs.Read.{Outcome, accepted, answer, title, markAfter, kindIn, body, check, endsIn, checkNo, cut, fieldsIn, judged, readAs, readOver, nobody, readIdentity, readOf, readRecord}
-use Rattle.format.proofs.Table.{name-inj, All, kindIn-some, kindIn-known, longestRecord, record-room, identity-row, pubkey-row}
+use Rattle.format.proofs.Table.{name-inj, All, kindIn-some, kindIn-known, longestRecord, record-room, identity-row, pubkey-row, seven-fields}
 use Rattle.format.proofs.Parts.{record-length, ends-last, built-title, built-ends, built-check, built-parts, record-without, found-built}
 use Rattle.format.proofs.Outcomes.{never, provided-law, passing-law, ofKind-law, Honest, honest-map, honest-zero}
 use Rattle.format.proofs.Fields.{fit-length, Exact, fits-judged, judged-law, Tame, fields-held, record-held}
@@ -196,6 +196,9 @@ module _ {ks : List Kind} {s : Bytes} {k : Kind} {fs : List Bytes} (b : Built ks
 
   pub its-count : length fs ≡ length (fieldsOf k)
   its-count = fit-length IsIdentity (fieldsOf k) fs (b .permitted .fit)
+
+  pub its-few : length fs ≤ 7
+  its-few = omega (arith, its-count, seven-fields k)
 
 pub built-unique : (s : Bytes) (j k : Kind) (fs gs : List Bytes) → Permitted j fs → Permitted k gs → s ≡ recordOf j fs → s ≡ recordOf k gs
     → (j ≡ k) × (fs ≡ gs)

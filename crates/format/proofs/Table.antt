@@ -76,6 +76,11 @@ kindIn-known (j ∷ ks) k h =
     rw (T-true (same (name k) (name j)) t, T-true (eqb (mark k) (mark j)) (yes-eqb (ap mark e))) (ap {B = Option Kind} some (sym e)))
     (λ t. let e = T-false (same (name k) (name j)) t in rw e (kindIn-known ks k (rw e at h)))
 
+-- ---- no kind has more than seven fields
+
+pub seven-fields : (k : Kind) → length (fieldsOf k) ≤ 7
+seven-fields k = leb→le (length (fieldsOf k)) 7 (every-kind (λ j. leb (length (fieldsOf j)) 7) tt k)
+
 -- ---- marks and names
 
 pub mark-is-mark : (k : Kind) → T (isMark (mark k))

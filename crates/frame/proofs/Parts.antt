@@ -10,7 +10,7 @@ use native.Mathlib.Nat.{add-zero}
 use lib.ListN.{length, take, drop, getD, drop-of-length-le, length-append, length-take, length-drop, take-append-drop, List·getD-eq-default}
 use lib.Seq.{take-all, length-take-le, take-append-le, drop-append-le, drop-cons, drop-drop, getD-drop}
 use lib.Dec.{eqb}
-use borrow.Author.Tests.{eq-eqb, ne-eqb}
+use borrow.Author.Tests.{eq-eqb, ne-eqb, lt-ltb, le-ltb}
 use Rattle.text.specs.Text.{Bytes}
 use Rattle.text.proofs.Tests.{less-or}
 use Rattle.format.specs.Kinds.{Kind, mark}
@@ -18,7 +18,7 @@ use Rattle.format.specs.Build.{joined}
 use Rattle.format.specs.Read.{body, check, cut, onFirst, fieldsIn}
 use Rattle.format.specs.Files.{upTo}
 use Rattle.format.proofs.Lines.{take-upTo}
-use Rattle.frame.specs.Frame.{nextMark, partStart, partOf}
+use Rattle.frame.specs.Frame.{nextMark, partStart, partPlace, partOf}
 
 -- ---- the next mark
 
@@ -150,27 +150,34 @@ module _ (m : ℕ) (s : Bytes) where
       (λ l. absurd (omega (arith, walk-on m s all _ (walk-to all (omega arith)) l _ refl .many)))
       (λ l. l))
 
-  -- i is the start of part n as the code has it
-  pub part-there : (n i : ℕ) → i ≡ partStart m s n → i < length s → (e : ℕ) → e ≡ nextMark m s i → take (e - i) (drop i s) ≡ partOf m s n
-  part-there n i q h =
-      walk-part m s n i
-      (less-or (length (cut m s)) n
-      (λ l. absurd (omega (arith, q, walk-past n (omega arith))))
-      (λ l. rw q (walk-to n l)))
-      h
-
-  -- a part that is there starts within the bytes
+  -- a part that is there starts within the bytes, and what would start within them is there
   pub start-within : (n : ℕ) → n < length (cut m s) → partStart m s n < length s
   start-within n h =
       less-or (partStart m s n) (length s) (λ l. l) (λ l. absurd (omega (arith, walk-done m s n _ (walk-to n (omega arith)) l)))
 
-  -- none where part n would start at the end or behind it
-  pub part-none : (n i : ℕ) → i ≡ partStart m s n → length s ≤ i → [] ≡ partOf m s n
-  unfolding partOf
-  part-none n i q h =
-      less-or n (length (cut m s))
-      (λ l. absurd (omega (arith, q, start-within n l)))
-      (λ l. sym (List·getD-eq-default (cut m s) [] {n = n} l))
+  -- i is the start of part n as the code has it
+  module _ (n i : ℕ) (q : i ≡ partStart m s n) where
+    is-there : i < length s → n < length (cut m s)
+    is-there h = less-or n (length (cut m s)) (λ l. l) (λ l. absurd (omega (arith, q, walk-past n l)))
+
+    is-not : length s ≤ i → length (cut m s) ≤ n
+    is-not h = less-or n (length (cut m s)) (λ l. absurd (omega (arith, q, start-within n l))) (λ l. l)
+
+    pub part-there : i < length s → (e : ℕ) → e ≡ nextMark m s i → take (e - i) (drop i s) ≡ partOf m s n
+    part-there h = walk-part m s n i (rw q (walk-to n (omega (arith, is-there h)))) h
+
+    pub place-there : i < length s → i ≡ partPlace m s n
+    unfolding partPlace
+    place-there h = q ∙ rw (lt-ltb n (length (cut m s)) (is-there h))
+
+    -- none where part n would start at the end or behind it
+    pub part-none : length s ≤ i → [] ≡ partOf m s n
+    unfolding partOf
+    part-none h = sym (List·getD-eq-default (cut m s) [] {n = n} (is-not h))
+
+    pub place-none : length s ≤ i → 0 ≡ partPlace m s n
+    unfolding partPlace
+    place-none h = rw (le-ltb n (length (cut m s)) (is-not h))
 
 -- ---- the fields of a record are the parts of its body from part 1 on: part 0 is the kind's name
 

@@ -3,8 +3,9 @@
 ghost use mathlib.Core.Path.{_≡_};
 ghost use Prim.Native.Nat.{_-_};
 ghost use lib.ListN.{length};
+ghost use Rattle.text.specs.Part.{Part};
 ghost use Rattle.format.specs.Read.{isMark, title, markAfter, body, check, endsIn, checkNo};
-ghost use Rattle.frame.specs.Frame.{nextMark, partStart, partOf};
+ghost use Rattle.frame.specs.Frame.{nextMark, partStart, IsPart};
 
 const CHECK_LENGTH: usize = 4;
 
@@ -35,7 +36,7 @@ fn title_length(s: &[u8]) -> usize
 
 // What stands before the first mark of either sort, and all if there is none.
 pub fn title_of<'a>(s: &'a [u8]) -> &'a [u8]
-    ensures { λ r. ⌜ now r ≡ title (now (s .entry)) ⌝ }
+    ensures { λ r. ⌜ Part (s .entry) 0 (title (now (s .entry))) r ⌝ }
 {
     let at = title_length(s);
     &s[0..at]
@@ -85,10 +86,10 @@ fn part_start(mark: u8, s: &[u8], n: usize) -> usize
     i
 }
 
-// Part n, from 0, and an empty one if there is none. Part 0 of a body is the kind's name, so a field's number is its
+// Part n, from 0, and an empty one at the front if there is none. Part 0 of a body is the kind's name, so a field's number is its
 // part's.
 pub fn part<'a>(mark: u8, s: &'a [u8], n: usize) -> &'a [u8]
-    ensures { λ r. ⌜ now r ≡ partOf mark (now (s .entry)) n ⌝ }
+    ensures { λ r. ⌜ IsPart mark (s .entry) n r ⌝ }
 {
     let start = part_start(mark, s, n);
     if s.len() <= start {
@@ -111,7 +112,7 @@ fn body_length(s: &[u8]) -> usize
 
 // All but the last four bytes.
 pub fn body_of<'a>(s: &'a [u8]) -> &'a [u8]
-    ensures { λ r. ⌜ now r ≡ body (now (s .entry)) ⌝ }
+    ensures { λ r. ⌜ Part (s .entry) 0 (body (now (s .entry))) r ⌝ }
 {
     let end = body_length(s);
     &s[0..end]

@@ -13,7 +13,7 @@ use mir.Facts.{yes-and}
 use Rattle.text.specs.Text.{Bytes}
 use Rattle.text.proofs.Tests.{by-test, cond-yes, cond-no}
 use Rattle.text.proofs.Hexadecimal.{AreBytes}
-use Rattle.items.specs.Items.{lvItems, lvConcat, shortItems, concats, after, itemsIn, itemsOf, nth, nthOf, textItem}
+use Rattle.items.specs.Items.{lvItems, lvConcat, shortItems, concats, itemBefore, itemsIn, itemsOf, nth, nthOf, textItem}
 
 -- ---- what is built is read
 
@@ -21,8 +21,8 @@ pub items-back : (is : List Bytes) → itemsIn (length is) (lvItems is) ≡ some
 items-back [] = refl
 items-back (i ∷ is) =
     cond-yes (leb (length i) (length (i ++ lvItems is))) _ _ (le→leb (length i) (length (i ++ lvItems is)) (omega (arith, length-append i (lvItems is))))
-    ∙ ap₂ (λ (t r : Bytes). after t (itemsIn (length is) r)) (take-append-seam i (lvItems is)) (drop-append-seam i (lvItems is))
-    ∙ ap (after i) (items-back is)
+    ∙ ap₂ (λ (t r : Bytes). itemBefore t (itemsIn (length is) r)) (take-append-seam i (lvItems is)) (drop-append-seam i (lvItems is))
+    ∙ ap (itemBefore i) (items-back is)
 
 -- one-to-one
 pub concat-inj : (is js : List Bytes) → lvConcat is ≡ lvConcat js → is ≡ js
@@ -32,7 +32,7 @@ concat-inj is js e =
 
 -- ---- what is read was built
 
-after-some : (t : Bytes) (o : Option (List Bytes)) (is : List Bytes) → after t o ≡ some is → (js : List Bytes) × (o ≡ some js) × (is ≡ t ∷ js)
+after-some : (t : Bytes) (o : Option (List Bytes)) (is : List Bytes) → itemBefore t o ≡ some is → (js : List Bytes) × (o ≡ some js) × (is ≡ t ∷ js)
 after-some t none is e = absurd (Option·none-ne-some is e)
 after-some t (some js) is e = (js, refl, cc)
 

@@ -11,27 +11,27 @@ use lib.Dec.{leb}
 use lib.ListN.{length, take, drop, getD, length-drop, drop-of-length-le}
 use lib.Seq.{drop-cons, drop-drop, length-take-le}
 use borrow.Author.Tests.{le-leb, lt-leb}
+use denote.Ref.{RefT, now}
 use Rattle.text.specs.Text.{Bytes}
+use Rattle.text.specs.Part.{Part}
 use Rattle.text.proofs.Tests.{less-or}
-use Rattle.items.specs.Items.{after, itemsIn, itemsOf, nthOf, textItem, numberOf, Handed}
-use Rattle.items.specs.Place.{behind, nowhere, placeFrom, Placed}
+use Rattle.text.proofs.Part.{same-part}
+use Rattle.items.specs.Items.{itemBefore, itemsIn, itemsOf, nthOf, textItem}
+use Rattle.items.specs.Place.{behind, nowhere, ItemPlaced, ItemHanded}
 use Rattle.items.specs.declared.Place.{Place}
 
 -- ---- the answer
 
-pub placed-none : {s : Bytes} {w : ℕ} (r : Place) → r ≡ nowhere → textItem s w ≡ none → Placed s w r
-placed-none {s} {w} r q e = subst (Placed s w) (sym q) (record { said = rw e; inside = omega arith; bytes = rw e })
+pub placed-none : {s : Bytes} {w : ℕ} (r : Place) → r ≡ nowhere → textItem s w ≡ none → ItemPlaced s w r
+placed-none {s} {w} r q e = subst (ItemPlaced s w) (sym q) (record { said = rw e; inside = omega arith; bytes = rw e })
 
-pub handed : {s : Bytes} {w : ℕ} (r : Place) → Placed s w r
-    → Handed (textItem s w) (take (r .start + r .len - r .start) (drop (r .start) s)) (r .no)
-handed {s} {w} r h = record {
-  part-so = rw (let e : r .start + r .len - r .start ≡ r .len = omega arith in e) (h .bytes);
-  number-so = ap (λ (x : Place). x .no) (h .said) ∙ go _ (textItem s w);
+-- the part as the code cuts it
+pub handed : {text r : RefT Bytes} {w : ℕ} (at : Place) → ItemPlaced (now text) w at
+    → Part text (at .start) (take (at .start + at .len - at .start) (drop (at .start) (now text))) r → ItemHanded text w r (at .no)
+handed at h p = record {
+  part-so = same-part (ap (λ (x : Place). x .start) (h .said)) (rw (let e : at .start + at .len - at .start ≡ at .len = omega arith in e) (h .bytes)) p;
+  number-so = ap (λ (x : Place). x .no) (h .said);
 }
-  where
-    go : (p : ℕ) (o : Option Bytes) → placeFrom p o .no ≡ numberOf o
-    go p none = refl
-    go p (some i) = refl
 
 -- ---- the walk
 
@@ -79,15 +79,15 @@ walked-none (n ∷ s) w h z = record {
   late = λ k. absurd (omega (arith, z));
 }
 
-nth-later : (m : ℕ) (x : Bytes) (o : Option (List Bytes)) → nthOf (suc (suc m)) (after x o) ≡ nthOf (suc m) o
+nth-later : (m : ℕ) (x : Bytes) (o : Option (List Bytes)) → nthOf (suc (suc m)) (itemBefore x o) ≡ nthOf (suc m) o
 nth-later m x none = refl
 nth-later m x (some is) = refl
 
-nth-here : (x : Bytes) (o : Option (List Bytes)) → nthOf 1 (after x o) ≡ given x o
+nth-here : (x : Bytes) (o : Option (List Bytes)) → nthOf 1 (itemBefore x o) ≡ given x o
 nth-here x none = refl
 nth-here x (some is) = refl
 
-given-after : (x y : Bytes) (o : Option (List Bytes)) → given x (after y o) ≡ given x o
+given-after : (x y : Bytes) (o : Option (List Bytes)) → given x (itemBefore y o) ≡ given x o
 given-after x y none = refl
 given-after x y (some is) = refl
 
@@ -98,7 +98,7 @@ nth-none (suc (suc m)) = refl
 
 -- one item more, of which the length stands at place p
 item-at : (s : Bytes) (k m p : ℕ) → k ≡ suc m → p < length s
-    → itemsIn k (drop p s) ≡ cond (leb (getD s p 0) (length (drop (p + 1) s))) (after (take (getD s p 0) (drop (p + 1) s)) (itemsIn m (drop (p + 1 + getD s p 0) s))) none
+    → itemsIn k (drop p s) ≡ cond (leb (getD s p 0) (length (drop (p + 1) s))) (itemBefore (take (getD s p 0) (drop (p + 1) s)) (itemsIn m (drop (p + 1 + getD s p 0) s))) none
 item-at s k m p e h = rw (e, drop-cons s p 0 h, add-one, drop-drop)
 
 module _ {s : Bytes} {w n i p f : ℕ} (d : Walked s w n i p f) where
@@ -122,14 +122,14 @@ module _ {s : Bytes} {w n i p f : ℕ} (d : Walked s w n i p f) where
   pub too-few : n ≤ i → length s ≤ p → n < w → textItem s w ≡ none
   too-few h k z = d .early (omega arith) ∙ rw (last h k) (nth-none (w - i))
 
-  pub found : n ≤ i → length s ≤ p → w ≤ n → Placed s w (record { no = 0; start = f + 1; len = getD s f 0 })
+  pub found : n ≤ i → length s ≤ p → w ≤ n → ItemPlaced s w (record { no = 0; start = f + 1; len = getD s f 0 })
   found h k z =
       let x : textItem s w ≡ some (take (getD s f 0) (drop (f + 1) s)) = d .late (omega arith) ∙ rw (last h k) in
       let l = length-take-le (getD s f 0) (drop (f + 1) s) (omega (arith, d .end (omega arith), length-drop (f + 1) s)) in
       record { said = rw (x, l, d .there (omega arith)); inside = d .end (omega arith); bytes = rw x }
 
   module _ (h : i < n) (k : p < length s) (y : getD s p 0 ≤ length s - (p + 1)) where
-    passed : itemsIn (n - i) (drop p s) ≡ after (take (getD s p 0) (drop (p + 1) s)) (itemsIn (n - (i + 1)) (drop (p + 1 + getD s p 0) s))
+    passed : itemsIn (n - i) (drop p s) ≡ itemBefore (take (getD s p 0) (drop (p + 1) s)) (itemsIn (n - (i + 1)) (drop (p + 1 + getD s p 0) s))
     passed =
         item-at s (n - i) (n - (i + 1)) p (omega arith) k ∙ rw (le-leb (getD s p 0) (length (drop (p + 1) s)) (omega (arith, length-drop (p + 1) s)))
 

@@ -1,13 +1,11 @@
 -- Key agreement texts as lists of items: STS 600-4-2, clause 5.6 (LVCONCAT); document 01, "Key agreement texts", number 12.
 -- Assumes nothing.
 use Prim.Native.Nat.{ℕ, zero, suc}
-use mathlib.Core.Path.{_≡_}
 use mathlib.Core.Option.{Option, none, some}
 use mathlib.Core.Bool.{Bool, true, cond, _&&_}
 use mathlib.Core.List.{List, [], _∷_, _++_}
 use lib.ListN.{length, take, drop}
 use lib.Dec.{leb}
-use Rattle.numbers.specs.Numbers.{missingItem}
 use Rattle.text.specs.Text.{Bytes}
 
 -- ---- building
@@ -31,16 +29,17 @@ concats is = leb (length is) 255 && shortItems is
 
 -- ---- reading
 
-abbrev pub after : Bytes → Option (List Bytes) → Option (List Bytes)
-after i none = none
-after i (some is) = some (i ∷ is)
+-- an item and those behind it, if these are items
+abbrev pub itemBefore : Bytes → Option (List Bytes) → Option (List Bytes)
+itemBefore i none = none
+itemBefore i (some is) = some (i ∷ is)
 
 -- n items, and nothing behind the last
 abbrev pub itemsIn : ℕ → Bytes → Option (List Bytes)
 itemsIn zero [] = some []
 itemsIn zero (c ∷ s) = none
 itemsIn (suc n) [] = none
-itemsIn (suc n) (l ∷ s) = cond (leb l (length s)) (after (take l s) (itemsIn n (drop l s))) none
+itemsIn (suc n) (l ∷ s) = cond (leb l (length s)) (itemBefore (take l s) (itemsIn n (drop l s))) none
 
 abbrev pub itemsOf : Bytes → Option (List Bytes)
 itemsOf [] = none
@@ -60,16 +59,7 @@ nthOf n (some is) = nth n is
 unfoldable pub textItem : Bytes → ℕ → Option Bytes
 textItem s n = nthOf n (itemsOf s)
 
--- ---- the call: an item and 0, or nothing and 12
-
-abbrev pub partOf : Option Bytes → Bytes
-partOf none = []
-partOf (some i) = i
-
-abbrev pub numberOf : Option Bytes → ℕ
-numberOf none = missingItem
-numberOf (some i) = 0
-
-pub record Handed (o : Option Bytes) (part : Bytes) (no : ℕ) : Type 0 where
-  pub part-so : part ≡ partOf o
-  pub number-so : no ≡ numberOf o
+-- the item handed back; empty where there is none
+abbrev pub itemBytes : Option Bytes → Bytes
+itemBytes none = []
+itemBytes (some i) = i

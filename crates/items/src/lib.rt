@@ -1,7 +1,6 @@
 // Key agreement texts as lists of items (STS 600-4-2, clause 5.6): the number of items, then of each its length and its bytes.
 ghost use mathlib.Core.Path.{_≡_};
-ghost use Rattle.items.specs.Items.{textItem, Handed};
-ghost use Rattle.items.specs.Place.{nowhere, Placed};
+ghost use Rattle.items.specs.Place.{nowhere, ItemPlaced, ItemHanded};
 
 // Where an item stands in its text: number 0, its start and its length. With number 12: nowhere, both 0.
 #[repr(C)]
@@ -24,7 +23,7 @@ fn missing() -> Place
 // The place of the item of a wanted number, counted from 1, for callers that cannot take a part of the text.
 // Walks over all items, so that a text that is too short or too long is found out whichever item is wanted.
 pub fn item_place(text: &[u8], wanted: usize) -> Place
-    ensures { λ r. ⌜ Placed (now (text .entry)) wanted r ⌝ }
+    ensures { λ r. ⌜ ItemPlaced (now (text .entry)) wanted r ⌝ }
 {
     if text.len() == 0 {
         return missing();
@@ -69,9 +68,9 @@ pub fn item_place(text: &[u8], wanted: usize) -> Place
 }
 
 // The item of a wanted number, counted from 1, as a part of the text, with number 0. Where the bytes have not the form of a
-// text, or the number is not among its items: an empty part, and 12. There is no limit of length.
+// text, or the number is not among its items: an empty part at its front, and 12. There is no limit of length.
 pub fn text_item<'a>(text: &'a [u8], wanted: usize, no: &mut u8) -> &'a [u8]
-    ensures { λ r. ⌜ Handed (textItem (now (text .entry)) wanted) (now r) (now (no .exit)) ⌝ }
+    ensures { λ r. ⌜ ItemHanded (text .entry) wanted r (now (no .exit)) ⌝ }
 {
     let place = item_place(text, wanted);
     let start = place.start;

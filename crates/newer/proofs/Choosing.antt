@@ -2,10 +2,12 @@
 -- Assumes nothing.
 use mathlib.Core.Path.{_≡_, refl, sym, ap, _∙_}
 use mathlib.Core.Bool.{Bool, true, false, cond}
-use mathlib.Core.List.{List, []}
+use mathlib.Core.List.{List}
 use native.Mathlib.Omega.{arith}
 use lib.Dec.{T}
+use denote.Ref.{RefT, now}
 use Rattle.text.specs.Text.{Bytes}
+use Rattle.text.specs.Part.{NoPart}
 use Rattle.text.proofs.Tests.{by-test, cond-yes, cond-no}
 use Rattle.text.specs.Later.{after, later}
 use Rattle.text.proofs.Types.{timestamp-looks}
@@ -21,7 +23,7 @@ use Rattle.reading.specs.declared.Answer.{Answer}
 use Rattle.reading.proofs.Answers.{Taken, taken, untaken}
 use Rattle.subjects.specs.Subjects.{alike, identityPart, areAlike}
 use Rattle.subjects.proofs.Subjects.{identity-field, identity-gnt, alike-identities}
-use Rattle.newer.specs.Newer.{Decision, theFirst, theSecond, denied, subject, bySubjects, byRecords, newer, choiceNo, choiceWhich, choiceSaid, choicePart, Chosen}
+use Rattle.newer.specs.Newer.{Decision, theFirst, theSecond, denied, subject, bySubjects, byRecords, newer, choiceNo, choiceWhich, choiceSaid, IsChosen, Chosen}
 use Rattle.newer.specs.declared.Choice.{Choice}
 use Rattle.newer.specs.Keys.{Key, gntOf}
 use Rattle.newer.specs.Steps.{Named}
@@ -139,33 +141,44 @@ module _ (a b : Bytes) where
     one-of-two : (l : Bool) × (newer a b ≡ cond l theSecond theFirst)
     one-of-two = (later (gntOf (chosen-keys .1)) (gntOf (chosen-keys .0)), chosen-later (chosen-keys .0) (chosen-keys .1))
 
-  -- ---- the part handed back
+  -- ---- which of the two it is, as the code tells it
 
-  chosen : (c : Decision) (r : Choice) → r ≡ choiceSaid c → Chosen c a b (choicePart c a b) (r .no) (r .field)
-  chosen c r e = rw e (record { part-so = refl; number-so = refl; field-so = refl })
-
-  pub chosen-none : (c : Decision) (r : Choice) → r ≡ choiceSaid c → (r .no ≡ 0 → ⊥) → Chosen c a b [] (r .no) (r .field)
-  chosen-none theFirst r e z = absurd (z (ap (λ (x : Choice). x .no) e))
-  chosen-none theSecond r e z = absurd (z (ap (λ (x : Choice). x .no) e))
-  chosen-none (denied w n i) r e z = chosen (denied w n i) r e
-
-  module _ (r : Choice) (e : r ≡ choiceSaid (newer a b)) (z : r .no ≡ 0) where
+  module _ (c : Choice) (e : c ≡ choiceSaid (newer a b)) (z : c .no ≡ 0) where
     two : (l : Bool) × (newer a b ≡ cond l theSecond theFirst)
     two = one-of-two (sym (ap (λ (x : Choice). x .no) e) ∙ z)
 
-    which-so : (c : Decision) → newer a b ≡ c → r .which ≡ choiceWhich c
-    which-so c q = ap (λ (x : Choice). x .which) (e ∙ ap choiceSaid q)
+    which-so : (d : Decision) → newer a b ≡ d → c .which ≡ choiceWhich d
+    which-so d q = ap (λ (x : Choice). x .which) (e ∙ ap choiceSaid q)
 
-    pub chosen-second : r .which ≡ 2 → Chosen (newer a b) a b b (r .no) (r .field)
-    chosen-second h = go (two .0) (two .1)
+    is-second : c .which ≡ 2 → newer a b ≡ theSecond
+    is-second h = go (two .0) (two .1)
       where
-        go : (l : Bool) → newer a b ≡ cond l theSecond theFirst → Chosen (newer a b) a b b (r .no) (r .field)
-        go true q = rw q (chosen theSecond r (e ∙ ap choiceSaid q))
+        go : (l : Bool) → newer a b ≡ cond l theSecond theFirst → newer a b ≡ theSecond
+        go true q = q
         go false q = absurd (omega (arith, which-so theFirst q))
 
-    pub chosen-first : (r .which ≡ 2 → ⊥) → Chosen (newer a b) a b a (r .no) (r .field)
-    chosen-first h = go (two .0) (two .1)
+    is-first : (c .which ≡ 2 → ⊥) → newer a b ≡ theFirst
+    is-first h = go (two .0) (two .1)
       where
-        go : (l : Bool) → newer a b ≡ cond l theSecond theFirst → Chosen (newer a b) a b a (r .no) (r .field)
+        go : (l : Bool) → newer a b ≡ cond l theSecond theFirst → newer a b ≡ theFirst
         go true q = absurd (h (which-so theSecond q))
-        go false q = rw q (chosen theFirst r (e ∙ ap choiceSaid q))
+        go false q = q
+
+-- ---- the part r that is handed back
+
+module _ {first second r : RefT Bytes} where
+  chosen : (d : Decision) (c : Choice) → c ≡ choiceSaid d → IsChosen d first second r → Chosen d first second r (c .no) (c .field)
+  chosen d c e p = rw e (record { part-so = p; number-so = refl; field-so = refl })
+
+  pub chosen-none : (d : Decision) (c : Choice) → c ≡ choiceSaid d → (c .no ≡ 0 → ⊥) → NoPart first r → Chosen d first second r (c .no) (c .field)
+  chosen-none theFirst c e z p = absurd (z (ap (λ (x : Choice). x .no) e))
+  chosen-none theSecond c e z p = absurd (z (ap (λ (x : Choice). x .no) e))
+  chosen-none (denied w n i) c e z p = chosen (denied w n i) c e p
+
+  pub chosen-second : (c : Choice) → c ≡ choiceSaid (newer (now first) (now second)) → c .no ≡ 0 → c .which ≡ 2 → r ≡ second
+      → Chosen (newer (now first) (now second)) first second r (c .no) (c .field)
+  chosen-second c e z h p = chosen (newer (now first) (now second)) c e (rw (is-second (now first) (now second) c e z h) p)
+
+  pub chosen-first : (c : Choice) → c ≡ choiceSaid (newer (now first) (now second)) → c .no ≡ 0 → (c .which ≡ 2 → ⊥) → r ≡ first
+      → Chosen (newer (now first) (now second)) first second r (c .no) (c .field)
+  chosen-first c e z h p = chosen (newer (now first) (now second)) c e (rw (is-first (now first) (now second) c e z h) p)

@@ -1,21 +1,15 @@
 -- What is known of an accepted public key: its Subject is an accepted identity and stands where the code looks for it.
 -- Assumes nothing.
-use Prim.Native.Nat.{_≤_}
 use mathlib.Core.Path.{_≡_, ap, _∙_}
 use mathlib.Core.List.{List}
-use native.Mathlib.Omega.{arith}
-use lib.ListN.{length}
 use lib.Dec.{lit<}
 use Rattle.text.specs.Text.{Bytes}
-use Rattle.format.specs.Kinds.{Kind, fieldsOf, pubkeyKinds}
+use Rattle.format.specs.Kinds.{Kind, pubkeyKinds}
 use Rattle.format.specs.Build.{Fits, IsIdentity}
 use Rattle.format.specs.Read.{accepted, readOf}
 use Rattle.format.proofs.Table.{pubkey-row}
 use Rattle.format.proofs.Fields.{fit-at}
-use Rattle.format.proofs.Exactly.{ask-complete, read-exact, its-parts, its-count}
-use Rattle.table.specs.Table.{rowOf}
-use Rattle.table.proofs.Rows.{of-kind}
-use Rattle.table.proofs.Arrays.{count-few}
+use Rattle.format.proofs.Exactly.{ask-complete, read-exact, its-parts, its-few}
 use Rattle.places.specs.Places.{fieldAt}
 use Rattle.places.proofs.Stands.{record-field}
 use Rattle.reading.specs.Reading.{answerOf}
@@ -34,5 +28,4 @@ key s k fs e =
 pub its-subject : (s : Bytes) (k : Key s) (r : Answer) → r ≡ answerOf (readOf pubkeyKinds s) → fieldAt s (r .starts) (r .lens) 1 ≡ subject (k .fields)
 its-subject s k r e =
     let b = read-exact pubkeyKinds s (k .kind) (k .fields) .0 (k .is) in
-    let few : length (k .fields) ≤ 7 = omega (arith, its-count b, of-kind (λ j. length (fieldsOf j)) 0 (k .kind), count-few (rowOf (k .kind))) in
-    ap (λ (x : Answer). fieldAt s (x .starts) (x .lens) 1) (e ∙ ap answerOf (k .is)) ∙ record-field (k .kind) s (k .fields) few (its-parts b) 1
+    ap (λ (x : Answer). fieldAt s (x .starts) (x .lens) 1) (e ∙ ap answerOf (k .is)) ∙ record-field (k .kind) s (k .fields) (its-few b) (its-parts b) 1

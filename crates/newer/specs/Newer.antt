@@ -6,7 +6,9 @@ use mathlib.Core.Path.{_≡_}
 use mathlib.Core.Bool.{cond}
 use mathlib.Core.List.{List, []}
 use lib.ListN.{getD}
+use denote.Ref.{RefT}
 use Rattle.text.specs.Text.{Bytes}
+use Rattle.text.specs.Part.{NoPart}
 use Rattle.text.specs.Later.{later}
 use Rattle.numbers.specs.Numbers.{notAlike}
 use Rattle.format.specs.Kinds.{pubkeyKinds}
@@ -62,13 +64,13 @@ choiceWhich (denied w n i) = w
 abbrev pub choiceSaid : Decision → Choice
 choiceSaid c = record { no = choiceNo c; field = choiceField c; which = choiceWhich c }
 
--- the record handed back, whole; an empty part with a refusal
-abbrev pub choicePart : Decision → Bytes → Bytes → Bytes
-choicePart theFirst a b = a
-choicePart theSecond a b = b
-choicePart (denied w n i) a b = []
+-- the part r that is handed back of the two that were lent: the chosen one itself; with a refusal the empty part at the front of the first
+abbrev pub IsChosen : Decision → RefT Bytes → RefT Bytes → RefT Bytes → Type 0
+IsChosen theFirst first second r = r ≡ first
+IsChosen theSecond first second r = r ≡ second
+IsChosen (denied w n i) first second r = NoPart first r
 
-pub record Chosen (c : Decision) (a b part : Bytes) (no field : ℕ) : Type 0 where
-  pub part-so : part ≡ choicePart c a b
+pub record Chosen (c : Decision) (first second r : RefT Bytes) (no field : ℕ) : Type 0 where
+  pub part-so : IsChosen c first second r
   pub number-so : no ≡ choiceNo c
   pub field-so : field ≡ choiceField c

@@ -102,10 +102,10 @@ pub fn newer_of(first: &[u8], second: &[u8]) -> Choice
     by_subjects(subject_of(first, one), subject_of(second, other))
 }
 
-// The same record, whole, as the caller's own bytes, and an empty part with a refusal. The two lenders share one lifetime:
-// docs/DECISIONS.md.
+// The same record itself, as it was lent, and an empty part at the front of the first with a refusal. The two lenders share
+// one lifetime: docs/DECISIONS.md.
 pub fn newer<'a>(first: &'a [u8], second: &'a [u8], no: &mut u8, field: &mut u8) -> &'a [u8]
-    ensures { λ r. ⌜ Chosen (newer (now (first .entry)) (now (second .entry))) (now (first .entry)) (now (second .entry)) (now r) (now (no .exit)) (now (field .exit)) ⌝ }
+    ensures { λ r. ⌜ Chosen (newer (now (first .entry)) (now (second .entry))) (first .entry) (second .entry) r (now (no .exit)) (now (field .exit)) ⌝ }
 {
     let choice = newer_of(first, second);
     *no = choice.no;

@@ -2,7 +2,7 @@
 -- Assumes nothing.
 use Prim.Native.Nat.{ℕ, zero, suc, _+_, _-_, _≤_, _<_}
 use mathlib.Core.Path.{_≡_, refl, ap, sym, _∙_}
-use mathlib.Core.Bool.{and-false}
+use mathlib.Core.Bool.{true, false, and-false}
 use mathlib.Core.List.{List, [], _∷_}
 use native.Mathlib.Omega.{arith}
 use native.Mathlib.Nat.{add-zero}
@@ -10,44 +10,60 @@ use lib.ListN.{length, take, drop, getD, length-append, length-drop, List·getD-
 use lib.Seq.{length-take-le, ext-getD}
 use lib.Dec.{ltb}
 use borrow.Author.Tests.{le-leb, lt-leb, lt-ltb, le-ltb}
+use denote.Ref.{RefT, now}
 use Rattle.text.specs.Text.{Bytes}
+use Rattle.text.specs.Part.{Part, NoPart}
 use Rattle.text.proofs.Tests.{less-or}
 use Rattle.format.specs.Kinds.{Kind, name, mark}
 use Rattle.format.specs.Build.{joined}
 use Rattle.format.specs.Read.{body, cut}
 use Rattle.frame.specs.Frame.{nextMark, partStart}
 use Rattle.frame.proofs.Parts.{cut-at, cut-none, cut-rest, next-from, next-within, walk-on, walk-start, body-bytes}
-use Rattle.places.specs.Places.{startsFrom, lengths, seven, startsOf, lensOf, placesOf, partAt, fieldAt, partsFrom}
+use Rattle.places.specs.Places.{startsFrom, lengths, seven, startsOf, lensOf, placesOf, isPlace, partAt, startAt, IsPartAt, fieldAt, fieldStartAt, IsFieldAt, partsFrom}
 use Rattle.places.proofs.Seven.{seven-at}
 
 -- ---- by the code's tests
 
 module _ (s : Bytes) (starts lens : List ℕ) (j : ℕ) where
-  pub at-past : 7 ≤ j → [] ≡ partAt s starts lens j
-  unfolding partAt
-  at-past h = rw (le-ltb j 7 h)
+  past-seven : 7 ≤ j → isPlace s starts lens j ≡ false
+  past-seven h = rw (le-ltb j 7 h)
 
-  pub at-outside : length s < getD starts j 0 + getD lens j 0 → [] ≡ partAt s starts lens j
-  unfolding partAt
-  at-outside h = rw (lt-leb (getD starts j 0 + getD lens j 0) (length s) h, and-false (ltb j 7))
+  past-end : length s < getD starts j 0 + getD lens j 0 → isPlace s starts lens j ≡ false
+  past-end h = rw (lt-leb (getD starts j 0 + getD lens j 0) (length s) h, and-false (ltb j 7))
 
-  pub at-there : j < 7 → getD starts j 0 + getD lens j 0 ≤ length s → take (getD lens j 0) (drop (getD starts j 0) s) ≡ partAt s starts lens j
-  unfolding partAt
-  at-there f h = rw (lt-ltb j 7 f, le-leb (getD starts j 0 + getD lens j 0) (length s) h)
+  in-place : j < 7 → getD starts j 0 + getD lens j 0 ≤ length s → isPlace s starts lens j ≡ true
+  in-place f h = rw (lt-ltb j 7 f, le-leb (getD starts j 0 + getD lens j 0) (length s) h)
 
-  -- as the code cuts it
-  pub at-between : j < 7 → getD starts j 0 + getD lens j 0 ≤ length s → take (getD starts j 0 + getD lens j 0 - getD starts j 0) (drop (getD starts j 0) s) ≡ partAt s starts lens j
-  at-between f h = let e : getD starts j 0 + getD lens j 0 - getD starts j 0 ≡ getD lens j 0 = omega arith in rw e (at-there f h)
+-- the part r of the caller's bytes s that the code hands back
+module _ {s r : RefT Bytes} (starts lens : List ℕ) (j : ℕ) where
+  none-at : isPlace (now s) starts lens j ≡ false → NoPart s r → IsPartAt s starts lens j r
+  unfolding startAt partAt
+  none-at e p = rw e p
 
-pub field-first : (s : Bytes) (starts lens : List ℕ) (n : ℕ) → n ≡ 0 → [] ≡ fieldAt s starts lens n
-unfolding fieldAt
-field-first s starts lens zero e = refl
-field-first s starts lens (suc n) e = absurd (omega arith)
+  pub at-past : 7 ≤ j → NoPart s r → IsPartAt s starts lens j r
+  at-past h = none-at (past-seven (now s) starts lens j h)
 
-pub field-next : (s : Bytes) (starts lens : List ℕ) (n : ℕ) → (n ≡ 0 → ⊥) → partAt s starts lens (n - 1) ≡ fieldAt s starts lens n
-unfolding fieldAt
-field-next s starts lens zero h = absurd (h refl)
-field-next s starts lens (suc n) h = let e : suc n - 1 ≡ n = omega arith in rw e
+  pub at-outside : length (now s) < getD starts j 0 + getD lens j 0 → NoPart s r → IsPartAt s starts lens j r
+  at-outside h = none-at (past-end (now s) starts lens j h)
+
+  pub at-there : j < 7 → getD starts j 0 + getD lens j 0 ≤ length (now s)
+      → Part s (getD starts j 0) (take (getD starts j 0 + getD lens j 0 - getD starts j 0) (drop (getD starts j 0) (now s))) r
+      → IsPartAt s starts lens j r
+  unfolding startAt partAt
+  at-there f h p =
+      let l : getD starts j 0 + getD lens j 0 - getD starts j 0 ≡ getD lens j 0 = omega arith in
+      rw (in-place (now s) starts lens j f h) (rw l at p)
+
+module _ {s r : RefT Bytes} (starts lens : List ℕ) where
+  pub field-none : (n : ℕ) → n ≡ 0 → NoPart s r → IsFieldAt s starts lens n r
+  unfolding fieldStartAt fieldAt
+  field-none zero e p = p
+  field-none (suc n) e p = absurd (omega arith)
+
+  pub field-next : (n : ℕ) → (n ≡ 0 → ⊥) → IsPartAt s starts lens (n - 1) r → IsFieldAt s starts lens n r
+  unfolding fieldStartAt fieldAt
+  field-next zero h p = absurd (h refl)
+  field-next (suc n) h p = let e : suc n - 1 ≡ n = omega arith in rw e at p
 
 -- ---- the lists as long as the fields
 
@@ -112,10 +128,11 @@ module _ (s : Bytes) (ss : List ℕ) (fs : List Bytes) (few : length fs ≤ 7) (
       past h = rw (List·getD-eq-default fs [] {n = j} h, List·getD-eq-default ss 0 {n = j} (omega (arith, as-many))) (omega arith, refl)
 
   pub part-at : (j : ℕ) → partAt s (seven 0 ss) (lensOf fs) j ≡ getD fs j []
+  unfolding partAt
   part-at j =
       less-or j 7
-      (λ l. sym (at-there s (seven 0 ss) (lensOf fs) j l (place-at j .0)) ∙ place-at j .1)
-      (λ l. sym (at-past s (seven 0 ss) (lensOf fs) j l) ∙ sym (List·getD-eq-default fs [] {n = j} (omega (arith, few))))
+      (λ l. rw (in-place s (seven 0 ss) (lensOf fs) j l (place-at j .0)) (place-at j .1))
+      (λ l. rw (past-seven s (seven 0 ss) (lensOf fs) j l) (sym (List·getD-eq-default fs [] {n = j} (omega (arith, few)))))
 
 -- ---- the parts at several places
 

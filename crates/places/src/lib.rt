@@ -1,7 +1,8 @@
 // Where the fields of a record stand: their starts and their lengths in the caller's bytes, found in one walk. Whoever needs
 // a field of what was read takes it from there. No call has a `requires`.
 ghost use mathlib.Core.Path.{_≡_};
-ghost use Rattle.places.specs.Places.{placesOf, partAt, fieldAt};
+ghost use Rattle.text.specs.Part.{NoPart};
+ghost use Rattle.places.specs.Places.{placesOf, IsPartAt, IsFieldAt};
 
 // No kind has more fields.
 pub const MOST: usize = 7;
@@ -46,31 +47,39 @@ pub fn places_of(mark: u8, body: &[u8]) -> Places
     }
 }
 
-// The part of s that stands at place j, from 0; an empty one where there is no such place, or where it is none of s.
+// No part: an empty one, at the front of s.
+fn none_of<'a>(s: &'a [u8]) -> &'a [u8]
+    ensures { λ r. ⌜ NoPart (s .entry) r ⌝ }
+{
+    &s[0..0]
+}
+
+// The part of s that stands at place j, from 0; an empty one at the front of s where there is no such place, or where it is
+// none of s.
 pub fn part_at<'a>(s: &'a [u8], starts: &[usize; 7], lens: &[usize; 7], j: usize) -> &'a [u8]
-    ensures { λ r. ⌜ now r ≡ partAt (now (s .entry)) (now (starts .entry)) (now (lens .entry)) j ⌝ }
+    ensures { λ r. ⌜ IsPartAt (s .entry) (now (starts .entry)) (now (lens .entry)) j r ⌝ }
 {
     if MOST <= j {
-        return &s[0..0];
+        return none_of(s);
     }
     let start = starts[j];
     let len = lens[j];
     if s.len() < start {
-        return &s[0..0];
+        return none_of(s);
     }
     if s.len() - start < len {
-        return &s[0..0];
+        return none_of(s);
     }
     let end = start + len;
     &s[start..end]
 }
 
-// The field of this number, from 1 as document 01 counts; an empty part where there is none.
+// The field of this number, from 1 as document 01 counts; an empty part at the front of s where there is none.
 pub fn field_at<'a>(s: &'a [u8], starts: &[usize; 7], lens: &[usize; 7], number: usize) -> &'a [u8]
-    ensures { λ r. ⌜ now r ≡ fieldAt (now (s .entry)) (now (starts .entry)) (now (lens .entry)) number ⌝ }
+    ensures { λ r. ⌜ IsFieldAt (s .entry) (now (starts .entry)) (now (lens .entry)) number r ⌝ }
 {
     if number == 0 {
-        return &s[0..0];
+        return none_of(s);
     }
     part_at(s, starts, lens, number - 1)
 }

@@ -1,14 +1,16 @@
 -- The promises of the key agreement texts, from the laws of format, items and agreement.
 -- Assumes nothing.
-use Prim.Native.Nat.{ℕ, _≤_}
+use Prim.Native.Nat.{ℕ, _+_, _-_, _≤_}
 use mathlib.Core.Path.{_≡_, refl, sym, ap, _∙_, subst}
 use mathlib.Core.Logic.{_≢_}
 use mathlib.Core.Option.{Option, none, some}
 use mathlib.Core.List.{List, [], _∷_}
 use native.Mathlib.Omega.{arith}
-use lib.ListN.{length}
+use lib.ListN.{length, take}
 use lib.Dec.{leb, leb→le, le→leb}
+use denote.Ref.{RefT, now}
 use Rattle.text.specs.Text.{Bytes}
+use Rattle.text.proofs.Part.{same-part}
 use Rattle.text.proofs.Tests.{by-test, cond-yes, cond-no}
 use Rattle.numbers.specs.Numbers.{shortOutput}
 use Rattle.format.specs.Kinds.{Kind, REQ}
@@ -18,8 +20,10 @@ use Rattle.format.proofs.Table.{among-one}
 use Rattle.format.proofs.Exactly.{read-exact, read-honest}
 use Rattle.put.specs.Made.{Made, made, denied, says, leaves, Writes}
 use Rattle.put.specs.declared.Written.{Written}
-use Rattle.items.specs.Items.{lvConcat, itemsOf, nthOf, textItem, partOf, numberOf, Handed}
+use Rattle.items.specs.Items.{lvConcat, itemsOf, nthOf, textItem, itemBytes}
+use Rattle.items.specs.Place.{behind, placeFrom, ItemHanded}
 use Rattle.items.proofs.OneToOne.{concat-inj, items-back, item-exact}
+use Rattle.items.proofs.Places.{behind-items, nth-within}
 use Rattle.agreement.specs.Texts.{textMade, sharedInfo, moduleText, centreText}
 use Rattle.agreement.proofs.Texts.{items-concat, qe-length}
 use Rattle.promises.specs.Agreement.{TextSaid, ItemSaid, Agreement}
@@ -80,29 +84,37 @@ text-said items request out out′ r w =
 
 -- ---- an item
 
-found : (o : Option Bytes) → numberOf o ≡ 0 → (x : Bytes) × (o ≡ some x)
-found none z = absurd (omega arith)
-found (some x) z = (x, refl)
+module _ (start : ℕ) where
+  found : (o : Option Bytes) → placeFrom start o .no ≡ 0 → (x : Bytes) × (o ≡ some x)
+  found none z = absurd (omega arith)
+  found (some x) z = (x, refl)
 
-only : (o : Option Bytes) → numberOf o ≢ 0 → (numberOf o ≡ 12) × (partOf o ≡ [])
-only none n = (refl, refl)
-only (some x) n = absurd (n refl)
+  only : (o : Option Bytes) → placeFrom start o .no ≢ 0 → (placeFrom start o .no ≡ 12) × (placeFrom start o .start ≡ 0) × (itemBytes o ≡ [])
+  only none n = (refl, refl, refl)
+  only (some x) n = absurd (n refl)
 
-item-said : (text : Bytes) (wanted : ℕ) (part : Bytes) (m : ℕ) → Handed (textItem text wanted) part m → ItemSaid text wanted part m
+item-said : (text : RefT Bytes) (wanted : ℕ) (part : RefT Bytes) (m : ℕ) → ItemHanded text wanted part m → ItemSaid text wanted part m
 unfolding textItem
-item-said text wanted part m h = record {
-  exactly = λ b. (
-    λ z.
-        let (x, e) = found (textItem text wanted) (sym (h .number-so) ∙ z) in
-        let (is, c, q, n) = item-exact text wanted x b .0 e in
-        (is, c, q, (x, n)),
-    λ g. h .number-so ∙ ap numberOf (item-exact text wanted (g .3 .0) b .1 (g .0, g .1, g .2, g .3 .1)),
-  );
-  its-item = λ is x q n. h .part-so ∙ ap (λ (o : Option (List Bytes)). partOf (nthOf wanted o)) (ap itemsOf q ∙ items-back is) ∙ ap partOf n;
-  only-12 = λ n.
-      let e = only (textItem text wanted) (λ z. n (h .number-so ∙ z)) in
-      (h .number-so ∙ e .0, h .part-so ∙ e .1);
-}
+item-said text wanted part m h =
+    let start = behind (wanted - 1) (now text) + 1 in
+    let o : Option Bytes = textItem (now text) wanted in
+    record {
+      exactly = λ b. (
+        λ z.
+            let (x, e) = found start o (sym (h .number-so) ∙ z) in
+            let (is, c, q, n) = item-exact (now text) wanted x b .0 e in
+            (is, c, q, (x, n)),
+        λ g. h .number-so ∙ ap (λ (p : Option Bytes). placeFrom start p .no) (item-exact (now text) wanted (g .3 .0) b .1 (g .0, g .1, g .2, g .3 .1)),
+      );
+      its-item = λ is x q n.
+          let e : o ≡ some x = ap (λ (p : Option (List Bytes)). nthOf wanted p) (ap itemsOf q ∙ items-back is) ∙ n in
+          let there : start ≡ length (lvConcat (take (wanted - 1) is)) + 1 =
+          ap (λ (p : ℕ). p + 1) (ap (behind (wanted - 1)) q ∙ behind-items (wanted - 1) is (omega (arith, nth-within wanted is x n))) in
+          same-part (ap (λ (p : Option Bytes). placeFrom start p .start) e ∙ there) (ap itemBytes e) (h .part-so);
+      only-12 = λ n.
+          let (twelve, front, empty) = only start o (λ z. n (h .number-so ∙ z)) in
+          (h .number-so ∙ twelve, same-part front empty (h .part-so));
+    }
 
 pub agreement : Agreement
 unfolding sharedInfo moduleText centreText

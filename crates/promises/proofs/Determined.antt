@@ -2,13 +2,29 @@
 -- Assumes nothing.
 use Prim.Native.Nat.{ℕ}
 use mathlib.Core.Path.{_≡_, sym, ap, _∙_}
+use denote.Ref.{RefT, ptr, now}
 use Rattle.crc16.specs.declared.Crc.{Crc}
+use Rattle.text.specs.Text.{Bytes}
+use Rattle.text.specs.Part.{Part}
 use Rattle.table.proofs.Codes.{one-code}
+use Rattle.newer.specs.Newer.{Decision, theFirst, theSecond, denied, IsChosen, Chosen}
 use Rattle.promises.specs.Determined.{Determined}
 
 -- two states with one number are one state
 one-state : (x y : Crc) (n : ℕ) → x .state ≡ n → y .state ≡ n → x ≡ y
 one-state x y n p q = ap {B = Crc} (λ (m : ℕ). record { state = m }) (p ∙ sym q)
+
+-- two parts at one place that hold the same bytes
+one-part : {s x y : RefT Bytes} {start : ℕ} {bytes : Bytes} → Part s start bytes x → Part s start bytes y → (ptr x ≡ ptr y) × (now x ≡ now y)
+one-part p q = (p .stands ∙ sym (q .stands), p .holds ∙ sym (q .holds))
+
+one-chosen : {d : Decision} {a b x y : RefT Bytes} {m n i j : ℕ} → Chosen d a b x m i → Chosen d a b y n j → (ptr x ≡ ptr y) × (now x ≡ now y)
+one-chosen {d} {a} {b} {x} {y} p q = go d (p .part-so) (q .part-so)
+  where
+    go : (c : Decision) → IsChosen c a b x → IsChosen c a b y → (ptr x ≡ ptr y) × (now x ≡ now y)
+    go theFirst e f = (ap ptr (e ∙ sym f), ap now (e ∙ sym f))
+    go theSecond e f = (ap ptr (e ∙ sym f), ap now (e ∙ sym f))
+    go (denied w n i) e f = one-part e f
 
 pub determined : Determined
 determined = record {
@@ -38,25 +54,25 @@ determined = record {
   is-identity = λ κs a x y s t p q. p ∙ sym q;
   may-be-empty = λ κs a x y s t p q. p ∙ sym q;
   does-permit = λ κs a x y s t p q. p ∙ sym q;
-  title-of = λ κs a x y s t p q. p ∙ sym q;
+  title-of = λ κs a x y s t p q. one-part p q;
   mark-after = λ κs a x y s t p q. p ∙ sym q;
   next-mark = λ κs a x y s t p q. p ∙ sym q;
-  part = λ κs a x y s t p q. p ∙ sym q;
-  body-of = λ κs a x y s t p q. p ∙ sym q;
+  part = λ κs a x y s t p q. one-part p q;
+  body-of = λ κs a x y s t p q. one-part p q;
   check-no = λ κs a x y s t p q. p ∙ sym q;
   places-of = λ κs a x y s t p q. p ∙ sym q;
-  part-at = λ κs a x y s t p q. p ∙ sym q;
-  field-at = λ κs a x y s t p q. p ∙ sym q;
+  part-at = λ κs a x y s t p q. one-part p q;
+  field-at = λ κs a x y s t p q. one-part p q;
   read-identity = λ κs a x y s t p q. p ∙ sym q;
   judge = λ κs a x y s t p q. p ∙ sym q;
   read-of = λ κs a x y s t p q. p ∙ sym q;
   read-record = λ κs a x y s t p q. p ∙ sym q;
   identity-place = λ κs a x y s t p q. p .said ∙ sym (q .said);
   record-place = λ κs a x y s t p q. p .said ∙ sym (q .said);
-  identity-field-part = λ κs a x y s t p q. p .its-part ∙ sym (q .its-part);
+  identity-field-part = λ κs a x y s t p q. one-part (p .its-part) (q .its-part);
   identity-field-no = λ κs a x y s t p q. p .its-no ∙ sym (q .its-no);
   identity-field-field = λ κs a x y s t p q. p .its-field ∙ sym (q .its-field);
-  record-field-part = λ κs a x y s t p q. p .its-part ∙ sym (q .its-part);
+  record-field-part = λ κs a x y s t p q. one-part (p .its-part) (q .its-part);
   record-field-no = λ κs a x y s t p q. p .its-no ∙ sym (q .its-no);
   record-field-field = λ κs a x y s t p q. p .its-field ∙ sym (q .its-field);
   refuse = λ κs a x y s t p q. p ∙ sym q;
@@ -67,7 +83,7 @@ determined = record {
   build-said = λ κs a x y s t p q. p .said ∙ sym (q .said);
   build-out = λ κs a x y s t p q. p .left ∙ sym (q .left);
   item-place = λ κs a x y s t p q. p .said ∙ sym (q .said);
-  text-item-part = λ κs a x y s t p q. p .part-so ∙ sym (q .part-so);
+  text-item-part = λ κs a x y s t p q. one-part (p .part-so) (q .part-so);
   text-item-no = λ κs a x y s t p q. p .number-so ∙ sym (q .number-so);
   shared-info-said = λ κs a x y s t p q. p .said ∙ sym (q .said);
   shared-info-out = λ κs a x y s t p q. p .left ∙ sym (q .left);
@@ -85,7 +101,7 @@ determined = record {
   print-list = λ κs a x y s t p q. p ∙ sym q;
   are-alike = λ κs a x y s t p q. p ∙ sym q;
   newer-of = λ κs a x y s t p q. p ∙ sym q;
-  newer-part = λ κs a x y s t p q. p .part-so ∙ sym (q .part-so);
+  newer-part = λ κs a x y s t p q. one-chosen p q;
   newer-no = λ κs a x y s t p q. p .number-so ∙ sym (q .number-so);
   newer-field = λ κs a x y s t p q. p .field-so ∙ sym (q .field-so);
 }

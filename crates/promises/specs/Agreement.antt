@@ -1,16 +1,17 @@
 -- The key agreement texts are the standard's own, and no two different lists of items share one (demand 2); a refused call leaves the
 -- output as it was (demand 1).
 -- Assumes nothing.
-use Prim.Native.Nat.{ℕ, _≤_}
+use Prim.Native.Nat.{ℕ, _+_, _-_, _≤_}
 use mathlib.Core.Path.{_≡_}
 use mathlib.Core.Logic.{_↔_, _≢_}
 use mathlib.Core.Option.{some}
 use mathlib.Core.List.{List, [], _∷_, _++_}
-use lib.ListN.{length, drop, getD}
+use lib.ListN.{length, take, drop, getD}
 use lib.Dec.{T}
-use denote.Ref.{now}
+use denote.Ref.{RefT, now}
 use Rattle.crc16.specs.Damage.{AreBytes}
 use Rattle.text.specs.Text.{Bytes}
+use Rattle.text.specs.Part.{Part, NoPart}
 use Rattle.format.specs.Kinds.{REQ}
 use Rattle.format.specs.Build.{Permitted, Built}
 use Rattle.put.specs.declared.Written.{Written}
@@ -32,17 +33,20 @@ pub record TextSaid (items : List Bytes → List Bytes) (request out out′ : By
   -- demand 1
   pub untouched : r .no ≢ 0 → (r .len ≡ 0) × (out′ ≡ out)
 
--- the item call: 0 exactly for a text that LVCONCAT writes, of a list that has an item of this number, and then it hands back that item
-pub record ItemSaid (text : Bytes) (wanted : ℕ) (part : Bytes) (number : ℕ) : Type 0 where
-  pub exactly : AreBytes text → (number ≡ 0) ↔ ((is : List Bytes) × T (concats is) × (text ≡ lvConcat is) × ((x : Bytes) × (nth wanted is ≡ some x)))
-  pub its-item : (is : List Bytes) (x : Bytes) → text ≡ lvConcat is → nth wanted is ≡ some x → part ≡ x
-  pub only-12 : number ≢ 0 → (number ≡ 12) × (part ≡ [])
+-- the item call: 0 exactly for a text that LVCONCAT writes, of a list that has an item of this number, and then it hands back that item,
+-- which stands behind the items before it and its own length; else the empty part at the front
+pub record ItemSaid (text : RefT Bytes) (wanted : ℕ) (part : RefT Bytes) (number : ℕ) : Type 0 where
+  pub exactly : AreBytes (now text)
+      → (number ≡ 0) ↔ ((is : List Bytes) × T (concats is) × (now text ≡ lvConcat is) × ((x : Bytes) × (nth wanted is ≡ some x)))
+  pub its-item : (is : List Bytes) (x : Bytes) → now text ≡ lvConcat is → nth wanted is ≡ some x
+      → Part text (length (lvConcat (take (wanted - 1) is)) + 1) x part
+  pub only-12 : number ≢ 0 → (number ≡ 12) × NoPart text part
 
 pub record Agreement : Type 0 where
   pub shared-info : Holds shared-info.Post (λ κs a r s. TextSaid sharedItems (now (a .0)) (now (a .1 .0)) (now (s .1 .0)) r)
   pub module-text : Holds module-text.Post (λ κs a r s. TextSaid moduleItems (now (a .0)) (now (a .1 .0)) (now (s .1 .0)) r)
   pub centre-text : Holds centre-text.Post (λ κs a r s. TextSaid centreItems (now (a .0)) (now (a .1 .0)) (now (s .1 .0)) r)
-  pub item : Holds text-item.Post (λ κs a r s. ItemSaid (now (a .0)) (a .1 .0) (now r) (now (s .1 .1 .0)))
+  pub item : Holds text-item.Post (λ κs a r s. ItemSaid (a .0) (a .1 .0) r (now (s .1 .1 .0)))
   -- no two different lists of items share a text
   pub one-to-one : (is js : List Bytes) → lvConcat is ≡ lvConcat js → is ≡ js
   -- each text, read back, has its items

@@ -2,7 +2,7 @@
 -- contracts themselves, as the code has them: `Post` is what a call's `ensures` says of its arguments and its result.
 -- Assumes nothing.
 use mathlib.Core.Path.{_≡_}
-use denote.Ref.{RefT, now}
+use denote.Ref.{RefT, ptr, now}
 use Rattle.text.specs.Text.{Bytes}
 use Rattle.crc16.proofs.Crc.begin.Reads as begun
 use Rattle.crc16.proofs.Crc.add.Reads as add
@@ -70,9 +70,9 @@ use Rattle.newer.proofs.newer.Reads as newer
 abbrev pub OneAnswer : {K : Type 0} {A R S : K → Type 0} → ((κs : K) → A κs → R κs → S κs → Type 0) → Type 0
 OneAnswer {K} {A} {R} {S} Q = (κs : K) (a : A κs) (x y : R κs) (s t : S κs) → Q κs a x s → Q κs a y t → x ≡ y
 
--- the same of a part that is handed back: its bytes are the answer
+-- the same of a part that is handed back: its place and its bytes are the answer
 abbrev pub OnePart : {K : Type 0} {A S : K → Type 0} → ((κs : K) → A κs → RefT Bytes → S κs → Type 0) → Type 0
-OnePart {K} {A} {S} Q = (κs : K) (a : A κs) (x y : RefT Bytes) (s t : S κs) → Q κs a x s → Q κs a y t → now x ≡ now y
+OnePart {K} {A} {S} Q = (κs : K) (a : A κs) (x y : RefT Bytes) (s t : S κs) → Q κs a x s → Q κs a y t → (ptr x ≡ ptr y) × (now x ≡ now y)
 
 -- and of what stands behind a `&mut` parameter afterwards, which `left` picks
 abbrev pub OneLeft : {K X : Type 0} {A R S : K → Type 0} → ((κs : K) → A κs → R κs → S κs → Type 0) → ((κs : K) → S κs → X) → Type 0

@@ -4,28 +4,29 @@ use Prim.Native.Nat.{ℕ}
 use mathlib.Core.Path.{_≡_}
 use mathlib.Core.Logic.{_↔_, _⊎_, _≢_}
 use mathlib.Core.Bool.{false}
-use mathlib.Core.List.{[]}
 use lib.Dec.{T}
-use denote.Ref.{now}
+use denote.Ref.{RefT, now}
 use Rattle.text.specs.Text.{Bytes, isTimestamp}
+use Rattle.text.specs.Part.{NoPart}
 use Rattle.text.specs.Later.{later}
 use Rattle.newer.specs.Keys.{Key, gntOf, Agreed}
 use Rattle.newer.proofs.newer.Reads as call
 use Rattle.promises.specs.Calls.{Holds}
 
--- a call that was lent the records a and b handed back the part with this number
-pub record NewerSaid (a b part : Bytes) (number : ℕ) : Type 0 where
+-- a call that was lent the records a and b handed back the part with this number. A part is more than its bytes: `part ≡ a` says that it
+-- is the first record itself, where it stands
+pub record NewerSaid (a b part : RefT Bytes) (number : ℕ) : Type 0 where
   -- 0 exactly for two accepted public keys whose Subjects agree in kind, Manufacturer and MID
-  pub exactly : (number ≡ 0) ↔ Agreed a b
-  -- then the part is one of the two records whole, and its GNT is not earlier than the other's
-  pub not-earlier : number ≡ 0 → (p : Key a) (q : Key b)
+  pub exactly : (number ≡ 0) ↔ Agreed (now a) (now b)
+  -- then the part is one of the two records itself, and its GNT is not earlier than the other's
+  pub not-earlier : number ≡ 0 → (p : Key (now a)) (q : Key (now b))
       → ((part ≡ a) × (later (gntOf q) (gntOf p) ≡ false)) ⊎ ((part ≡ b) × (later (gntOf p) (gntOf q) ≡ false))
   -- the first when equal
-  pub first-when-equal : number ≡ 0 → (p : Key a) (q : Key b) → gntOf p ≡ gntOf q → part ≡ a
-  -- demand 1
-  pub nothing : number ≢ 0 → part ≡ []
+  pub first-when-equal : number ≡ 0 → (p : Key (now a)) (q : Key (now b)) → gntOf p ≡ gntOf q → part ≡ a
+  -- demand 1: the empty part of the first
+  pub nothing : number ≢ 0 → NoPart a part
 
 pub record Newer : Type 0 where
-  pub said : Holds call.Post (λ κs a r s. NewerSaid (now (a .0)) (now (a .1 .0)) (now r) (now (s .1 .1 .0)))
+  pub said : Holds call.Post (λ κs a r s. NewerSaid (a .0) (a .1 .0) r (now (s .1 .1 .0)))
   -- later is an order of instants: by the parts of the date, and two TIMESTAMPs of which neither is later are one text
   pub neither : (s t : Bytes) → T (isTimestamp s) → T (isTimestamp t) → later s t ≡ false → later t s ≡ false → s ≡ t

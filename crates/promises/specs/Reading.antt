@@ -3,7 +3,7 @@
 -- The statements are about the contracts of the calls (`Post`), whatever the lifetimes κs, the arguments a, the result and what the
 -- parameters hold afterwards, s.
 -- Assumes nothing.
-use Prim.Native.Nat.{ℕ, _+_, _≤_}
+use Prim.Native.Nat.{ℕ, _+_, _≤_, _<_}
 use mathlib.Core.Path.{_≡_}
 use mathlib.Core.Logic.{_↔_, _≢_}
 use mathlib.Core.Bool.{cond, not}
@@ -12,12 +12,14 @@ use lib.ListN.{length, take, drop, getD, replicate}
 use lib.Dec.{T}
 use denote.Ref.{RefT, now}
 use Rattle.text.specs.Text.{Bytes, between, Ident}
+use Rattle.text.specs.Part.{Part, NoPart}
 use Rattle.numbers.specs.Numbers.{missingItem}
 use Rattle.format.specs.Kinds.{Kind, Text, name, fieldsOf, identityKinds, recordKinds, pubkeyKinds, among}
 use Rattle.format.specs.Build.{recordOf, empty, Permitted, Built}
 use Rattle.table.specs.Table.{rowOf, missingRow}
 use Rattle.reading.specs.Reading.{kindWithin}
 use Rattle.reading.specs.declared.Answer.{Answer}
+use Rattle.fields.specs.Fields.{startIn}
 use Rattle.reading.proofs.read_identity.Reads as read-identity
 use Rattle.reading.proofs.read_record.Reads as read-record
 use Rattle.fields.proofs.identity_field.Reads as identity-field
@@ -33,12 +35,14 @@ abbrev pub SaysKind : {K : Type 0} {A S : K → Type 0} → ((κs : K) → A κs
 SaysKind {K} {A} {S} Q bytes ks =
     (κs : K) (a : A κs) (r : Answer) (s : S κs) → Q κs a r s → (k : Kind) (fs : List Bytes) → Built ks (bytes κs a) k fs → r .kind ≡ rowOf k
 
--- and the places of all fields: at each stands the field, and nothing past the last; the kind of each identity is told
+-- and the places of all fields: each starts where the build rules put it, there stands the field, and nothing past the last; the kind
+-- of each identity is told
 abbrev pub SaysPlaces : {K : Type 0} {A S : K → Type 0} → ((κs : K) → A κs → Answer → S κs → Type 0) → ((κs : K) → A κs → Bytes) → List Kind → Type 0
 SaysPlaces {K} {A} {S} Q bytes ks =
     (κs : K) (a : A κs) (r : Answer) (s : S κs) → Q κs a r s → (k : Kind) (fs : List Bytes) → Built ks (bytes κs a) k fs
     → (j : ℕ)
-    → (getD (r .starts) j 0 + getD (r .lens) j 0 ≤ length (bytes κs a))
+    → (j < length fs → getD (r .starts) j 0 ≡ startIn k fs (j + 1))
+    × (getD (r .starts) j 0 + getD (r .lens) j 0 ≤ length (bytes κs a))
     × (take (getD (r .lens) j 0) (drop (getD (r .starts) j 0) (bytes κs a)) ≡ getD fs j [])
     × (getD (r .kinds) j missingRow ≡ kindWithin (getD (fieldsOf k) j (Text Ident)) (getD fs j []))
 
@@ -48,16 +52,20 @@ NoPlaces {K} {A} {S} Q =
     (κs : K) (a : A κs) (r : Answer) (s : S κs) → Q κs a r s → r .no ≢ 0
     → (r .kind ≡ missingRow) × (r .starts ≡ replicate 7 0) × (r .lens ≡ replicate 7 0) × (r .kinds ≡ replicate 7 missingRow)
 
--- the call Q for the field number `wanted` hands back that field, with number 0, and nothing, with 12, where the kind hasn't it
+-- the call Q, which is `lent` bytes, for the field number `wanted` hands back that field where it stands, with number 0; the number is 12
+-- where the kind hasn't it
 abbrev pub HandsBack : {K : Type 0} {A S : K → Type 0} → ((κs : K) → A κs → RefT Bytes → S κs → Type 0)
-    → ((κs : K) → A κs → Bytes) → ((κs : K) → A κs → ℕ) → ((κs : K) → S κs → ℕ) → List Kind → Type 0
-HandsBack {K} {A} {S} Q bytes wanted number ks =
-    (κs : K) (a : A κs) (part : RefT Bytes) (s : S κs) → Q κs a part s → (k : Kind) (fs : List Bytes) → Built ks (bytes κs a) k fs
-    → (now part ≡ getD ([] ∷ fs) (wanted κs a) []) × (number κs s ≡ cond (between 1 (length fs) (wanted κs a)) 0 missingItem)
+    → ((κs : K) → A κs → RefT Bytes) → ((κs : K) → A κs → ℕ) → ((κs : K) → S κs → ℕ) → List Kind → Type 0
+HandsBack {K} {A} {S} Q lent wanted number ks =
+    (κs : K) (a : A κs) (part : RefT Bytes) (s : S κs) → Q κs a part s → (k : Kind) (fs : List Bytes) → Built ks (now (lent κs a)) k fs
+    → (T (between 1 (length fs) (wanted κs a)) → Part (lent κs a) (startIn k fs (wanted κs a)) (getD ([] ∷ fs) (wanted κs a) []) part)
+    × (number κs s ≡ cond (between 1 (length fs) (wanted κs a)) 0 missingItem)
 
--- demand 1: with another number than 0 the part is empty
-abbrev pub NothingRefused : {K : Type 0} {A S : K → Type 0} → ((κs : K) → A κs → RefT Bytes → S κs → Type 0) → ((κs : K) → S κs → ℕ) → Type 0
-NothingRefused {K} {A} {S} Q number = (κs : K) (a : A κs) (part : RefT Bytes) (s : S κs) → Q κs a part s → number κs s ≢ 0 → now part ≡ []
+-- demand 1: with another number than 0 the part is the empty one at the front of what was lent
+abbrev pub NothingRefused : {K : Type 0} {A S : K → Type 0} → ((κs : K) → A κs → RefT Bytes → S κs → Type 0)
+    → ((κs : K) → A κs → RefT Bytes) → ((κs : K) → S κs → ℕ) → Type 0
+NothingRefused {K} {A} {S} Q lent number =
+    (κs : K) (a : A κs) (part : RefT Bytes) (s : S κs) → Q κs a part s → number κs s ≢ 0 → NoPart (lent κs a) part
 
 pub record Reading : Type 0 where
   pub identity-exactly : Exactly read-identity.Post (λ κs a. now (a .0)) identityKinds
@@ -68,10 +76,10 @@ pub record Reading : Type 0 where
   pub record-places : SaysPlaces read-record.Post (λ κs a. now (a .0)) recordKinds
   pub identity-no-places : NoPlaces read-identity.Post
   pub record-no-places : NoPlaces read-record.Post
-  pub identity-fields : HandsBack identity-field.Post (λ κs a. now (a .0)) (λ κs a. a .1 .0) (λ κs s. now (s .1 .1 .0)) identityKinds
-  pub record-fields : HandsBack record-field.Post (λ κs a. now (a .0)) (λ κs a. a .1 .0) (λ κs s. now (s .1 .1 .0)) recordKinds
-  pub identity-nothing : NothingRefused identity-field.Post (λ κs s. now (s .1 .1 .0))
-  pub record-nothing : NothingRefused record-field.Post (λ κs s. now (s .1 .1 .0))
+  pub identity-fields : HandsBack identity-field.Post (λ κs a. a .0) (λ κs a. a .1 .0) (λ κs s. now (s .1 .1 .0)) identityKinds
+  pub record-fields : HandsBack record-field.Post (λ κs a. a .0) (λ κs a. a .1 .0) (λ κs s. now (s .1 .1 .0)) recordKinds
+  pub identity-nothing : NothingRefused identity-field.Post (λ κs a. a .0) (λ κs s. now (s .1 .1 .0))
+  pub record-nothing : NothingRefused record-field.Post (λ κs a. a .0) (λ κs s. now (s .1 .1 .0))
   -- kind and fields are unique, over all seven kinds
   pub unique : (s : Bytes) (j k : Kind) (fs gs : List Bytes) → Permitted j fs → Permitted k gs → s ≡ recordOf j fs → s ≡ recordOf k gs
       → (j ≡ k) × (fs ≡ gs)

@@ -15,11 +15,10 @@ use Rattle.text.proofs.Tests.{and-stop, cond-yes, less-or, T-false, at-every, a
 use Rattle.format.specs.Kinds.{Kind, Field, Text, Identity, OrEmpty, fieldsOf, identityFields, identityKinds, among}
 use Rattle.format.specs.Build.{empty}
 use Rattle.format.specs.Read.{Outcome, accepted, refused, fieldAnswer, identityAnswer, readOver, readIdentity}
-use Rattle.format.proofs.Table.{identity-row}
+use Rattle.format.proofs.Table.{identity-row, seven-fields}
 use Rattle.format.proofs.Outcomes.{Honest}
-use Rattle.table.specs.Table.{rowOf, missingRow, fieldsAt, fieldType, TypeOf, isIdentity, mayBeEmpty, permitted, rowAmong}
-use Rattle.table.proofs.Rows.{kindAt, in-row, of-kind, among-row}
-use Rattle.table.proofs.Arrays.{count-few}
+use Rattle.table.specs.Table.{missingRow, fieldsAt, fieldType, TypeOf, isIdentity, mayBeEmpty, permitted, rowAmong}
+use Rattle.table.proofs.Rows.{kindAt, in-row, among-row}
 use Rattle.table.proofs.Codes.{codeCount, past-codes, identity-codes}
 use Rattle.places.proofs.Seven.{seven-at}
 use Rattle.reading.specs.Reading.{kindSaid, kindWithin, kindsWithin, kindsOf, answerOf}
@@ -90,7 +89,7 @@ pub kinds-at : (k : Kind) (fs : List Bytes) (j : ℕ) → getD (kindsOf k fs) j 
 unfolding kindsOf
 kinds-at k fs j =
     let e : 0 + j ≡ j = omega arith in
-    seven-at missingRow (kindsWithin 0 (fieldsOf k) fs) (omega (arith, kinds-count 0 (fieldsOf k) fs, of-kind (λ i. length (fieldsOf i)) 0 k, count-few (rowOf k))) j
+    seven-at missingRow (kindsWithin 0 (fieldsOf k) fs) (omega (arith, kinds-count 0 (fieldsOf k) fs, seven-fields k)) j
     ∙ rw e at (kinds-from 0 (fieldsOf k) fs j)
 
 -- ---- the fields of an identity are texts

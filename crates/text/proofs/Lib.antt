@@ -4,3 +4,4 @@ pub mod Hexadecimal
 pub mod Types
 pub mod Order
 pub mod Later
+pub mod Part

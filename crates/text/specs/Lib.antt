@@ -2,3 +2,4 @@ pub mod Text
 pub mod Base16
 pub mod Later
 pub mod Steps
+pub mod Part

@@ -33,7 +33,7 @@ loop-less : tie.Need-loop-less Inv-loop μ-loop
 loop-less c = search needs
 
 loop-again : tie.Need-loop-again Inv-loop μ-loop
-loop-again c = through-next (c .before .before .before .before .before .before .before .before .before .before .loop .inv) (c .before .before .before .before .before .before .before .before .before .loop-test .taken) (c .before .before .before .before .before .before .before .part-at .ensures ∙ c .before .before .before .before .before .before .before .before .before .before .before .before .before .before .pre .1 .at (c .before .before .before .before .before .before .before .before .before .before .loop .j)) (c .before .before .before .before .before .before .put .ensures) (c .before .before .put-byte .ensures)
+loop-again c = through-next (c .before .before .before .before .before .before .before .before .before .before .loop .inv) (c .before .before .before .before .before .before .before .before .before .loop-test .taken) (c .before .before .before .before .before .before .before .part-at .ensures .holds ∙ c .before .before .before .before .before .before .before .before .before .before .before .before .before .before .pre .1 .at (c .before .before .before .before .before .before .before .before .before .before .loop .j)) (c .before .before .before .before .before .before .put .ensures) (c .before .before .put-byte .ensures)
 
 same-length : tie.Need-same-length Inv-loop μ-loop
 same-length c = through-length (c .before .loop .inv)

@@ -22,7 +22,7 @@ part-result-end : tie.Need-part-result-end
 part-result-end c = search needs
 
 returns : tie.Need-returns
-returns c = let a = c .before .before .args in let e : a .place .start + a .place .len - a .place .start ≡ a .place .len = omega arith in record { its-part = ap (λ (n : ℕ). take n (drop (a .place .start) (now (a .s)))) e; its-no = refl; its-field = refl }
+returns c = let a = c .before .before .args in let e : a .place .start + a .place .len - a .place .start ≡ a .place .len = omega arith in record { its-part = record { stands = refl; holds = ap (λ (n : ℕ). take n (drop (a .place .start) (now (a .s)))) e }; its-no = refl; its-field = refl }
 
 pub part-at-spec : {M : Type 1} → statement M
 part-at-spec = tie.close (tie.spec add-end sub-result part-result-start part-result-end returns)

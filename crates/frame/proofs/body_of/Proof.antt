@@ -1,5 +1,6 @@
 -- `frame::body_of` meets its contract.
 -- Assumes nothing.
+use mathlib.Core.Path.{refl}
 use denote.Ref.{now}
 use Rattle.frame.proofs.Check.{body-part}
 use borrow.Author.Needs.{needs}
@@ -19,7 +20,7 @@ part-result-end : tie.Need-part-result-end
 part-result-end c = search needs
 
 returns : tie.Need-returns
-returns c = body-part (now (c .before .before .before .args .s)) _ (c .before .body-length .ensures)
+returns c = record { stands = refl; holds = body-part (now (c .before .before .before .args .s)) _ (c .before .body-length .ensures) }
 
 pub body-of-spec : {M : Type 1} → statement M
 body-of-spec =

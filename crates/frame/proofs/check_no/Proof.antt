@@ -15,7 +15,7 @@ use Rattle.frame.proofs.check_no.Tie as tie
 -- past the tests of the form: the comparison decides
 formed : (c : tie.After-are-same) → checkNo (c .before .before .before .before .before .before .before .before .before .before .before .args .mark) (now (c .before .before .before .before .before .before .before .before .before .before .before .args .s)) ≡ cond (c .are-same .result) 0 4
 formed c =
-    check-then _ _ (c .before .before .before .before .before .before .before .before .before .check-of .ensures) (sym (c .before .before .before .before .before .before .before .before .is-hex .ensures) ∙ not-false _ (c .before .before .before .before .before .before .before .if1 .left)) (c .before .before .before .before .before .before .body-of .ensures) (sym (c .before .before .before .before .before .ends-in .ensures) ∙ not-false _ (c .before .before .before .before .if2 .left))
+    check-then _ _ (c .before .before .before .before .before .before .before .before .before .check-of .ensures) (sym (c .before .before .before .before .before .before .before .before .is-hex .ensures) ∙ not-false _ (c .before .before .before .before .before .before .before .if1 .left)) (c .before .before .before .before .before .before .body-of .ensures .holds) (sym (c .before .before .before .before .before .ends-in .ensures) ∙ not-false _ (c .before .before .before .before .if2 .left))
     ∙ ap (λ (x : Bool). cond x 0 4) (ap (same (now (c .before .before .before .before .before .before .before .before .before .check-of .result))) (sym (c .before .before .check-text .ensures ∙ ap checkText (c .before .before .before .crc-of .ensures))) ∙ sym (c .are-same .ensures))
 
 check-of-requires : tie.Need-check-of-requires
@@ -34,7 +34,7 @@ ends-in-requires : tie.Need-ends-in-requires
 ends-in-requires c κs = search needs
 
 returns-2 : tie.Need-returns-2
-returns-2 c = sym (check-mark _ _ (c .before .before .before .before .before .check-of .ensures) (sym (c .before .before .before .before .is-hex .ensures) ∙ not-false _ (c .before .before .before .if1 .left)) (c .before .before .body-of .ensures) (sym (c .before .ends-in .ensures) ∙ not-true _ (c .if2 .taken)))
+returns-2 c = sym (check-mark _ _ (c .before .before .before .before .before .check-of .ensures) (sym (c .before .before .before .before .is-hex .ensures) ∙ not-false _ (c .before .before .before .if1 .left)) (c .before .before .body-of .ensures .holds) (sym (c .before .ends-in .ensures) ∙ not-true _ (c .if2 .taken)))
 
 crc-of-requires : tie.Need-crc-of-requires
 crc-of-requires c κs = search needs

@@ -1,8 +1,12 @@
 -- `frame::part` meets its contract.
 -- Assumes nothing.
+use Prim.Native.Nat.{_<_}
+use mathlib.Core.Path.{refl}
 use denote.Ref.{now}
 use native.Mathlib.Omega.{arith}
-use Rattle.frame.proofs.Parts.{next-from, next-within, part-none, part-there}
+use lib.ListN.{length}
+use Rattle.text.proofs.Part.{same-part}
+use Rattle.frame.proofs.Parts.{next-from, next-within, part-none, part-there, place-none, place-there}
 use borrow.Author.Needs.{needs}
 use Rattle.frame.proofs.part.Statement.{statement}
 use Rattle.frame.proofs.part.Tie as tie
@@ -20,7 +24,7 @@ part-result-end : tie.Need-part-result-end
 part-result-end c = search needs
 
 returns : tie.Need-returns
-returns c = part-none _ _ _ _ (c .before .before .part-start .ensures) (c .before .if1 .taken)
+returns c = let q = c .before .before .part-start .ensures in let h = c .before .if1 .taken in same-part (place-none _ _ _ _ q h) (part-none _ _ _ _ q h) (record { stands = refl; holds = refl })
 
 next-mark-requires : tie.Need-next-mark-requires
 next-mark-requires c κs = search needs
@@ -35,7 +39,10 @@ part-result-end-2 : tie.Need-part-result-end-2
 part-result-end-2 c = let a = c .before .before .before .before .args in omega (arith, c .next-mark .ensures, next-within (a .mark) (now (a .s)) (c .before .before .part-start .result) (omega arith))
 
 returns-2 : tie.Need-returns-2
-returns-2 c = part-there _ _ _ _ (c .before .before .before .part-start .ensures) (omega (arith, c .before .before .if1 .left)) _ (c .before .next-mark .ensures)
+returns-2 c =
+    let q = c .before .before .before .part-start .ensures in
+    let h : c .before .before .before .part-start .result < length (now (c .before .before .before .before .before .args .s)) = omega (arith, c .before .before .if1 .left) in
+    same-part (place-there _ _ _ _ q h) (part-there _ _ _ _ q h _ (c .before .next-mark .ensures)) (record { stands = refl; holds = refl })
 
 pub part-spec : {M : Type 1} → statement M
 part-spec =

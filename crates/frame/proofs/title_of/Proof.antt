@@ -1,5 +1,6 @@
 -- `frame::title_of` meets its contract.
 -- Assumes nothing.
+use mathlib.Core.Path.{refl}
 use denote.Ref.{now}
 use native.Mathlib.Omega.{arith}
 use Rattle.frame.proofs.Title.{title-within, title-part}
@@ -20,7 +21,7 @@ part-result-end : tie.Need-part-result-end
 part-result-end c = omega (arith, title-within (now (c .before .before .args .s)), c .title-length .ensures)
 
 returns : tie.Need-returns
-returns c = title-part (now (c .before .before .before .args .s)) _ (c .before .title-length .ensures)
+returns c = record { stands = refl; holds = title-part (now (c .before .before .before .args .s)) _ (c .before .title-length .ensures) }
 
 pub title-of-spec : {M : Type 1} → statement M
 title-of-spec =

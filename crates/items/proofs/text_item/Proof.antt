@@ -1,5 +1,6 @@
 -- `items::text_item` meets its contract.
 -- Assumes nothing.
+use mathlib.Core.Path.{refl}
 use Rattle.items.proofs.Walk.{handed}
 use borrow.Author.Needs.{needs}
 use Rattle.items.proofs.text_item.Statement.{statement}
@@ -21,7 +22,7 @@ part-result-end : tie.Need-part-result-end
 part-result-end c = search needs
 
 returns : tie.Need-returns
-returns c = handed _ (c .before .before .item-place .ensures)
+returns c = handed _ (c .before .before .item-place .ensures) (record { stands = refl; holds = refl })
 
 pub text-item-spec : {M : Type 1} → statement M
 text-item-spec =

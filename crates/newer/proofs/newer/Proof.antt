@@ -1,6 +1,6 @@
 -- `newer::newer` meets its contract.
 -- Assumes nothing.
-use denote.Ref.{now}
+use mathlib.Core.Path.{refl}
 use Rattle.newer.proofs.Choosing.{chosen-none, chosen-second, chosen-first}
 use borrow.Author.Needs.{needs}
 use Rattle.newer.proofs.newer.Statement.{statement}
@@ -19,13 +19,13 @@ part-result-end : tie.Need-part-result-end
 part-result-end c = search needs
 
 returns : tie.Need-returns
-returns c = chosen-none (now (c .before .before .before .before .before .before .args .first)) (now (c .before .before .before .before .before .before .args .second)) _ _ (c .before .before .before .newer-of .ensures) (c .before .if1 .taken)
+returns c = chosen-none _ _ (c .before .before .before .newer-of .ensures) (c .before .if1 .taken) (record { stands = refl; holds = refl })
 
 returns-2 : tie.Need-returns-2
-returns-2 c = chosen-second (now (c .before .before .before .before .before .before .before .args .first)) (now (c .before .before .before .before .before .before .before .args .second)) _ (c .before .before .before .before .newer-of .ensures) (c .before .before .if1 .left) (c .if2 .taken)
+returns-2 c = chosen-second _ (c .before .before .before .before .newer-of .ensures) (c .before .before .if1 .left) (c .if2 .taken) refl
 
 returns-3 : tie.Need-returns-3
-returns-3 c = chosen-first (now (c .before .before .before .before .before .before .before .args .first)) (now (c .before .before .before .before .before .before .before .args .second)) _ (c .before .before .before .before .newer-of .ensures) (c .before .before .if1 .left) (c .if2 .left)
+returns-3 c = chosen-first _ (c .before .before .before .before .newer-of .ensures) (c .before .before .if1 .left) (c .if2 .left) refl
 
 pub newer-spec : {M : Type 1} → statement M
 newer-spec =

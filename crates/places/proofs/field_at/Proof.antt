@@ -1,22 +1,15 @@
 -- `places::field_at` meets its contract.
 -- Assumes nothing.
-use mathlib.Core.Path.{_∙_}
-use Rattle.places.proofs.Stands.{field-first, field-next}
+use Rattle.places.proofs.Stands.{field-none, field-next}
 use borrow.Author.Needs.{needs}
 use Rattle.places.proofs.field_at.Statement.{statement}
 use Rattle.places.proofs.field_at.Tie as tie
 
-sub-result : tie.Need-sub-result
-sub-result c = search needs
-
-part-result-start : tie.Need-part-result-start
-part-result-start c = search needs
-
-part-result-end : tie.Need-part-result-end
-part-result-end c = search needs
+none-of-requires : tie.Need-none-of-requires
+none-of-requires c κs = search needs
 
 returns : tie.Need-returns
-returns c = field-first _ _ _ _ (c .before .if1 .taken)
+returns c = field-none _ _ _ (c .before .if1 .taken) (c .none-of .ensures)
 
 sub-part-at : tie.Need-sub-part-at
 sub-part-at c = search needs
@@ -25,16 +18,8 @@ part-at-requires : tie.Need-part-at-requires
 part-at-requires c κs = search needs
 
 returns-2 : tie.Need-returns-2
-returns-2 c = c .part-at .ensures ∙ field-next _ _ _ (c .before .before .before .args .number) (c .before .if1 .left)
+returns-2 c = field-next _ _ (c .before .before .before .args .number) (c .before .if1 .left) (c .part-at .ensures)
 
 pub field-at-spec : {M : Type 1} → statement M
 field-at-spec =
-    tie.close
-    (tie.spec
-    sub-result
-    part-result-start
-    part-result-end
-    returns
-    sub-part-at
-    part-at-requires
-    returns-2)
+    tie.close (tie.spec none-of-requires returns sub-part-at part-at-requires returns-2)

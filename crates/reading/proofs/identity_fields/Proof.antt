@@ -1,6 +1,5 @@
 -- `reading::identity_fields` meets its contract. The loop's invariant: the fields before j are accepted.
 -- Assumes nothing.
-use denote.Ref.{now}
 use Prim.Native.Nat.{_-_, _≤_}
 use mathlib.Core.Path.{sym, _∙_}
 use native.Mathlib.Omega.{arith}
@@ -41,13 +40,13 @@ cast-t11 : tie.Need-cast-t11 Inv-loop μ-loop
 cast-t11 c = omega (arith, few-fields _ _ (c .before .before .before .before .before .before .count-of .ensures))
 
 returns : tie.Need-returns Inv-loop μ-loop
-returns c = turn-stop nobody _ _ _ _ _ (c .before .before .before .before .before .before .count-of .ensures) _ (c .before .before .before .before .before .loop .inv .0) (c .before .before .before .before .loop-test .taken) _ (c .before .before .part-at .ensures) (c .before .before .before .type-of .ensures) (c .before .text-no .ensures ∙ sym (plain-answer nobody _ _ _ _ (c .before .before .before .before .before .before .before .before .pre) (c .before .before .before .type-of .ensures))) (c .if1 .taken)
+returns c = turn-stop nobody _ _ _ _ _ (c .before .before .before .before .before .before .count-of .ensures) _ (c .before .before .before .before .before .loop .inv .0) (c .before .before .before .before .loop-test .taken) _ (c .before .before .part-at .ensures .holds) (c .before .before .before .type-of .ensures) (c .before .text-no .ensures ∙ sym (plain-answer nobody _ _ _ _ (c .before .before .before .before .before .before .before .before .pre) (c .before .before .before .type-of .ensures))) (c .if1 .taken)
 
 loop-less : tie.Need-loop-less Inv-loop μ-loop
 loop-less c = search needs
 
 loop-again : tie.Need-loop-again Inv-loop μ-loop
-loop-again c = (turn-on nobody _ _ _ _ _ (c .before .before .before .before .before .before .count-of .ensures) _ (c .before .before .before .before .before .loop .inv .0) (c .before .before .before .before .loop-test .taken) _ (c .before .before .part-at .ensures) (c .before .before .before .type-of .ensures) (c .before .text-no .ensures ∙ sym (plain-answer nobody _ _ _ _ (c .before .before .before .before .before .before .before .before .pre) (c .before .before .before .type-of .ensures))) (c .if1 .left), omega arith)
+loop-again c = (turn-on nobody _ _ _ _ _ (c .before .before .before .before .before .before .count-of .ensures) _ (c .before .before .before .before .before .loop .inv .0) (c .before .before .before .before .loop-test .taken) _ (c .before .before .part-at .ensures .holds) (c .before .before .before .type-of .ensures) (c .before .text-no .ensures ∙ sym (plain-answer nobody _ _ _ _ (c .before .before .before .before .before .before .before .before .pre) (c .before .before .before .type-of .ensures))) (c .if1 .left), omega arith)
 
 returns-2 : tie.Need-returns-2 Inv-loop μ-loop
 returns-2 c = turn-done nobody _ _ _ _ _ (c .before .before .count-of .ensures) _ (c .before .loop .inv .0) (c .loop-test .left)

@@ -15,7 +15,7 @@ use Rattle.reading.proofs.read_identity.Tie as tie
 
 -- numbers 1 to 4
 start : (c : tie.After-form-no) → Begun identityKinds (now (c .before .before .before .before .before .before .args .identity)) (c .before .identity-kind .result) (c .form-no .result)
-start c = begun identityKinds _ _ _ _ _ (c .before .before .before .before .if1 .left) (c .before .before .before .title-of .ensures) (c .before .before .mark-after .ensures) (c .before .identity-kind .ensures) (c .form-no .ensures)
+start c = begun identityKinds _ _ _ _ _ (c .before .before .before .before .if1 .left) (c .before .before .before .title-of .ensures .holds) (c .before .before .mark-after .ensures) (c .before .identity-kind .ensures) (c .form-no .ensures)
 
 refuse-requires : tie.Need-refuse-requires
 refuse-requires c κs = search needs
@@ -57,7 +57,7 @@ refuse-requires-3 : tie.Need-refuse-requires-3
 refuse-requires-3 c κs = search needs
 
 returns-3 : tie.Need-returns-3
-returns-3 c = c .refuse3 .ensures ∙ sym (ap answerOf (identity-is _ ∙ call-many nobody (start (c .before .before .before .before .before .before .before .before)) (c .before .before .before .before .before .before .before .if2 .left) _ (c .before .before .before .before .before .before .body-of .ensures) _ (c .before .before .before .before .before .mark-of .ensures) _ (c .before .before .before .before .places-of .ensures) _ (c .before .before .before .count-of .ensures) (c .before .if3 .taken)))
+returns-3 c = c .refuse3 .ensures ∙ sym (ap answerOf (identity-is _ ∙ call-many nobody (start (c .before .before .before .before .before .before .before .before)) (c .before .before .before .before .before .before .before .if2 .left) _ (c .before .before .before .before .before .before .body-of .ensures .holds) _ (c .before .before .before .before .before .mark-of .ensures) _ (c .before .before .before .before .places-of .ensures) _ (c .before .before .before .count-of .ensures) (c .before .if3 .taken)))
 
 identity-fields-requires : tie.Need-identity-fields-requires
 identity-fields-requires c κs = identity-below (start (c .before .before .before .before .before .before .before .before .before .before .before)) (c .before .before .before .before .before .before .before .before .before .before .if2 .left)
@@ -66,13 +66,13 @@ refuse-requires-4 : tie.Need-refuse-requires-4
 refuse-requires-4 c κs = search needs
 
 returns-4 : tie.Need-returns-4
-returns-4 c = c .refuse4 .ensures ∙ sym (ap answerOf (identity-is _ ∙ call-field nobody (start (c .before .before .before .before .before .before .before .before .before .before .before .before .before .before .before)) (c .before .before .before .before .before .before .before .before .before .before .before .before .before .before .if2 .left) _ (c .before .before .before .before .before .before .before .before .before .before .before .before .before .body-of .ensures) _ (c .before .before .before .before .before .before .before .before .before .before .before .before .mark-of .ensures) _ (c .before .before .before .before .before .before .before .before .before .before .before .places-of .ensures) _ (c .before .before .before .before .before .before .before .before .before .before .count-of .ensures) (c .before .before .before .before .before .before .before .before .if3 .left) (c .before .before .before .identity-fields .ensures) (c .before .if4 .taken)))
+returns-4 c = c .refuse4 .ensures ∙ sym (ap answerOf (identity-is _ ∙ call-field nobody (start (c .before .before .before .before .before .before .before .before .before .before .before .before .before .before .before)) (c .before .before .before .before .before .before .before .before .before .before .before .before .before .before .if2 .left) _ (c .before .before .before .before .before .before .before .before .before .before .before .before .before .body-of .ensures .holds) _ (c .before .before .before .before .before .before .before .before .before .before .before .before .mark-of .ensures) _ (c .before .before .before .before .before .before .before .before .before .before .before .places-of .ensures) _ (c .before .before .before .before .before .before .before .before .before .before .count-of .ensures) (c .before .before .before .before .before .before .before .before .if3 .left) (c .before .before .before .identity-fields .ensures) (c .before .if4 .taken)))
 
 returns-5 : tie.Need-returns-5
 returns-5 c =
     let s = start (c .before .before .before .before .before .before .before .before .before .before .before .before .before .before) in let z = c .before .before .before .before .before .before .before .before .before .before .before .before .before .if2 .left in
-    let read : readIdentity (now (c .before .before .before .before .before .before .before .before .before .before .before .before .before .before .before .before .before .before .before .before .args .identity)) ≡ accepted (call-kind nobody s z .kind) (call-parts nobody s z) = identity-is _ ∙ call-accepted nobody (start (c .before .before .before .before .before .before .before .before .before .before .before .before .before .before)) (c .before .before .before .before .before .before .before .before .before .before .before .before .before .if2 .left) _ (c .before .before .before .before .before .before .before .before .before .before .before .before .body-of .ensures) _ (c .before .before .before .before .before .before .before .before .before .before .before .mark-of .ensures) _ (c .before .before .before .before .before .before .before .before .before .before .places-of .ensures) _ (c .before .before .before .before .before .before .before .before .before .count-of .ensures) (c .before .before .before .before .before .before .before .if3 .left) (c .before .before .identity-fields .ensures) (c .if4 .left) (identity-plain s z) in
-    taken-so _ _ _ _ _ _ (call-kind nobody s z .at) (call-starts nobody (start (c .before .before .before .before .before .before .before .before .before .before .before .before .before .before)) (c .before .before .before .before .before .before .before .before .before .before .before .before .before .if2 .left) _ (c .before .before .before .before .before .before .before .before .before .before .before .before .body-of .ensures) _ (c .before .before .before .before .before .before .before .before .before .before .before .mark-of .ensures) _ (c .before .before .before .before .before .before .before .before .before .before .places-of .ensures) (its-parts (identity-exact _ _ _ .0 read))) (call-lens nobody (start (c .before .before .before .before .before .before .before .before .before .before .before .before .before .before)) (c .before .before .before .before .before .before .before .before .before .before .before .before .before .if2 .left) _ (c .before .before .before .before .before .before .before .before .before .before .before .before .body-of .ensures) _ (c .before .before .before .before .before .before .before .before .before .before .before .mark-of .ensures) _ (c .before .before .before .before .before .before .before .before .before .before .places-of .ensures)) (identity-kinds s z)
+    let read : readIdentity (now (c .before .before .before .before .before .before .before .before .before .before .before .before .before .before .before .before .before .before .before .before .args .identity)) ≡ accepted (call-kind nobody s z .kind) (call-parts nobody s z) = identity-is _ ∙ call-accepted nobody (start (c .before .before .before .before .before .before .before .before .before .before .before .before .before .before)) (c .before .before .before .before .before .before .before .before .before .before .before .before .before .if2 .left) _ (c .before .before .before .before .before .before .before .before .before .before .before .before .body-of .ensures .holds) _ (c .before .before .before .before .before .before .before .before .before .before .before .mark-of .ensures) _ (c .before .before .before .before .before .before .before .before .before .before .places-of .ensures) _ (c .before .before .before .before .before .before .before .before .before .count-of .ensures) (c .before .before .before .before .before .before .before .if3 .left) (c .before .before .identity-fields .ensures) (c .if4 .left) (identity-plain s z) in
+    taken-so _ _ _ _ _ _ (call-kind nobody s z .at) (call-starts nobody (start (c .before .before .before .before .before .before .before .before .before .before .before .before .before .before)) (c .before .before .before .before .before .before .before .before .before .before .before .before .before .if2 .left) _ (c .before .before .before .before .before .before .before .before .before .before .before .before .body-of .ensures .holds) _ (c .before .before .before .before .before .before .before .before .before .before .before .mark-of .ensures) _ (c .before .before .before .before .before .before .before .before .before .before .places-of .ensures) (its-parts (identity-exact _ _ _ .0 read))) (call-lens nobody (start (c .before .before .before .before .before .before .before .before .before .before .before .before .before .before)) (c .before .before .before .before .before .before .before .before .before .before .before .before .before .if2 .left) _ (c .before .before .before .before .before .before .before .before .before .before .before .before .body-of .ensures .holds) _ (c .before .before .before .before .before .before .before .before .before .before .before .mark-of .ensures) _ (c .before .before .before .before .before .before .before .before .before .before .places-of .ensures)) (identity-kinds s z)
     ∙ sym (ap answerOf read)
 
 pub read-identity-spec : {M : Type 1} → statement M

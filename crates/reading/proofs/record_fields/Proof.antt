@@ -1,7 +1,6 @@
 -- `reading::record_fields` meets its contract. The loop's invariant: the fields before j are accepted, and the kinds are all there
 -- once those from field j on are written.
 -- Assumes nothing.
-use denote.Ref.{now}
 use Prim.Native.Nat.{_-_, _≤_}
 use mathlib.Core.Path.{ap, _∙_}
 use native.Mathlib.Omega.{arith}
@@ -49,13 +48,13 @@ cast-t15 : tie.Need-cast-t15 Inv-loop μ-loop
 cast-t15 c = omega (arith, few-fields _ _ (c .before .before .before .before .before .before .before .count-of .ensures))
 
 returns : tie.Need-returns Inv-loop μ-loop
-returns c = record { refusal = turn-stop readIdentity _ _ _ _ _ (c .before .before .before .before .before .before .before .count-of .ensures) _ (c .before .before .before .before .before .before .loop .inv .0) (c .before .before .before .before .before .loop-test .taken) _ (c .before .before .before .part-at .ensures) (c .before .before .before .before .type-of .ensures) (its-no _ _ _ (c .before .before .field-said .ensures)) (c .if1 .taken); all-kinds = λ z. absurd (c .if1 .taken z) }
+returns c = record { refusal = turn-stop readIdentity _ _ _ _ _ (c .before .before .before .before .before .before .before .count-of .ensures) _ (c .before .before .before .before .before .before .loop .inv .0) (c .before .before .before .before .before .loop-test .taken) _ (c .before .before .before .part-at .ensures .holds) (c .before .before .before .before .type-of .ensures) (its-no _ _ _ (c .before .before .field-said .ensures)) (c .if1 .taken); all-kinds = λ z. absurd (c .if1 .taken z) }
 
 loop-less : tie.Need-loop-less Inv-loop μ-loop
 loop-less c = search needs
 
 loop-again : tie.Need-loop-again Inv-loop μ-loop
-loop-again c = (turn-on readIdentity _ _ _ _ _ (c .before .before .before .before .before .before .before .count-of .ensures) _ (c .before .before .before .before .before .before .loop .inv .0) (c .before .before .before .before .before .loop-test .taken) _ (c .before .before .before .part-at .ensures) (c .before .before .before .before .type-of .ensures) (its-no _ _ _ (c .before .before .field-said .ensures)) (c .if1 .left), kinds-on (c .before .before .before .before .before .before .loop .inv .1) (omega (arith, c .before .before .before .before .before .before .before .count-of .ensures, c .before .before .before .before .before .loop-test .taken)) _ _ (c .before .before .before .before .type-of .ensures) (its-kind _ _ _ (c .before .before .field-said .ensures) ∙ ap (kindWithin (fieldType (c .before .before .before .before .type-of .result))) (its-part readIdentity _ _ _ _ _ (c .before .before .before .before .before .before .before .count-of .ensures) _ (c .before .before .before .before .before .before .loop .inv .0) (c .before .before .before .before .before .loop-test .taken) _ (c .before .before .before .part-at .ensures))), omega arith)
+loop-again c = (turn-on readIdentity _ _ _ _ _ (c .before .before .before .before .before .before .before .count-of .ensures) _ (c .before .before .before .before .before .before .loop .inv .0) (c .before .before .before .before .before .loop-test .taken) _ (c .before .before .before .part-at .ensures .holds) (c .before .before .before .before .type-of .ensures) (its-no _ _ _ (c .before .before .field-said .ensures)) (c .if1 .left), kinds-on (c .before .before .before .before .before .before .loop .inv .1) (omega (arith, c .before .before .before .before .before .before .before .count-of .ensures, c .before .before .before .before .before .loop-test .taken)) _ _ (c .before .before .before .before .type-of .ensures) (its-kind _ _ _ (c .before .before .field-said .ensures) ∙ ap (kindWithin (fieldType (c .before .before .before .before .type-of .result))) (its-part readIdentity _ _ _ _ _ (c .before .before .before .before .before .before .before .count-of .ensures) _ (c .before .before .before .before .before .before .loop .inv .0) (c .before .before .before .before .before .loop-test .taken) _ (c .before .before .before .part-at .ensures .holds))), omega arith)
 
 returns-2 : tie.Need-returns-2 Inv-loop μ-loop
 returns-2 c = record { refusal = turn-done readIdentity _ _ _ _ _ (c .before .before .count-of .ensures) _ (c .before .loop .inv .0) (c .loop-test .left); all-kinds = λ z. kinds-done (c .before .loop .inv .1) (omega (arith, c .before .before .count-of .ensures, c .loop-test .left)) }

@@ -21,10 +21,10 @@ field-at-requires-2 : tie.Need-field-at-requires-2
 field-at-requires-2 c κs = search needs
 
 returns-2 : tie.Need-returns-2
-returns-2 c = sym (whole-fields _ _ _ _ _ _ (sym (c .before .before .before .before .is-pubkey .ensures) ∙ not-false _ (c .before .before .before .if1 .left)) (c .before .before .field-at .ensures) (c .before .field-at2 .ensures) ∙ ap (λ (b : Bool). cond b 0 8) (c .if2 .taken))
+returns-2 c = sym (whole-fields _ _ _ _ _ _ (sym (c .before .before .before .before .is-pubkey .ensures) ∙ not-false _ (c .before .before .before .if1 .left)) (c .before .before .field-at .ensures .holds) (c .before .field-at2 .ensures .holds) ∙ ap (λ (b : Bool). cond b 0 8) (c .if2 .taken))
 
 returns-3 : tie.Need-returns-3
-returns-3 c = sym (whole-fields _ _ _ _ _ _ (sym (c .before .before .before .before .is-pubkey .ensures) ∙ not-false _ (c .before .before .before .if1 .left)) (c .before .before .field-at .ensures) (c .before .field-at2 .ensures) ∙ ap (λ (b : Bool). cond b 0 8) (c .if2 .left))
+returns-3 c = sym (whole-fields _ _ _ _ _ _ (sym (c .before .before .before .before .is-pubkey .ensures) ∙ not-false _ (c .before .before .before .if1 .left)) (c .before .before .field-at .ensures .holds) (c .before .field-at2 .ensures .holds) ∙ ap (λ (b : Bool). cond b 0 8) (c .if2 .left))
 
 pub whole-no-spec : {M : Type 1} → statement M
 whole-no-spec =

@@ -14,7 +14,7 @@ use Rattle.subjects.proofs.are_alike.Tie as tie
 
 -- past the first test: of one kind
 one-kind : (c : tie.Else1) → same (title (now (c .before .before .before .before .before .before .args .s))) (title (now (c .before .before .before .before .before .before .args .t))) ≡ true
-one-kind c = sym (c .before .are-same .ensures ∙ ap₂ same (c .before .before .before .title-of .ensures) (c .before .before .title-of2 .ensures)) ∙ not-false _ (c .if1 .left)
+one-kind c = sym (c .before .are-same .ensures ∙ ap₂ same (c .before .before .before .title-of .ensures .holds) (c .before .before .title-of2 .ensures .holds)) ∙ not-false _ (c .if1 .left)
 
 title-of-requires : tie.Need-title-of-requires
 title-of-requires c κs = search needs
@@ -27,7 +27,7 @@ are-same-requires c κs = search needs
 
 returns : tie.Need-returns
 unfolding areAlike
-returns c = sym (and-stop _ _ (sym (c .before .are-same .ensures ∙ ap₂ same (c .before .before .before .title-of .ensures) (c .before .before .title-of2 .ensures)) ∙ not-true _ (c .if1 .taken)))
+returns c = sym (and-stop _ _ (sym (c .before .are-same .ensures ∙ ap₂ same (c .before .before .before .title-of .ensures .holds) (c .before .before .title-of2 .ensures .holds)) ∙ not-true _ (c .if1 .taken)))
 
 do-agree-requires : tie.Need-do-agree-requires
 do-agree-requires c κs = search needs
