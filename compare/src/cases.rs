@@ -1,4 +1,6 @@
 //! One case: its call, what it is given, and the forms of the lines that answer it.
+//!
+//! A case makes its call once, or for every byte value in one place of its text.
 
 use crate::calls::Op;
 use compare::crc::crc16;
@@ -8,10 +10,20 @@ use compare::newer::Choice;
 use compare::record::Record;
 use compare::refusal::Refusal;
 
+/// How often a case makes its call.
+#[derive(Clone, Copy, Debug, PartialEq, Eq)]
+pub enum Form {
+    Once,
+    /// For every byte value, with the text that has it between a and b, and ends with those four
+    /// bytes of c that are its own: the check that it makes right. A text without a check has no c.
+    EveryByte,
+}
+
 /// One call with what it is given; what a call does not take is 0 or empty.
 #[derive(Clone, Debug, PartialEq, Eq)]
 pub struct Case {
     pub op: Op,
+    pub form: Form,
     pub n: u64,
     pub a: Vec<u8>,
     pub b: Vec<u8>,
@@ -21,14 +33,69 @@ pub struct Case {
 /// The line that answers a case, without its line feed.
 pub struct Answer {
     pub line: Vec<u8>,
+    /// The numbers in it.
+    pub numbers: Vec<u64>,
     /// The number given back, where the call gives one.
     pub number: Option<u8>,
 }
 
+impl Answer {
+    /// An answer in one number: its only one, or 100 times the first and the second.
+    fn brief(&self) -> u64 {
+        match self.numbers[..] {
+            [number] => number,
+            [first, second, ..] => 100 * first + second,
+            [] => unreachable!("every answer has a number"),
+        }
+    }
+}
+
 impl Case {
+    /// What the answer's line begins with.
+    pub fn label(&self) -> String {
+        let call = self.op.call();
+        match self.form {
+            Form::Once => call.label.to_owned(),
+            Form::EveryByte => format!("{} of every byte", call.name()),
+        }
+    }
+
+    /// The number of the call in the case file; 64 more where it is made for every byte value.
+    pub fn number(&self) -> u8 {
+        match self.form {
+            Form::Once => self.op.number(),
+            Form::EveryByte => 64 + self.op.number(),
+        }
+    }
+
     /// Makes the call.
     pub fn answer(&self) -> Answer {
-        (self.op.call().answer)(self)
+        match self.form {
+            Form::Once => (self.op.call().answer)(self),
+            Form::EveryByte => self.every_byte(),
+        }
+    }
+
+    /// The answers for every byte value: each value whose answer is not that of the value before
+    /// it, and that answer, in one number.
+    fn every_byte(&self) -> Answer {
+        let mut numbers = Vec::new();
+        let mut last = None;
+        for byte in 0..=255 {
+            let said = self.with(byte).answer().brief();
+            if last != Some(said) {
+                numbers.extend([byte.into(), said]);
+            }
+            last = Some(said);
+        }
+        self.values(&numbers)
+    }
+
+    /// The case of one byte value.
+    fn with(&self, byte: u8) -> Case {
+        let check = self.c.chunks(4).nth(byte.into()).unwrap_or_default();
+        let a = [&self.a[..], &[byte], &self.b, check].concat();
+        Case { op: self.op, form: Form::Once, n: self.n, a, b: Vec::new(), c: Vec::new() }
     }
 
     /// The numbers that stand in c, eight bytes each.
@@ -39,9 +106,9 @@ impl Case {
 
     /// The call's label, a text if it has one, and numbers.
     fn said(&self, text: &[u8], numbers: &[u64], number: Option<u8>) -> Answer {
-        let numbers: String = numbers.iter().map(|number| format!(" {number}")).collect();
-        let line = [self.op.call().label.as_bytes(), text, numbers.as_bytes()].concat();
-        Answer { line, number }
+        let written: String = numbers.iter().map(|number| format!(" {number}")).collect();
+        let line = [self.label().as_bytes(), text, written.as_bytes()].concat();
+        Answer { line, numbers: numbers.to_vec(), number }
     }
 
     /// The answer of a call that gives no number of document 01's.
@@ -119,12 +186,15 @@ impl Case {
         self.wrote(&output[..written.unwrap_or(0)], written, &output)
     }
 
-    /// Lends an output of n bytes.
+    /// Lends an output of n bytes, [`LONGEST_OUTPUT`] at the most.
     fn lent(
         &self,
         call: impl FnOnce(&mut [u8]) -> Result<usize, Refusal>,
     ) -> (Result<usize, Refusal>, Vec<u8>) {
-        let mut output = lent_before()[..self.n as usize].to_vec();
+        let room = self.n as usize;
+        assert!(room <= LONGEST_OUTPUT, "an output of {room} bytes");
+        let mut output = lent_before().to_vec();
+        output.resize(room, 0);
         (call(&mut output), output)
     }
 
@@ -154,7 +224,11 @@ fn digest(bytes: &[u8]) -> [u64; 2] {
     [bytes.len() as u64, crc16(bytes).into()]
 }
 
-/// What a lent output holds before the call, as far as it goes: 7 i + 3 modulo 256 at place i.
+/// The longest output that `crates/cases` lends.
+const LONGEST_OUTPUT: usize = 66_560;
+
+/// What a lent output holds before the call, as far as it goes: 7 i + 3 modulo 256 at place i. Behind
+/// it there are zeros.
 pub fn lent_before() -> [u8; 1024] {
     std::array::from_fn(|place| (7 * place + 3) as u8)
 }
@@ -166,7 +240,8 @@ mod tests {
 
     fn line(op: Op, n: u64, parts: [&[u8]; 3]) -> String {
         let [a, b, c] = parts.map(<[u8]>::to_vec);
-        String::from_utf8(Case { op, n, a, b, c }.answer().line).unwrap()
+        let case = Case { op, form: Form::Once, n, a, b, c };
+        String::from_utf8(case.answer().line).unwrap()
     }
 
     #[test]
@@ -227,6 +302,26 @@ mod tests {
         let identity = built.split(' ').nth(1).unwrap();
         assert!(identity.starts_with("SMID.1:A:B:20180101T000000Z:0123456789ABCDEF:"));
         assert_eq!(built, format!("build {identity} 0 0 49 {}", crc16(identity.as_bytes())));
+    }
+
+    fn line_of_every_byte(op: Op, parts: [&[u8]; 3]) -> String {
+        let [a, b, c] = parts.map(<[u8]>::to_vec);
+        let case = Case { op, form: Form::EveryByte, n: 2, a, b, c };
+        String::from_utf8(case.answer().line).unwrap()
+    }
+
+    #[test]
+    fn an_answer_for_every_byte_names_those_that_differ_from_the_one_before() {
+        let no: &[u8] = &[];
+        let hex = line_of_every_byte(Op::Hex, [b"0", no, no]);
+        assert_eq!(hex, "is_hex of every byte 0 0 48 1 58 0 65 1 71 0");
+        let checks: Vec<u8> = (0..=255)
+            .flat_map(|byte| {
+                check_text(crc16(&[b"SMID.1:", &[byte, b':'][..]].concat())).into_bytes()
+            })
+            .collect();
+        let identity = line_of_every_byte(Op::Identity, [b"SMID.1:", b":", &checks]);
+        assert_eq!(identity, "read_identity of every byte 0 500");
     }
 
     #[test]

@@ -4,19 +4,17 @@
 
 mod held;
 
-use compare::kind::{FieldType, Kind};
+use compare::kind::Kind;
 use compare::random::Random;
 use compare::refusal::Refusal as Expected;
 use compare::sample::{self, Signed, Subject};
 use compare::{agreement, file, record, text};
+use held::reading::{same_identity, same_record};
 use held::{
     expect_share, expected, expected_at, expected_line, line_numbers, numbers, of_refusal, place,
     rounds, same_output, Numbers, Seen,
 };
-use obscurlane::{
-    Crc, Identity, InnerIdentity, NewerRefusal, PublicKey, Record, Refusal, Request, Response,
-    View, LONGEST_RECORD,
-};
+use obscurlane::{Crc, NewerRefusal, Record, Refusal, LONGEST_RECORD};
 
 #[test]
 fn text_types() {
@@ -73,73 +71,14 @@ fn check_by_its_state() {
     }
 }
 
-/// A field: its number, its name, its place, and the name of the kind of identity that it is.
-type FieldNumbers = (usize, &'static str, (*const u8, usize), Option<&'static str>);
-/// The name of a record's kind, and its fields.
-type ReadNumbers = (&'static str, Vec<FieldNumbers>);
-
-/// The fields by name, each with the kind of identity that it is.
-fn by_name<'a>(record: &Record<'a>) -> Vec<(&'a [u8], Option<obscurlane::Kind>)> {
-    let text = |text: &'a [u8]| (text, None);
-    let inner = |inner: InnerIdentity<'a>| (inner.bytes, Some(inner.kind));
-    match record.view() {
-        View::Identity(Identity { kind, manufacturer, mid, gnt, fingerprint }) => {
-            assert_eq!(kind, record.kind());
-            [manufacturer, mid, gnt, fingerprint].map(text).to_vec()
-        }
-        View::PublicKey(PublicKey { kind, subject, q, expiry, issuer, signature }) => {
-            assert_eq!(kind, record.kind());
-            let (issuer, signature) = (issuer.map_or(text(b""), inner), signature.unwrap_or(b""));
-            vec![inner(subject), text(q), text(expiry), issuer, text(signature)]
-        }
-        View::Request(Request { id_sm, id_kmc, tvp, hwid, fwid, qe, mac_tag }) => {
-            let texts = [tvp, hwid, fwid, qe, mac_tag].map(text);
-            [inner(id_sm), inner(id_kmc)].into_iter().chain(texts).collect()
-        }
-        View::Response(Response { id_kmc, id_sm, tvp, mac_tag }) => {
-            vec![inner(id_kmc), inner(id_sm), text(tvp), text(mac_tag)]
-        }
-        other => panic!("{other:?} is not tried"),
-    }
-}
-
-/// What the crate read: the same by number, by name, and in order.
-fn read_numbers(record: &Record<'_>) -> ReadNumbers {
-    assert!(record.fields().map(|field| (field.bytes, field.identity)).eq(by_name(record)));
-    let fields = record.fields().map(|field| {
-        assert_eq!(record.field(field.number).map(place), Some(place(field.bytes)));
-        (field.number, field.name, place(field.bytes), field.identity.map(|kind| kind.name()))
-    });
-    (record.kind().name(), fields.collect())
-}
-
-/// What `compare/` read.
-fn expected_read(record: record::Record<'_>) -> ReadNumbers {
-    let entries = record.kind.fields().iter().zip(&record.fields);
-    let fields = (1..).zip(entries).map(|(number, (entry, field))| {
-        let is_identity = matches!(entry.field_type, FieldType::Identity(_)) && !field.is_empty();
-        let inner = is_identity.then(|| record::read_identity(field).expect("accepted with it"));
-        (number, entry.name, place(field), inner.map(|inner| inner.kind.name()))
-    });
-    (record.kind.name(), fields.collect())
-}
-
 #[test]
 fn reading() {
     let mut random = Random::with_seed(2);
     let mut seen = Seen::default();
     for _ in 0..rounds() {
         let bytes = sample::anything(&mut random);
-        let identity = numbers(Record::read_identity(&bytes)).map(|read| read_numbers(&read));
-        assert_eq!(
-            identity,
-            expected(record::read_identity(&bytes)).map(expected_read),
-            "{bytes:?}"
-        );
-        let read = numbers(Record::read(&bytes)).map(|read| read_numbers(&read));
-        assert_eq!(read, expected(record::read_record(&bytes)).map(expected_read), "{bytes:?}");
-        seen.add(&identity);
-        seen.add(&read);
+        seen.add(&same_identity(&bytes));
+        seen.add(&same_record(&bytes));
     }
     seen.expect(0..=9, 9);
 }

@@ -2,9 +2,11 @@
 //! others as they are.
 
 mod agreement;
+mod alphabets;
 mod building;
 mod fields;
 mod files;
+mod long;
 mod newer;
 mod places;
 mod reading;
@@ -12,7 +14,7 @@ mod types;
 mod walks;
 
 use crate::calls::Op;
-use crate::cases::Case;
+use crate::cases::{Case, Form};
 use compare::random::Random;
 
 /// The cases so far, and the numbers that the group at work draws.
@@ -34,6 +36,8 @@ pub fn all() -> Vec<Case> {
         walks::add,
         places::add,
         newer::which,
+        alphabets::add,
+        long::add,
     ];
     let mut plan = Plan { cases: Vec::new(), random: Random::with_seed(0) };
     for (seed, add) in (1..).zip(groups) {
@@ -45,7 +49,7 @@ pub fn all() -> Vec<Case> {
 
 impl Plan {
     fn case(&mut self, op: Op, n: u64, a: Vec<u8>, b: Vec<u8>, c: Vec<u8>) {
-        self.cases.push(Case { op, n, a, b, c });
+        self.cases.push(Case { op, form: Form::Once, n, a, b, c });
     }
 
     /// A call that is given bytes.

@@ -29,7 +29,7 @@ pub fn add(plan: &mut Plan) {
 }
 
 /// The call that reads this kind.
-fn reader(kind: Kind) -> Op {
+pub fn reader(kind: Kind) -> Op {
     if Kind::IDENTITIES.contains(&kind) {
         Op::Identity
     } else {

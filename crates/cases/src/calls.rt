@@ -1,7 +1,7 @@
 // The other calls, by their numbers in the case file.
 use crate::say;
 
-fn test(op: usize, n: usize, a: &[u8]) -> bool {
+pub(crate) fn test(op: usize, n: usize, a: &[u8]) -> bool {
     match op {
         1 => text::is_ident(a),
         2 => text::is_timestamp(a),

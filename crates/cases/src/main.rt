@@ -5,6 +5,7 @@ mod calls;
 mod input;
 mod outputs;
 mod say;
+mod sweeps;
 
 use libc::STDIN_FILENO;
 ghost use mathlib.Core.Path.{_≡_};
@@ -18,18 +19,17 @@ fn room() -> [u8; 1572864]
 }
 
 // One case, by its head: the call, its number n, and its label and its strings a, b and c. An output that is lent has n
-// bytes, and holds before what the file begins with.
+// bytes, and holds before what the file begins with. A call that is made for every byte value has a number of 64 more.
 fn run_case(file: &[u8], head: &[u8]) {
     let op = input::number(head, 0, 1);
     let n = input::number(head, 1, 9);
-    let a = input::string(file, head, 13);
-    let b = input::string(file, head, 17);
+    let a = input::string(file, head, 17);
+    let b = input::string(file, head, 25);
+    let c = input::string(file, head, 33);
     say::text(input::string(file, head, 9));
     match op {
-        24..=27 => {
-            let c = input::string(file, head, 21);
-            outputs::write(op, a, b, c, input::cut(file, 0, n));
-        }
+        24..=27 => outputs::write(op, a, b, c, n, input::cut(file, 0, 1024)),
+        64..=127 => sweeps::sweep(op % 64, n, a, b, c),
         _ => calls::run(op, n, a, b),
     }
     say::text(b"\n");
@@ -39,8 +39,8 @@ fn run_all(file: &[u8]) {
     let end = input::number(file, 1024, 1032) % 4294967296;
     let mut at: usize = 1032;
     while at < end {
-        run_case(file, input::cut(file, at, at + 29));
-        at += 29;
+        run_case(file, input::cut(file, at, at + 41));
+        at += 41;
     }
 }
 

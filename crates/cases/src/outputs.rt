@@ -1,6 +1,15 @@
 // The calls that write into a lent output, by their numbers in the case file.
 use crate::input;
 use crate::say;
+ghost use mathlib.Core.Path.{_≡_};
+ghost use lib.ListN.{length};
+
+// Room for the longest output that is lent, which has more bytes than a number of two bytes can say.
+fn zeros() -> [u8; 66560]
+    ensures { λ r. ⌜ 66560 ≡ length r ⌝ }
+{
+    [0; 66560]
+}
 
 // The lengths of the fields stand in c, eight bytes each, and are eight at the most.
 fn lens_of(c: &[u8]) -> [usize; 8] {
@@ -28,7 +37,7 @@ fn write_to(op: usize, a: &[u8], b: &[u8], c: &[u8], out: &mut [u8]) -> put::Wri
 }
 
 // A record that was built, the answer, and the check of the whole output.
-fn print(op: usize, made: put::Written, space: &[u8; 1024], room: usize) {
+fn print(op: usize, made: put::Written, space: &[u8; 66560], room: usize) {
     if op == 27 {
         say::text(input::cut(space, 0, made.len));
     }
@@ -36,11 +45,11 @@ fn print(op: usize, made: put::Written, space: &[u8; 1024], room: usize) {
     say::number(crc16::crc_of(input::cut(space, 0, room)) as usize);
 }
 
-// The call is lent an output that holds `before`, 1,024 bytes at the most.
-pub(crate) fn write(op: usize, a: &[u8], b: &[u8], c: &[u8], before: &[u8]) {
-    let mut space = [0u8; 1024];
+// The call is lent an output of n bytes that holds `before`, and behind it zeros.
+pub(crate) fn write(op: usize, a: &[u8], b: &[u8], c: &[u8], n: usize, before: &[u8]) {
+    let mut space = zeros();
     put::put(&mut space, 0, before);
-    let room = before.len() % 1025;
+    let room = n % 66561;
     let made = write_to(op, a, b, c, &mut space[..room]);
     print(op, made, &space, room);
 }

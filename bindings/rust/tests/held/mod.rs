@@ -2,6 +2,8 @@
 
 #![allow(dead_code)] // each program takes what it needs
 
+pub mod reading;
+
 use compare::file::{self, Step};
 use compare::refusal::Refusal as Expected;
 use obscurlane::{Line, Refusal};

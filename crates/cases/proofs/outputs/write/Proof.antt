@@ -7,6 +7,9 @@ use borrow.Author.Needs.{needs}
 use Rattle.cases.proofs.outputs.write.Statement.{statement}
 use Rattle.cases.proofs.outputs.write.Tie as tie
 
+zeros-requires : tie.Need-zeros-requires
+zeros-requires c κs = search needs
+
 slice-aggregate-put : tie.Need-slice-aggregate-put
 slice-aggregate-put c = search needs
 
@@ -32,6 +35,7 @@ pub write-spec : {M : Type 1} → statement M
 write-spec =
     tie.close
     (tie.spec
+    zeros-requires
     slice-aggregate-put
     put-requires
     array-borrow-prefix-space

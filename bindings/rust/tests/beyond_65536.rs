@@ -1,0 +1,205 @@
+//! Lengths, numbers and places that are right only modulo 65,536, or beyond it, held against `compare/`. A library that keeps a
+//! length in two bytes is refused here.
+
+mod held;
+
+use compare::kind::Kind;
+use compare::random::Random;
+use compare::refusal::Refusal as Expected;
+use compare::sample::{self, Signed};
+use compare::{agreement, file, record, text};
+use held::reading::{same_identity, same_record};
+use held::{expected, expected_at, line_numbers, numbers, place, same_output};
+use obscurlane::Refusal;
+
+/// What a length in two bytes forgets.
+const MORE: usize = 1 << 16;
+
+/// The bytes with so many digits behind them, and before them.
+fn longer(bytes: &[u8]) -> [Vec<u8>; 2] {
+    let digits = [b'0'; MORE];
+    [[bytes, &digits].concat(), [&digits, bytes].concat()]
+}
+
+/// A record of every kind; a public key is signed.
+fn records() -> [(Kind, Vec<Vec<u8>>); 7] {
+    let mut random = Random::with_seed(71);
+    Kind::ALL.map(|kind| (kind, sample::fields(&mut random, kind, Signed::Yes)))
+}
+
+fn of(kind: Kind) -> Vec<u8> {
+    sample::record(&mut Random::with_seed(72), kind)
+}
+
+#[test]
+fn text_types() {
+    let digits = vec![b'0'; MORE + text::SIG_DIGITS];
+    for text in longer(b"Prism") {
+        assert!(!obscurlane::is_ident(&text));
+    }
+    for text in longer(b"20180120T090000Z") {
+        assert!(!obscurlane::is_timestamp(&text));
+    }
+    for text in longer(&sample::point(&mut Random::with_seed(73))) {
+        assert!(!obscurlane::is_point(&text));
+    }
+    assert!(!obscurlane::is_sig(&digits[..MORE + text::SIG_DIGITS]));
+    assert!(!obscurlane::is_mac(&digits[..MORE + text::MAC_DIGITS]));
+    assert!(!obscurlane::is_print(&digits[..MORE + text::PRINT_DIGITS]));
+    for (n, length) in [(16, MORE + 16), (MORE + 16, 16), (0, MORE), (MORE, 0)] {
+        assert!(!obscurlane::is_hex(n, &digits[..length]), "{length} digits as HEX({n})");
+    }
+    assert!(obscurlane::is_hex(MORE + 16, &digits[..MORE + 16]));
+}
+
+#[test]
+fn checks() {
+    for (kind, fields) in records() {
+        for bytes in longer(&sample::of_kind(kind, &fields)) {
+            assert_eq!(obscurlane::crc_of(&bytes), compare::crc::crc16(&bytes));
+        }
+    }
+}
+
+/// Whole records that are longer, and records of which one field is, with a right check.
+#[test]
+fn readings() {
+    let mut tried = Vec::new();
+    for (kind, fields) in records() {
+        tried.extend(longer(&sample::of_kind(kind, &fields)));
+        for index in 0..fields.len() {
+            for field in longer(&fields[index]) {
+                let mut fields = fields.clone();
+                fields[index] = field;
+                tried.push(sample::of_kind(kind, &fields));
+            }
+        }
+    }
+    for bytes in tried {
+        assert_eq!(same_identity(&bytes).unwrap_err(), (1, 0));
+        assert_eq!(same_record(&bytes).unwrap_err(), (1, 0));
+        assert_eq!(numbers(obscurlane::identity_field(&bytes, 1)), Err((1, 0)));
+        assert_eq!(numbers(obscurlane::record_field(&bytes, 1)), Err((1, 0)));
+    }
+}
+
+#[test]
+fn wanted_fields_and_items() {
+    let (identity, record) = (of(Kind::Smid), of(Kind::VkloadReq));
+    let text = agreement::join(&[b"V2", b"20180120T090000Z"]);
+    for wanted in [1 << 8, MORE, 1 << 32].map(|beyond| beyond + 1) {
+        assert_eq!(numbers(obscurlane::identity_field(&identity, wanted)), Err((12, 0)));
+        assert_eq!(numbers(obscurlane::record_field(&record, wanted)), Err((12, 0)));
+        assert_eq!(numbers(obscurlane::text_item(&text, wanted)), Err((12, 0)));
+    }
+    for text in longer(&text) {
+        for wanted in [1, 2] {
+            let ours = numbers(obscurlane::text_item(&text, wanted)).map(place);
+            assert_eq!(ours, expected(agreement::item(&text, wanted as u64)).map(place));
+        }
+    }
+}
+
+#[test]
+fn keys() {
+    let key = of(Kind::PkEcdh);
+    for longer in longer(&key) {
+        for (first, second) in [(&longer, &key), (&key, &longer)] {
+            let refusal = obscurlane::newer(first, second).expect_err("longer than is read");
+            assert_eq!(refusal.reason().number(), 1);
+            assert_eq!(compare::newer::newer(first, second), Err(Expected::TooLong));
+        }
+    }
+}
+
+type Ours = fn(&[u8], &mut [u8]) -> Result<usize, Refusal>;
+type Theirs = fn(&[u8], &mut [u8]) -> Result<usize, Expected>;
+
+#[test]
+fn texts() {
+    let texts: [(Ours, Theirs); 3] = [
+        (obscurlane::shared_info, agreement::shared_info),
+        (obscurlane::module_text, agreement::module_text),
+        (obscurlane::centre_text, agreement::centre_text),
+    ];
+    let request = of(Kind::VkloadReq);
+    for (ours, theirs) in texts {
+        let same = |request: &Vec<u8>, room| {
+            same_output(room, |out| ours(request, out), |out| theirs(request, out), request)
+        };
+        for longer in longer(&request) {
+            assert_eq!(same(&longer, 1024), Err((1, 0)));
+        }
+        for room in [MORE, MORE + 1, MORE + request.len()] {
+            assert!(same(&request, room).is_ok());
+        }
+    }
+}
+
+fn same_build(kind: Kind, bytes: &[u8], lens: &[usize], room: usize) -> Result<usize, (u8, usize)> {
+    let name = kind.name().as_bytes();
+    let wide: Vec<u64> = lens.iter().map(|&len| len as u64).collect();
+    same_output(
+        room,
+        |out| obscurlane::build(name, bytes, lens, out),
+        |out| compare::build::build(name, bytes, &wide, out),
+        &lens,
+    )
+}
+
+/// A field that is longer, with its length and with the one that it had; only its length; more lengths than there are fields;
+/// and an output whose length is short only modulo 65,536.
+#[test]
+fn building() {
+    for (kind, fields) in records() {
+        let right = fields.concat();
+        let lens: Vec<usize> = fields.iter().map(Vec::len).collect();
+        for index in 0..fields.len() {
+            let mut long_lens = lens.clone();
+            long_lens[index] += MORE;
+            assert_eq!(same_build(kind, &right, &long_lens, 1024), Err((5, 0)));
+            for field in longer(&fields[index]) {
+                let mut fields = fields.clone();
+                fields[index] = field;
+                assert_eq!(same_build(kind, &fields.concat(), &lens, 1024), Err((5, 0)));
+                let refused = same_build(kind, &fields.concat(), &long_lens, 2 * MORE);
+                assert_eq!(refused.unwrap_err().1, index + 1, "{kind:?}");
+            }
+        }
+        for more in [1 << 8, MORE] {
+            let more_lens = [&lens[..], &vec![0; more]].concat();
+            assert_eq!(same_build(kind, &right, &more_lens, 1024), Err((5, 0)));
+        }
+        let needed = sample::of_kind(kind, &fields).len();
+        for room in [MORE, MORE + needed - 1, MORE + needed] {
+            assert_eq!(same_build(kind, &right, &lens, room), Ok(needed));
+        }
+    }
+}
+
+/// Long lines, lines far behind, and many.
+#[test]
+fn files() {
+    let request = of(Kind::VkloadReq);
+    let [followed, preceded] = longer(&request);
+    let ended = |line: &[u8]| [line, b"\n", &request, b"\n"].concat();
+    let files = [ended(&followed), ended(&preceded), followed, vec![b'\n'; MORE + 2]];
+    for file in files {
+        let totals = obscurlane::count(&file);
+        assert_eq!((totals.lines, totals.accepted), file::count(&file));
+        let lines = obscurlane::lines(&file).map(|line| line_numbers(&file, line));
+        assert!(lines.eq(file::lines(&file).map(held::expected_line)));
+        for at in [0, 1, MORE - 1, MORE, MORE + 1, MORE + request.len() + 1] {
+            let line = obscurlane::line_at(&file, at).map(|line| line_numbers(&file, line));
+            assert_eq!(line, expected_at(&file, at), "place {at}");
+        }
+    }
+}
+
+/// The longer ones here are refused for their lengths alone.
+#[test]
+fn what_is_made_longer_is_accepted() {
+    for (kind, fields) in records() {
+        assert!(record::read(&sample::of_kind(kind, &fields), &[kind]).is_ok());
+    }
+}

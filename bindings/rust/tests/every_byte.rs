@@ -1,0 +1,188 @@
+//! Every byte value in one place of what is otherwise right, held against `compare/`: in every place of every text type, of a key
+//! agreement text and of a file, and in the kinds of places that a record has.
+
+mod held;
+
+use compare::kind::{FieldType, Kind};
+use compare::random::Random;
+use compare::record;
+use compare::sample;
+use compare::{agreement, file, text};
+use held::reading::{same_identity, same_record};
+use held::{expected, expected_at, line_numbers, numbers, place, same_output, Seen};
+use obscurlane::LONGEST_RECORD;
+
+/// Tries every byte value in one place.
+fn at_place(bytes: &[u8], place: usize, mut tried: impl FnMut(&[u8])) {
+    let mut changed = bytes.to_vec();
+    for byte in 0..=255 {
+        changed[place] = byte;
+        tried(&changed);
+    }
+}
+
+/// Tries every byte value in every place, one place at a time.
+fn everywhere(bytes: &[u8], mut tried: impl FnMut(&[u8])) {
+    for place in 0..bytes.len() {
+        at_place(bytes, place, &mut tried);
+    }
+}
+
+/// Holds a type against its own for these texts, all of which are of it.
+fn same_type(ours: impl Fn(&[u8]) -> bool, theirs: impl Fn(&[u8]) -> bool, texts: &[Vec<u8>]) {
+    for right in texts {
+        assert!(theirs(right), "{right:?}");
+        everywhere(right, |text| assert_eq!(ours(text), theirs(text), "{text:?}"));
+    }
+}
+
+#[test]
+fn text_types() {
+    let mut random = Random::with_seed(61);
+    let idents = [1, 2, 3, text::LONGEST_IDENT].map(|length| sample::ident(&mut random, length));
+    same_type(obscurlane::is_ident, text::is_ident, &idents);
+    let times = ["00010101T000000Z", "20180120T090000Z", "19991231T235959Z", "20181029T195959Z"];
+    same_type(obscurlane::is_timestamp, text::is_timestamp, &times.map(Into::into));
+    same_type(obscurlane::is_point, text::is_point, &[sample::point(&mut random)]);
+    let mut digits = |length: usize| [sample::hex(&mut random, length)];
+    same_type(obscurlane::is_sig, text::is_sig, &digits(text::SIG_DIGITS));
+    same_type(obscurlane::is_mac, text::is_mac, &digits(text::MAC_DIGITS));
+    same_type(obscurlane::is_print, text::is_print, &digits(text::PRINT_DIGITS));
+    for n in [1, 2, 3, 4, 16, 17, 255, 256, 257] {
+        let theirs = |text: &[u8]| text::is_hex(text, n as u64);
+        same_type(|text| obscurlane::is_hex(n, text), theirs, &digits(n));
+    }
+}
+
+/// Fields of every kind; a public key is signed.
+fn fields_of_kinds() -> [(Kind, Vec<Vec<u8>>); 7] {
+    let mut random = Random::with_seed(62);
+    Kind::ALL.map(|kind| (kind, sample::longest_fields(&mut random, kind)))
+}
+
+/// The places of a record: its name, every mark, its check, and of every field the first, the middle and the last.
+fn places(kind: Kind, fields: &[Vec<u8>]) -> Vec<usize> {
+    let name = kind.name().len();
+    let mut places: Vec<usize> = (0..=name).collect();
+    let mut start = name + 1;
+    for field in fields {
+        let mark = start + field.len();
+        places.extend([start, start + (field.len() - 1) / 2, mark - 1, mark]);
+        start = mark + 1;
+    }
+    places.extend(start..start + 4);
+    places
+}
+
+/// With the check made right again, and with the check as it was.
+#[test]
+fn readings() {
+    let mut seen = Seen::default();
+    for (kind, fields) in fields_of_kinds() {
+        let same = if Kind::IDENTITIES.contains(&kind) { same_identity } else { same_record };
+        let record = sample::of_kind(kind, &fields);
+        for place in places(kind, &fields) {
+            at_place(&record, place, |record| {
+                seen.add(&same(&sample::resealed(record)));
+                seen.add(&same(record));
+            });
+        }
+    }
+    seen.expect([0, 2, 3, 4, 5, 6, 7], 10);
+}
+
+/// In an identity inside a record, its own check and the record's made right again.
+#[test]
+fn identities_inside_records() {
+    let mut random = Random::with_seed(64);
+    let mut seen = Seen::default();
+    for (kind, fields) in fields_of_kinds() {
+        for (index, entry) in kind.fields().iter().enumerate() {
+            let FieldType::Identity(permitted) = entry.field_type else {
+                continue;
+            };
+            let inner = permitted[0];
+            let inner_fields = sample::longest_fields(&mut random, inner);
+            for place in places(inner, &inner_fields) {
+                at_place(&sample::of_kind(inner, &inner_fields), place, |identity| {
+                    let mut fields = fields.clone();
+                    fields[index] = sample::resealed(identity);
+                    seen.add(&same_record(&sample::of_kind(kind, &fields)));
+                });
+            }
+        }
+    }
+    seen.expect([0, 5, 7], 10);
+}
+
+/// First, middle and last place of every field.
+#[test]
+fn building() {
+    let mut seen = Seen::default();
+    for (kind, fields) in fields_of_kinds() {
+        let name = kind.name().as_bytes();
+        let lens: Vec<usize> = fields.iter().map(Vec::len).collect();
+        let wide: Vec<u64> = lens.iter().map(|&len| len as u64).collect();
+        let mut start = 0;
+        for len in &lens {
+            for place in [start, start + len / 2, start + len - 1] {
+                at_place(&fields.concat(), place, |bytes| {
+                    let ours = |out: &mut [u8]| obscurlane::build(name, bytes, &lens, out);
+                    let theirs = |out: &mut [u8]| compare::build::build(name, bytes, &wide, out);
+                    seen.add(&same_output(LONGEST_RECORD, ours, theirs, &bytes));
+                });
+            }
+            start += len;
+        }
+    }
+    seen.expect([0, 6, 7], 1000);
+}
+
+#[test]
+fn single_fields() {
+    for (kind, fields) in fields_of_kinds() {
+        let right = sample::of_kind(kind, &fields);
+        at_place(&right, kind.name().len() + 2, |changed| {
+            let record = sample::resealed(changed);
+            for wanted in 0..=fields.len() + 1 {
+                assert_eq!(
+                    numbers(obscurlane::record_field(&record, wanted)).map(place),
+                    expected(record::record_field(&record, wanted as u64)).map(place),
+                );
+                assert_eq!(
+                    numbers(obscurlane::identity_field(&record, wanted)).map(place),
+                    expected(record::identity_field(&record, wanted as u64)).map(place),
+                );
+            }
+        });
+    }
+}
+
+#[test]
+fn items() {
+    let text = agreement::join(&[b"U_2", b"", &[7; 30], b"20180120T090000Z", &[0xE9; 97]]);
+    everywhere(&text, |text| {
+        for wanted in 0..=7 {
+            assert_eq!(
+                numbers(obscurlane::text_item(text, wanted)).map(place),
+                expected(agreement::item(text, wanted as u64)).map(place),
+                "item {wanted} of {text:?}"
+            );
+        }
+    });
+}
+
+/// Two lines, and every byte value in every place of them, the line feeds among them.
+#[test]
+fn files() {
+    let line = sample::record(&mut Random::with_seed(63), Kind::VkloadResp);
+    let file = [&line[..], b"\n", &line, b"\n"].concat();
+    everywhere(&file, |file| {
+        let totals = obscurlane::count(file);
+        assert_eq!((totals.lines, totals.accepted), file::count(file), "{file:?}");
+        for at in [0, line.len() + 1] {
+            let line = obscurlane::line_at(file, at).map(|line| line_numbers(file, line));
+            assert_eq!(line, expected_at(file, at), "place {at} of {file:?}");
+        }
+    });
+}

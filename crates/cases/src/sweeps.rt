@@ -1,0 +1,57 @@
+// Calls that are made for every byte value in one place of a text, by their numbers in the case file.
+use crate::calls;
+use crate::input;
+use crate::say;
+
+// The answer in one number: its only one, or 100 times the first and the second.
+fn answer(op: usize, n: usize, a: &[u8]) -> usize {
+    match op {
+        8 => crc16::crc_of(a) as usize,
+        10 => {
+            let read = reading::read_identity(a);
+            (read.no as usize) * 100 + (read.field as usize)
+        }
+        11 => {
+            let read = reading::read_record(a);
+            (read.no as usize) * 100 + (read.field as usize)
+        }
+        23 => {
+            let totals = files::count(a);
+            totals.lines % 100 * 100 + totals.accepted % 100
+        }
+        _ => calls::test(op, n, a) as usize,
+    }
+}
+
+// The answer for a text of four pieces, 1,024 bytes at the most.
+fn answer_of(op: usize, n: usize, a: &[u8], byte: u8, b: &[u8], check: &[u8]) -> usize {
+    let mut text = [0u8; 1024];
+    let mut end = put::put(&mut text, 0, a);
+    end = put::put_byte(&mut text, end, byte);
+    end = put::put(&mut text, end, b);
+    end = put::put(&mut text, end, check);
+    answer(op, n, input::cut(&text, 0, end))
+}
+
+// Every byte value between a and b, and behind them its own four bytes of c, the check that it makes right. Where the answer is
+// not that of the value before, the value and the answer are printed.
+pub(crate) fn sweep(op: usize, n: usize, a: &[u8], b: &[u8], c: &[u8]) {
+    let mut last: usize = 65536;
+    let mut byte: usize = 0;
+    while byte < 256 {
+        let said = answer_of(
+            op,
+            n,
+            a,
+            byte as u8,
+            b,
+            input::cut(c, byte * 4, byte * 4 + 4),
+        );
+        if said != last {
+            say::number(byte);
+            say::number(said);
+        }
+        last = said;
+        byte += 1;
+    }
+}
