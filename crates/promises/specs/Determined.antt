@@ -1,5 +1,6 @@
 -- Every public contract determines its call's answer: document 01, "How much each contract says". The statements are about the
--- contracts themselves, as the code has them: `Post` is what a call's `ensures` says of its arguments and its result.
+-- contracts themselves, as the code has them: `Post` is what a call's `ensures` says of its arguments and its result. One call is not here:
+-- `print_list` answers whether the kernel took the list, which no contract can determine.
 -- Assumes nothing.
 use mathlib.Core.Path.{_≡_}
 use denote.Ref.{RefT, now}
@@ -59,9 +60,7 @@ use Rattle.agreement.proofs.centre_text.Reads as centre-text
 use Rattle.files.proofs.line_at.Reads as line-at
 use Rattle.files.proofs.count.Reads as count
 use Rattle.files.proofs.step_from.Reads as step-from
-use Rattle.list_text.proofs.line_text.Reads as line-text
-use Rattle.list_text.proofs.end_text.Reads as end-text
-use Rattle.list_printing.proofs.print_list.Reads as print-list
+use Rattle.list_text.proofs.write_list.Reads as write-list
 use Rattle.subjects.proofs.are_alike.Reads as are-alike
 use Rattle.newer.proofs.newer_of.Reads as newer-of
 use Rattle.newer.proofs.newer.Reads as newer
@@ -159,12 +158,8 @@ pub record Determined : Type 0 where
   pub count : OneAnswer count.Post
   pub step-from : OneAnswer step-from.Post
   -- list_text
-  pub line-text-said : OneAnswer line-text.Post
-  pub line-text-out : OneLeft line-text.Post (λ κs s. now (s .1 .1 .1 .1 .0))
-  pub end-text-said : OneAnswer end-text.Post
-  pub end-text-out : OneLeft end-text.Post (λ κs s. now (s .1 .1 .0))
-  -- list_printing
-  pub print-list : OneAnswer print-list.Post
+  pub write-list-said : OneAnswer write-list.Post
+  pub write-list-out : OneLeft write-list.Post (λ κs s. now (s .1 .0))
   -- subjects
   pub are-alike : OneAnswer are-alike.Post
   -- newer

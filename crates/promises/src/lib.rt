@@ -9,10 +9,11 @@ ghost use Rattle.promises.specs.Reading.{Reading};
 ghost use Rattle.promises.specs.Building.{Building};
 ghost use Rattle.promises.specs.Agreement.{Agreement};
 ghost use Rattle.promises.specs.Files.{Files};
+ghost use Rattle.promises.specs.Listing.{Listing};
 ghost use Rattle.promises.specs.Demand3.{Demand3};
 ghost use Rattle.promises.specs.Newer.{Newer};
 ghost use Rattle.promises.specs.Starred.{AllStarred, starred};
 
 fn promised()
-    ensures { λ _. ⌜ Total × Determined × Interface × Check × TextTypes × Reading × Building × Agreement × Files × Demand3 × Newer × AllStarred starred ⌝ }
+    ensures { λ _. ⌜ Total × Determined × Interface × Check × TextTypes × Reading × Building × Agreement × Files × Listing × Demand3 × Newer × AllStarred starred ⌝ }
 {}

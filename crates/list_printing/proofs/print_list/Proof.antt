@@ -2,7 +2,7 @@
 -- Assumes nothing.
 use native.Mathlib.Nat.{sub-zero}
 use native.Mathlib.Omega.{arith}
-use Rattle.list_text.proofs.Texts.{list-inside, list-front}
+use Rattle.list_text.proofs.Whole.{list-inside, list-front}
 use borrow.Author.Needs.{needs}
 use Rattle.list_printing.proofs.print_list.Statement.{statement}
 use Rattle.list_printing.proofs.print_list.Tie as tie

@@ -3,7 +3,7 @@
 use native.Mathlib.Omega.{arith}
 use Rattle.put.proofs.Pieces.{put-of, put-length, put-then}
 use Rattle.list_text.specs.Listing.{endText}
-use Rattle.list_text.proofs.Texts.{end-parts}
+use Rattle.list_text.proofs.Lengths.{end-parts}
 use borrow.Author.Needs.{needs}
 use Rattle.list_text.proofs.put_end.Statement.{statement}
 use Rattle.list_text.proofs.put_end.Tie as tie

@@ -3,7 +3,7 @@
 use native.Mathlib.Omega.{arith}
 use Rattle.put.proofs.Pieces.{put-length, put-then}
 use Rattle.list_text.specs.Listing.{lineText}
-use Rattle.list_text.proofs.Texts.{line-parts}
+use Rattle.list_text.proofs.Lengths.{line-parts}
 use borrow.Author.Needs.{needs}
 use Rattle.list_text.proofs.put_line.Statement.{statement}
 use Rattle.list_text.proofs.put_line.Tie as tie

@@ -11,12 +11,10 @@ use Rattle.files.specs.Walk.{lineSaid}
 use Rattle.files.specs.declared.Line.the-variants.{Read}
 use Rattle.files.proofs.Counting.{Told, told, told-beyond, told-inside, counted-accepted, counted-refused}
 use Rattle.put.proofs.Pieces.{put-length}
-use Rattle.list_text.proofs.Texts.{Listed, listed-none, room-end, listed-all, room-line, listed-on}
+use Rattle.list_text.proofs.Writing.{Listed, listed-none, room-end, listed-all, room-line, listed-on}
 use borrow.Author.Needs.{needs}
 use Rattle.list_text.proofs.put_list.Statement.{statement}
 use Rattle.list_text.proofs.put_list.Tie as tie
-use Rattle.list_text.proofs.put_list.Reads as reads
-use Rattle.list_text.proofs.put_list.Lts as lts
 
 abbrev Inv-loop : tie.InvT-loop
 Inv-loop file out₀ lines₀ accepted₀ place₀ at₀ out lines accepted place at = Listed file out₀ lines accepted place at out
@@ -67,7 +65,7 @@ loop-less : tie.Need-loop-less Inv-loop μ-loop
 loop-less c = omega (arith, told-beyond (read-line (c .before .before .before .before .before .before)), told-inside (read-line (c .before .before .before .before .before .before)))
 
 loop-again : tie.Need-loop-again Inv-loop μ-loop
-loop-again c = 
+loop-again c =
     let l = c .before .before .before .before .before .before .before .before .before .loop .inv in
     let t = read-line (c .before .before .before .before .before .before) in
     let counted = ⊎-elim (λ w. counted-accepted (l .counted) t (w .0 .taken) (w .1)) (λ w. counted-refused (l .counted) t (w .0 .left) (w .1)) (c .before .before .before .before .if1 .came) in

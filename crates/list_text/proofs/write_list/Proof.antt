@@ -2,7 +2,7 @@
 -- Assumes nothing.
 use native.Mathlib.Omega.{arith}
 use Rattle.put.proofs.Pieces.{put-of, put-as}
-use Rattle.list_text.proofs.Texts.{says-too-big, list-none, list-written}
+use Rattle.list_text.proofs.Whole.{says-too-big, list-none, list-written}
 use borrow.Author.Needs.{needs}
 use Rattle.list_text.proofs.write_list.Statement.{statement}
 use Rattle.list_text.proofs.write_list.Tie as tie
