@@ -8,7 +8,8 @@ use libc::STDIN_FILENO;
 fn main() {
     let mut data = [0u8; list_text::MOST + 1];
     let n = io::read_full(STDIN_FILENO, &mut data);
-    if !list_printing::print_list(&data[..n]) {
+    let printed = list_printing::print_list(&data[..n]);
+    if !printed.taken {
         io::write_all(STDERR_FILENO, b"lister: the list could not be written\n");
     }
 }

@@ -80,6 +80,7 @@ determined = record {
   step-from = λ κs a x y s t p q. p ∙ sym q;
   write-list-said = λ κs a x y s t p q. p .said ∙ sym (q .said);
   write-list-out = λ κs a x y s t p q. p .left ∙ sym (q .left);
+  print-list-len = λ κs a x y s t p q. p ∙ sym q;
   are-alike = λ κs a x y s t p q. p ∙ sym q;
   newer-of = λ κs a x y s t p q. p ∙ sym q;
   newer-part = λ κs a x y s t p q. p .part-so ∙ sym (q .part-so);

@@ -1,8 +1,10 @@
 -- `list_printing::print_list` meets its contract: what is handed over is the list.
 -- Assumes nothing.
+use mathlib.Core.Path.{ap}
 use native.Mathlib.Nat.{sub-zero}
 use native.Mathlib.Omega.{arith}
-use Rattle.list_text.proofs.Whole.{list-inside, list-front}
+use Rattle.put.specs.declared.Written.{Written}
+use Rattle.list_text.proofs.Whole.{list-said, list-inside, list-front}
 use borrow.Author.Needs.{needs}
 use Rattle.list_printing.proofs.print_list.Statement.{statement}
 use Rattle.list_printing.proofs.print_list.Tie as tie
@@ -29,7 +31,7 @@ hand-over-requires : tie.Need-hand-over-requires
 hand-over-requires c κs = rw sub-zero (list-front _ (omega (arith, c .before .before .before .before .before .room .ensures)) (c .before .before .before .write-list .ensures))
 
 returns : tie.Need-returns
-returns c = search needs
+returns c = ap (λ (x : Written). x .len) (list-said _ (omega (arith, c .before .before .before .before .before .before .room .ensures)) (c .before .before .before .before .write-list .ensures))
 
 pub print-list-spec : {M : Type 1} → statement M
 print-list-spec =
