@@ -2,8 +2,8 @@
 //!
 //! It covers identities, public keys, load requests and load responses: reading, checking and
 //! building them, the three key agreement texts of a load request, the walk over a file of
-//! records, and the choice of the newer of two public keys. What it takes inside is its own: only
-//! the library's calls for users are answered.
+//! records and its list, and the choice of the newer of two public keys. What it takes inside is its
+//! own: only the library's calls for users and its lister are answered.
 //!
 //! It shares no line with the library that it is held against, and it is written for plain
 //! reading rather than for proof: slices, iterators, `Result`. Two implementations that come from
@@ -19,6 +19,7 @@
 //! | [`build`] | building |
 //! | [`agreement`] | key agreement texts |
 //! | [`mod@file`] | files of records |
+//! | [`listing`] | the list of a file, and the file that the lister is run on |
 //! | [`newer`] | the chooser |
 //! | [`random`] | the numbers that inputs are drawn by |
 //! | [`sample`] | inputs: permitted records, faults, damage |
@@ -31,6 +32,7 @@ pub mod build;
 pub mod crc;
 pub mod file;
 pub mod kind;
+pub mod listing;
 pub mod newer;
 pub mod random;
 pub mod record;

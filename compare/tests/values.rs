@@ -6,6 +6,7 @@ use compare::build::build;
 use compare::crc::crc16;
 use compare::file::{count, line_at, Line, Step};
 use compare::kind::Kind;
+use compare::listing::LONGEST_FILE;
 use compare::newer::{choose, newer};
 use compare::record::{read_identity, read_record, LONGEST_READ};
 use compare::refusal::Refusal;
@@ -31,6 +32,7 @@ fn limits_are_the_figures_of_document_01() {
     assert_eq!(LONGEST_IDENT, 32, "IDENT: 1 to 32 characters");
     assert_eq!(Kind::longest_of(&Kind::ALL), 646, "no built record is longer than 646 bytes");
     assert_eq!(LONGEST_READ, 1024, "1: the record or identity to read is longer than 1,024 bytes");
+    assert_eq!(LONGEST_FILE, 65_536, "the lister reads at most 65,536 bytes");
 }
 
 #[test]

@@ -1,5 +1,5 @@
 // Runs the list on the files that one input of the lister cannot hold: document 01's example, no bytes, only line feeds, and
-// as many bytes as are taken, with one byte more.
+// as many bytes as are listed in one line, with one byte more.
 use libc::STDOUT_FILENO;
 ghost use mathlib.Core.Path.{_≡_};
 ghost use lib.ListN.{length};
@@ -9,11 +9,11 @@ fn list(title: &[u8], file: &[u8]) {
     list_printing::print_list(file);
 }
 
-// One byte more than is taken. The length is stated because a proof that looked at this many zeros would be slow.
-fn zeros() -> [u8; list_printing::MOST + 1]
+// One byte more than is listed. The length is stated because a proof that looked at this many zeros would be slow.
+fn zeros() -> [u8; list_text::MOST + 1]
     ensures { λ r. ⌜ 65537 ≡ length r ⌝ }
 {
-    [0; list_printing::MOST + 1]
+    [0; list_text::MOST + 1]
 }
 
 // The front of a file, and all of it where it is shorter. The length is a parameter, since a proof counts up to a number
@@ -32,7 +32,7 @@ fn main() {
     list(b"three line feeds\n", b"\n\n\n");
     list(
         b"as many bytes as are taken\n",
-        front(&zeros, list_printing::MOST),
+        front(&zeros, list_text::MOST),
     );
     list(b"one byte more\n", &zeros);
 }

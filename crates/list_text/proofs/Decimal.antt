@@ -6,15 +6,13 @@ use mathlib.Core.Bool.{Bool, true, false}
 use mathlib.Core.List.{[], _∷_}
 use mathlib.Core.Logic.{⊎-elim}
 use native.Mathlib.Omega.{arith}
-use native.Mathlib.Nat.{sub-zero, lt-of-not-le, eq-or-lt-of-le, pow-le-pow-right, zero-lt-suc}
+use native.Mathlib.Nat.{add-zero, add-suc, suc-add, sub-zero, lt-of-not-le, eq-or-lt-of-le, pow-le-pow-right, zero-lt-suc}
 use lib.ListN.{length, take, drop, length-append}
 use lib.Dec.{ltb}
 use borrow.Author.Tests.{ltb-true, ltb-false}
 use Rattle.text.specs.Text.{Bytes}
 use Rattle.io.specs.Digits.{glyph, digits, Fewest}
-use Rattle.put.specs.Put.{Put}
-use Rattle.put.proofs.Pieces.{put-length}
-use Rattle.list_text.specs.Listing.{fewestFrom, decimal, before}
+use Rattle.list_text.specs.Listing.{fewestFrom, decimalText, before}
 
 -- ---- lengths
 
@@ -23,24 +21,30 @@ digits-length zero n = refl
 digits-length (suc k) n =
     length-append (digits 10 k (n / 10)) (glyph (n % 10) ∷ []) ∙ ap (λ (m : ℕ). m + 1) (digits-length k (n / 10)) ∙ omega arith
 
-fewest-inside : (more k n : ℕ) → fewestFrom k more n ≤ k + more
-fewest-inside zero k n = omega arith
-fewest-inside (suc more) k n = go (fewest-inside more (suc k) n) (ltb n (10 ^ k)) refl
+-- as many digits as a power of ten above the number has zeros
+fewest-few : (more k j n : ℕ) → n < 10 ^ (k + j) → fewestFrom k more n ≤ k + j
+fewest-few zero k j n h = omega arith
+fewest-few (suc more) k j n h = go (λ j h. fewest-few more (suc k) j n h) j h (ltb n (10 ^ k)) refl
   where
-    go : fewestFrom (suc k) more n ≤ suc k + more → (b : Bool) → ltb n (10 ^ k) ≡ b → fewestFrom k (suc more) n ≤ k + suc more
-    go later true e = rw e (omega arith)
-    go later false e = rw e (omega (arith, later))
+    go : ((j : ℕ) → n < 10 ^ (suc k + j) → fewestFrom (suc k) more n ≤ suc k + j)
+        → (j : ℕ) → n < 10 ^ (k + j) → (b : Bool) → ltb n (10 ^ k) ≡ b → fewestFrom k (suc more) n ≤ k + j
+    go later j h true e = rw e (omega arith)
+    go later zero h false e = absurd (let f : n < 10 ^ k = rw add-zero at h in omega (arith, f, ltb-false n (10 ^ k) e))
+    go later (suc j) h false e = rw e (omega (arith, later j (rw (add-suc, ← suc-add) at h)))
 
-pub decimal-length : (n : ℕ) → length (decimal n) ≤ 20
-unfolding decimal
-decimal-length n = omega (arith, digits-length (fewestFrom 1 19 n) n, fewest-inside 19 1 n)
+decimal-few : (j n : ℕ) → n < 10 ^ (1 + j) → length (decimalText n) ≤ 1 + j
+unfolding decimalText
+decimal-few j n h = omega (arith, digits-length (fewestFrom 1 19 n) n, fewest-few 19 1 j n h)
 
-before-length : (mark n : ℕ) → length (before mark n) ≤ 21
-before-length mark n = omega (arith, length-append (decimal n) (mark ∷ []), decimal-length n)
+-- a number and its mark: at most six characters below 100,000, and at most four below 1,000
+pub before-length : (mark n : ℕ) → length (before mark n) ≡ length (decimalText n) + 1
+before-length mark n = length-append (decimalText n) (mark ∷ [])
 
--- after a number there is room for the rest
-pub after-number : {o out : Bytes} {at r : ℕ} (mark n : ℕ) → Put o at (before mark n) out r → (r ≤ at + 21) × (length out ≡ length o)
-after-number {o} {out} {at} {r} mark n p = (omega (arith, p .next, before-length mark n), put-length p)
+pub before-six : (mark n : ℕ) → n < 100000 → length (before mark n) ≤ 6
+before-six mark n h = omega (arith, before-length mark n, decimal-few 4 n h)
+
+pub before-four : (mark n : ℕ) → n < 1000 → length (before mark n) ≤ 4
+before-four mark n h = omega (arith, before-length mark n, decimal-few 2 n h)
 
 -- ---- the fewest digits
 
@@ -67,10 +71,10 @@ few n r h l =
     omega (arith, p, l (omega arith), h)) in
     omega arith
 
-decimal-is : (n r : ℕ) → n < 2 ^ 64 → Fewest 10 1 n r → digits 10 r n ≡ decimal n
-unfolding decimal
+decimal-is : (n r : ℕ) → n < 2 ^ 64 → Fewest 10 1 n r → digits 10 r n ≡ decimalText n
+unfolding decimalText
 decimal-is n r h f = ap (λ (k : ℕ). digits 10 k n) (fewest-is 19 1 n r (omega arith) (f .0) (few n r h (f .2)) (f .1) (f .2))
 
 -- what `io::decimal` left in d, and answered, k: the part of d that is the number's text
-pub decimal-part : (d : Bytes) (n k : ℕ) → n < 2 ^ 64 → Fewest 10 1 n k → take k d ≡ digits 10 k n → take (k - 0) (drop 0 d) ≡ decimal n
+pub decimal-part : (d : Bytes) (n k : ℕ) → n < 2 ^ 64 → Fewest 10 1 n k → take k d ≡ digits 10 k n → take (k - 0) (drop 0 d) ≡ decimalText n
 decimal-part d n k h f e = rw sub-zero (e ∙ decimal-is n k h f)

@@ -1,3 +1,5 @@
 pub mod Decimal
-pub mod Texts
+pub mod Lengths
+pub mod Writing
+pub mod Whole
 pub mod Values

@@ -1,19 +1,16 @@
--- Texts of document 01's example, and of the largest numbers.
+-- Lists of document 01: its example, and a file of no bytes.
 -- Assumes nothing.
-use Prim.Native.Nat.{_-_, _^_}
 use mathlib.Core.Path.{_≡_, refl}
-use lib.ListN.{length}
+use mathlib.Core.List.{[]}
 use Rattle.text.specs.Text.{ascii}
-use Rattle.list_text.specs.Listing.{decimal, lineText, endText}
+use Rattle.format.specs.Read.{readRecord, readOf, readOver}
+use Rattle.format.specs.Files.{walk, walkFrom, lineAt, lineOf}
+use Rattle.list_text.specs.Listing.{decimalText, lineText, endText, lineTexts, listText}
 
-pub third-line : lineText 3 13 3 11 ≡ ascii "3 13 3 11\n"
-unfolding lineText decimal
-third-line = refl
+pub example : listText (ascii "\nPK.ECDH.2|x\nabc") ≡ ascii "1 0 0 2\n2 1 11 2\n3 13 3 11\nend 3 0\n"
+unfolding listText lineTexts lineText endText decimalText walk walkFrom lineAt lineOf readRecord readOf readOver
+example = refl
 
-pub all-lines : endText 3 0 ≡ ascii "end 3 0\n"
-unfolding endText decimal
-all-lines = refl
-
-pub longest : length (lineText (2 ^ 64 - 1) (2 ^ 64 - 1) (2 ^ 64 - 1) 255) ≡ 67
-unfolding lineText decimal
-longest = refl
+pub no-bytes : listText [] ≡ ascii "end 0 0\n"
+unfolding listText lineTexts endText decimalText walk walkFrom
+no-bytes = refl

@@ -1,17 +1,20 @@
-// The lines that the lister prints: document 01, "Files of records and the newer key". No public call has a `requires`:
-// any numbers have a text, and an output that has no room for it stays untouched.
+// The list of a file of records as text: document 01, "Files of records and the newer key". Each line of the file is read
+// once, and the totals are counted on the way.
 ghost use Prim.Native.Nat.{_+_, _≤_};
 ghost use lib.ListN.{length};
 ghost use Rattle.put.specs.Put.{Put};
 ghost use Rattle.put.specs.Made.{Writes};
-ghost use Rattle.list_text.specs.Listing.{before, listed, lineText, endText};
+ghost use Rattle.list_text.specs.Listing.{before, lineText, endText, listText, most, listRoom, writeList};
 
-// Four numbers of at most 20 digits, each with the character after it; "end " and two numbers are shorter.
-const MOST: usize = 84;
+// No more bytes than this are listed.
+pub const MOST: usize = 65536;
 
-// The number in decimal, and the mark after it, in an output that has room for the longest number.
+// Room for any list: a line for each byte of at most 22 characters, and an end of at most 16.
+pub const ROOM: usize = MOST * 22 + 16;
+
+// The number in decimal, and the mark after it.
 fn put_number(out: &mut [u8], at: usize, n: usize, mark: u8) -> usize
-    requires { ⌜ at + 21 ≤ length (now out) ⌝ }
+    requires { ⌜ at + length (before mark n) ≤ length (now out) ⌝ }
     ensures { λ r. ⌜ Put (now (out .entry)) at (before mark n) (now (out .exit)) r ⌝ }
 {
     let mut digits = [0u8; 20];
@@ -20,58 +23,77 @@ fn put_number(out: &mut [u8], at: usize, n: usize, mark: u8) -> usize
     put::put_byte(out, next, mark)
 }
 
-// The text of a line, from the front.
-fn put_line(text: &mut [u8], number: usize, start: usize, len: usize, no: u8) -> usize
-    requires { ⌜ 84 ≤ length (now text) ⌝ }
-    ensures { λ r. ⌜ Put (now (text .entry)) 0 (lineText number start len no) (now (text .exit)) r ⌝ }
+// A line of the file: its number from 1, its start, its length without line feed, and its answer's number.
+fn put_line(out: &mut [u8], at: usize, number: usize, start: usize, len: usize, no: u8) -> usize
+    requires { ⌜ at + length (lineText number start len no) ≤ length (now out) ⌝ }
+    ensures { λ r. ⌜ Put (now (out .entry)) at (lineText number start len no) (now (out .exit)) r ⌝ }
 {
-    let after_number = put_number(text, 0, number, b' ');
-    let after_start = put_number(text, after_number, start, b' ');
-    let after_len = put_number(text, after_start, len, b' ');
-    put_number(text, after_len, no as usize, b'\n')
+    let after_number = put_number(out, at, number, b' ');
+    let after_start = put_number(out, after_number, start, b' ');
+    let after_len = put_number(out, after_start, len, b' ');
+    put_number(out, after_len, no as usize, b'\n')
 }
 
-// The text of the end, from the front.
-fn put_end(text: &mut [u8], lines: usize, accepted: usize) -> usize
-    requires { ⌜ 84 ≤ length (now text) ⌝ }
-    ensures { λ r. ⌜ Put (now (text .entry)) 0 (endText lines accepted) (now (text .exit)) r ⌝ }
+// The end of the list: how many lines the file has, and how many of them are accepted.
+fn put_end(out: &mut [u8], at: usize, lines: usize, accepted: usize) -> usize
+    requires { ⌜ at + length (endText lines accepted) ≤ length (now out) ⌝ }
+    ensures { λ r. ⌜ Put (now (out .entry)) at (endText lines accepted) (now (out .exit)) r ⌝ }
 {
-    let after_label = put::put(text, 0, b"end ");
-    let after_lines = put_number(text, after_label, lines, b' ');
-    put_number(text, after_lines, accepted, b'\n')
+    let after_label = put::put(out, at, b"end ");
+    let after_lines = put_number(out, after_label, lines, b' ');
+    put_number(out, after_lines, accepted, b'\n')
 }
 
-// The whole text, or nothing where it does not fit.
-fn write_text(text: &[u8], out: &mut [u8]) -> put::Written
-    ensures { λ r. ⌜ Writes (listed (now (text .entry)) (length (now (out .entry)))) (now (out .entry)) (now (out .exit)) r ⌝ }
+// Every line of a file that is not too big, and the end.
+fn put_list(file: &[u8], out: &mut [u8]) -> usize
+    requires { ⌜ length (now file) ≤ most ⌝ }
+    requires { ⌜ listRoom ≤ length (now out) ⌝ }
+    ensures { λ r. ⌜ Put (now (out .entry)) 0 (listText (now (file .entry))) (now (out .exit)) r ⌝ }
 {
-    if out.len() < text.len() {
+    let mut lines: usize = 0;
+    let mut accepted: usize = 0;
+    let mut place: usize = 0;
+    let mut at: usize = 0;
+    loop {
+        let files::Line::Read {
+            no,
+            start,
+            len,
+            next,
+            ..
+        } = files::line_at(file, place)
+        else {
+            return put_end(out, at, lines, accepted);
+        };
+        if no == numbers::ACCEPTED {
+            accepted += 1;
+        }
+        lines += 1;
+        at = put_line(out, at, lines, start, len, no);
+        place = next;
+    }
+}
+
+// The list of a file from the front of a lent output, or "too big". Where the output has less than `ROOM`, the call refuses
+// and leaves it untouched: asked before the first line, so that no line has to be read twice.
+pub fn write_list(file: &[u8], out: &mut [u8]) -> put::Written
+    ensures { λ r. ⌜ Writes (writeList (now (file .entry)) (length (now (out .entry)))) (now (out .entry)) (now (out .exit)) r ⌝ }
+{
+    if out.len() < ROOM {
         return put::refuse(numbers::SHORT_OUTPUT, 0);
     }
-    let len = put::put(out, 0, text);
+    if file.len() > MOST {
+        let len = put::put(out, 0, b"too big\n");
+        return put::Written {
+            no: numbers::ACCEPTED,
+            field: 0,
+            len,
+        };
+    }
+    let len = put_list(file, out);
     put::Written {
         no: numbers::ACCEPTED,
         field: 0,
         len,
     }
-}
-
-// ---- the calls: each writes from the front of a lent output, or refuses and leaves it untouched
-
-// A line of the file: its number from 1, its start, its length without line feed, and its answer's number.
-pub fn line_text(number: usize, start: usize, len: usize, no: u8, out: &mut [u8]) -> put::Written
-    ensures { λ r. ⌜ Writes (listed (lineText number start len no) (length (now (out .entry)))) (now (out .entry)) (now (out .exit)) r ⌝ }
-{
-    let mut text = [0u8; MOST];
-    let end = put_line(&mut text, number, start, len, no);
-    write_text(&text[0..end], out)
-}
-
-// The end of the list: how many lines the file has, and how many of them are accepted.
-pub fn end_text(lines: usize, accepted: usize, out: &mut [u8]) -> put::Written
-    ensures { λ r. ⌜ Writes (listed (endText lines accepted) (length (now (out .entry)))) (now (out .entry)) (now (out .exit)) r ⌝ }
-{
-    let mut text = [0u8; MOST];
-    let end = put_end(&mut text, lines, accepted);
-    write_text(&text[0..end], out)
 }

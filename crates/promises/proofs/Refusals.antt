@@ -28,11 +28,10 @@ use Rattle.fields.specs.Fields.{wantedNo}
 use Rattle.put.specs.Made as put
 use Rattle.put.specs.Made.{made, says}
 use Rattle.building.specs.Building.{sum, pieces, buildAs, buildOf, recordMade, build}
-use Rattle.items.specs.Items.{lvConcat, textItem, numberOf}
+use Rattle.items.specs.Items.{lvConcat, textItem}
 use Rattle.items.specs.Place.{placeFrom}
 use Rattle.agreement.specs.Texts.{sharedItems, moduleItems, centreItems, textMade, sharedInfo, moduleText, centreText}
-use Rattle.files.specs.Walk as files
-use Rattle.files.specs.Walk.{lineSaid}
+use Rattle.files.specs.Walk.{lineSaid, numberOf}
 use Rattle.subjects.specs.Subjects.{gnt, alike}
 use Rattle.newer.specs.Newer.{Decision, theFirst, theSecond, denied, bySubjects, byRecords, newer, choiceNo, subject}
 use Rattle.promises.specs.Refusals.{ofIdentities, ofRecords, ofTexts, Refusals}
@@ -136,15 +135,11 @@ build-said t bytes lens room = made-given ofBuilding (buildOf t bytes lens room)
 text-said : (items : List Bytes → List Bytes) (request : Bytes) (room : ℕ) → T (oneOf ofTexts (says (textMade items room (readOf (REQ ∷ []) request)) .no))
 text-said items request room = text-given ofTexts items room (readOf (REQ ∷ []) request) (request-given request) tt
 
-item-given : (o : Option Bytes) → T (oneOf (0 ∷ 12 ∷ []) (numberOf o))
-item-given none = tt
-item-given (some i) = tt
-
 place-given : (start : ℕ) (o : Option Bytes) → T (oneOf (0 ∷ 12 ∷ []) (placeFrom start o .no))
 place-given start none = tt
 place-given start (some i) = tt
 
-line-given : (file : Bytes) (place : ℕ) → T (oneOf (11 ∷ ofRecords) (files.numberOf (lineSaid (lineAt file place))))
+line-given : (file : Bytes) (place : ℕ) → T (oneOf (11 ∷ ofRecords) (numberOf (lineSaid (lineAt file place))))
 line-given file place =
     by-place file place (λ h. rw (at-end file place h) tt)
     (λ e f h. rw (at-line file place e f h) (further 11 ofRecords (answerOf (readRecord (take (e - place) (drop place file))) .no) (answered ofRecords (readRecord (take (e - place) (drop place file))) (record-given (take (e - place) (drop place file))))))
@@ -188,7 +183,7 @@ refusals = record {
   module-text = λ κs a r s p. rw (p .said) (text-said moduleItems (now (a .0)) (length (now (a .1 .0))));
   centre-text = λ κs a r s p. rw (p .said) (text-said centreItems (now (a .0)) (length (now (a .1 .0))));
   item-place = λ κs a r s p. rw (p .said) (place-given _ (textItem (now (a .0)) (a .1 .0)));
-  text-item = λ κs a r s p. rw (p .number-so) (item-given (textItem (now (a .0)) (a .1 .0)));
+  text-item = λ κs a r s p. rw (p .number-so) (place-given _ (textItem (now (a .0)) (a .1 .0)));
   line-at = λ κs a r s p. rw p (line-given (now (a .0)) (a .1 .0));
   step-from = λ κs a r s p. rw p (line-given (now (a .0)) (a .1 .0));
   newer-of = λ κs a r s p. rw p (newer-given (now (a .0)) (now (a .1 .0)));

@@ -1,5 +1,6 @@
 -- Every public contract determines its call's answer: document 01, "How much each contract says". The statements are about the
--- contracts themselves, as the code has them: `Post` is what a call's `ensures` says of its arguments and its result.
+-- contracts themselves, as the code has them: `Post` is what a call's `ensures` says of its arguments and its result. One exception is named:
+-- `print_list` also answers whether the kernel took the list, which no contract can determine.
 -- Assumes nothing.
 use mathlib.Core.Path.{_≡_}
 use denote.Ref.{RefT, ptr, now}
@@ -59,8 +60,7 @@ use Rattle.agreement.proofs.centre_text.Reads as centre-text
 use Rattle.files.proofs.line_at.Reads as line-at
 use Rattle.files.proofs.count.Reads as count
 use Rattle.files.proofs.step_from.Reads as step-from
-use Rattle.list_text.proofs.line_text.Reads as line-text
-use Rattle.list_text.proofs.end_text.Reads as end-text
+use Rattle.list_text.proofs.write_list.Reads as write-list
 use Rattle.list_printing.proofs.print_list.Reads as print-list
 use Rattle.subjects.proofs.are_alike.Reads as are-alike
 use Rattle.newer.proofs.newer_of.Reads as newer-of
@@ -73,6 +73,10 @@ OneAnswer {K} {A} {R} {S} Q = (κs : K) (a : A κs) (x y : R κs) (s t : S κs) 
 -- the same of a part that is handed back: its place and its bytes are the answer
 abbrev pub OnePart : {K : Type 0} {A S : K → Type 0} → ((κs : K) → A κs → RefT Bytes → S κs → Type 0) → Type 0
 OnePart {K} {A} {S} Q = (κs : K) (a : A κs) (x y : RefT Bytes) (s t : S κs) → Q κs a x s → Q κs a y t → (ptr x ≡ ptr y) × (now x ≡ now y)
+
+-- of a part of the answer, which `of` picks
+abbrev pub OneIn : {K X : Type 0} {A R S : K → Type 0} → ((κs : K) → A κs → R κs → S κs → Type 0) → ((κs : K) → R κs → X) → Type 0
+OneIn {K} {X} {A} {R} {S} Q of = (κs : K) (a : A κs) (x y : R κs) (s t : S κs) → Q κs a x s → Q κs a y t → of κs x ≡ of κs y
 
 -- and of what stands behind a `&mut` parameter afterwards, which `left` picks
 abbrev pub OneLeft : {K X : Type 0} {A R S : K → Type 0} → ((κs : K) → A κs → R κs → S κs → Type 0) → ((κs : K) → S κs → X) → Type 0
@@ -159,12 +163,10 @@ pub record Determined : Type 0 where
   pub count : OneAnswer count.Post
   pub step-from : OneAnswer step-from.Post
   -- list_text
-  pub line-text-said : OneAnswer line-text.Post
-  pub line-text-out : OneLeft line-text.Post (λ κs s. now (s .1 .1 .1 .1 .0))
-  pub end-text-said : OneAnswer end-text.Post
-  pub end-text-out : OneLeft end-text.Post (λ κs s. now (s .1 .1 .0))
-  -- list_printing
-  pub print-list : OneAnswer print-list.Post
+  pub write-list-said : OneAnswer write-list.Post
+  pub write-list-out : OneLeft write-list.Post (λ κs s. now (s .1 .0))
+  -- list_printing: but for `taken`
+  pub print-list-len : OneIn print-list.Post (λ κs r. r .len)
   -- subjects
   pub are-alike : OneAnswer are-alike.Post
   -- newer

@@ -56,8 +56,7 @@ use Rattle.agreement.proofs.centre_text.Reads as centre-text
 use Rattle.files.proofs.line_at.Reads as line-at
 use Rattle.files.proofs.count.Reads as count
 use Rattle.files.proofs.step_from.Reads as step-from
-use Rattle.list_text.proofs.line_text.Reads as line-text
-use Rattle.list_text.proofs.end_text.Reads as end-text
+use Rattle.list_text.proofs.write_list.Reads as write-list
 use Rattle.list_printing.proofs.print_list.Reads as print-list
 use Rattle.subjects.proofs.are_alike.Reads as are-alike
 use Rattle.newer.proofs.newer_of.Reads as newer-of
@@ -161,8 +160,7 @@ pub record Total : Type 0 where
   pub count : Takes count.Pre
   pub step-from : Takes step-from.Pre
   -- list_text
-  pub line-text : Takes line-text.Pre
-  pub end-text : Takes end-text.Pre
+  pub write-list : Takes write-list.Pre
   -- list_printing
   pub print-list : Takes print-list.Pre
   -- subjects

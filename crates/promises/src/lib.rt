@@ -10,6 +10,7 @@ ghost use Rattle.promises.specs.Reading.{Reading};
 ghost use Rattle.promises.specs.Building.{Building};
 ghost use Rattle.promises.specs.Agreement.{Agreement};
 ghost use Rattle.promises.specs.Files.{Files};
+ghost use Rattle.promises.specs.Listing.{Listing};
 ghost use Rattle.promises.specs.Demand3.{Demand3};
 ghost use Rattle.promises.specs.Newer.{Newer};
 ghost use Rattle.promises.specs.Witnesses.{Witnesses};
@@ -18,5 +19,5 @@ ghost use Rattle.promises.specs.Starred.{starred};
 ghost use Rattle.promises.specs.Fixed.{fixed};
 
 fn promised()
-    ensures { λ _. ⌜ Total × Determined × Interface × Refusals × Check × TextTypes × Reading × Building × Agreement × Files × Demand3 × Newer × Witnesses × AllCome starred × AllCome fixed ⌝ }
+    ensures { λ _. ⌜ Total × Determined × Interface × Refusals × Check × TextTypes × Reading × Building × Agreement × Files × Listing × Demand3 × Newer × Witnesses × AllCome starred × AllCome fixed ⌝ }
 {}

@@ -1,54 +1,47 @@
--- `list_printing::print_list` meets its contract.
+-- `list_printing::print_list` meets its contract: what is handed over is the list.
 -- Assumes nothing.
-use Prim.Native.Nat.{ℕ, _+_, _≤_, _<_}
-use mathlib.Core.Path.{_≡_, refl}
+use mathlib.Core.Path.{ap}
+use native.Mathlib.Nat.{sub-zero}
 use native.Mathlib.Omega.{arith}
-use lib.ListN.{length}
+use Rattle.put.specs.declared.Written.{Written}
+use Rattle.list_text.proofs.Whole.{list-said, list-inside, list-front}
 use borrow.Author.Needs.{needs}
-use borrow.Author.Tests.{le-leb, lt-leb}
-use Rattle.text.specs.Text.{Bytes}
-use Rattle.format.specs.Files.{walk}
-use Rattle.list_printing.specs.Printing.{most, printList}
 use Rattle.list_printing.proofs.print_list.Statement.{statement}
 use Rattle.list_printing.proofs.print_list.Tie as tie
 
-too-big : (file : Bytes) → most < length file → 1 ≡ printList file
-unfolding printList
-too-big file h = rw (lt-leb (length file) most h) refl
+room-requires : tie.Need-room-requires
+room-requires c κs = search needs
 
-listed : (file : Bytes) (lines : ℕ) → length file ≤ most → lines ≡ length (walk file) → lines + 1 ≡ printList file
-unfolding printList
-listed file lines h e = rw (le-leb (length file) most h) (omega (arith, e))
+slice-aggregate-write-list : tie.Need-slice-aggregate-write-list
+slice-aggregate-write-list c = search needs
 
-slice-aggregate-print : tie.Need-slice-aggregate-print
-slice-aggregate-print c = search needs
+write-list-requires : tie.Need-write-list-requires
+write-list-requires c κs = search needs
 
-print-requires : tie.Need-print-requires
-print-requires c κs = search needs
+sub-hand-over : tie.Need-sub-hand-over
+sub-hand-over c = search needs
+
+part-hand-over-start : tie.Need-part-hand-over-start
+part-hand-over-start c = search needs
+
+part-hand-over-end : tie.Need-part-hand-over-end
+part-hand-over-end c = list-inside _ (omega (arith, c .before .before .before .before .room .ensures)) (c .before .before .write-list .ensures)
+
+hand-over-requires : tie.Need-hand-over-requires
+hand-over-requires c κs = rw sub-zero (list-front _ (omega (arith, c .before .before .before .before .before .room .ensures)) (c .before .before .before .write-list .ensures))
 
 returns : tie.Need-returns
-returns c = too-big _ (c .before .before .if1 .taken)
-
-print-lines-requires : tie.Need-print-lines-requires
-print-lines-requires c κs = search needs
-
-print-end-requires : tie.Need-print-end-requires
-print-end-requires c κs = search needs
-
-add-result : tie.Need-add-result
-add-result c = search needs
-
-returns-2 : tie.Need-returns-2
-returns-2 c = listed _ _ (omega (arith, c .before .before .if1 .left)) (c .before .print-lines .ensures .0)
+returns c = ap (λ (x : Written). x .len) (list-said _ (omega (arith, c .before .before .before .before .before .before .room .ensures)) (c .before .before .before .before .write-list .ensures))
 
 pub print-list-spec : {M : Type 1} → statement M
 print-list-spec =
     tie.close
     (tie.spec
-    slice-aggregate-print
-    print-requires
-    returns
-    print-lines-requires
-    print-end-requires
-    add-result
-    returns-2)
+    room-requires
+    slice-aggregate-write-list
+    write-list-requires
+    sub-hand-over
+    part-hand-over-start
+    part-hand-over-end
+    hand-over-requires
+    returns)

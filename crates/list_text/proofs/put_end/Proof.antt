@@ -3,7 +3,7 @@
 use native.Mathlib.Omega.{arith}
 use Rattle.put.proofs.Pieces.{put-of, put-length, put-then}
 use Rattle.list_text.specs.Listing.{endText}
-use Rattle.list_text.proofs.Decimal.{after-number}
+use Rattle.list_text.proofs.Lengths.{end-parts}
 use borrow.Author.Needs.{needs}
 use Rattle.list_text.proofs.put_end.Statement.{statement}
 use Rattle.list_text.proofs.put_end.Tie as tie
@@ -16,21 +16,29 @@ put-requires c κs = search needs
 
 put-number-requires : tie.Need-put-number-requires
 put-number-requires c κs =
-    let label = put-of (omega (arith, c .before .before .before .before .before .before .before .pre)) (c .before .before .before .put .ensures) in
-    omega (arith, c .before .before .before .before .before .before .before .pre, label .next, put-length label)
+    let start = c .before .before .before .before .before .before .before in
+    let long = end-parts (start .args .lines) (start .args .accepted) in
+    let label = put-of (omega (arith, long, start .pre)) (c .before .before .before .put .ensures) in
+    omega (arith, long, start .pre, label .next, put-length label)
 
 put-number-requires-2 : tie.Need-put-number-requires-2
 put-number-requires-2 c κs =
-    let label = put-of (omega (arith, c .before .before .before .before .before .before .before .before .before .before .before .pre)) (c .before .before .before .before .before .before .before .put .ensures) in
-    let (one, same) = after-number _ _ (c .before .before .before .put-number .ensures) in
-    omega (arith, c .before .before .before .before .before .before .before .before .before .before .before .pre, label .next, put-length label, one, same)
+    let start = c .before .before .before .before .before .before .before .before .before .before .before in
+    let long = end-parts (start .args .lines) (start .args .accepted) in
+    let label = put-of (omega (arith, long, start .pre)) (c .before .before .before .before .before .before .before .put .ensures) in
+    let one = c .before .before .before .put-number .ensures in
+    omega (arith, long, start .pre, label .next, put-length label, one .next, put-length one)
 
 same-length : tie.Need-same-length
 same-length c = search needs
 
 returns : tie.Need-returns
 unfolding endText
-returns c = put-then (put-then (put-of (omega (arith, c .before .before .before .before .before .before .before .before .before .before .before .before .before .before .pre)) (c .before .before .before .before .before .before .before .before .before .before .put .ensures)) (c .before .before .before .before .before .before .put-number .ensures)) (c .before .before .put-number2 .ensures)
+returns c =
+    let start = c .before .before .before .before .before .before .before .before .before .before .before .before .before .before in
+    let long = end-parts (start .args .lines) (start .args .accepted) in
+    let label = put-of (omega (arith, long, start .pre)) (c .before .before .before .before .before .before .before .before .before .before .put .ensures) in
+    put-then (put-then label (c .before .before .before .before .before .before .put-number .ensures)) (c .before .before .put-number2 .ensures)
 
 pub put-end-spec : {M : Type 1} → statement M
 put-end-spec =

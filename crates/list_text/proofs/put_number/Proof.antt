@@ -4,7 +4,7 @@ use mathlib.Core.Path.{ap}
 use native.Mathlib.Omega.{arith}
 use lib.ListN.{length}
 use Rattle.put.proofs.Pieces.{put-of, put-as, put-length, put-then}
-use Rattle.list_text.proofs.Decimal.{decimal-part, decimal-length}
+use Rattle.list_text.proofs.Decimal.{decimal-part, before-length}
 use borrow.Author.Needs.{needs}
 use Rattle.list_text.proofs.put_number.Statement.{statement}
 use Rattle.list_text.proofs.put_number.Tie as tie
@@ -32,11 +32,12 @@ same-length c = search needs
 
 returns : tie.Need-returns
 returns c =
-    let d = c .before .before .before .before .before .before .before .before .before .before .decimal .ensures in
-    let n = c .before .before .before .before .before .before .before .before .before .before .before .before .before .args .n in
-    let e = decimal-part (c .before .before .before .before .before .before .before .before .before .before .decimal .last .1 .0) n (c .before .before .before .before .before .before .before .before .before .before .decimal .result) (c .before .before .before .before .before .before .before .before .before .before .before .before .before .fits .n .fits) (d .1 .0) (d .1 .1) in
-    let first = put-as e (put-of (omega (arith, ap length e, decimal-length n, c .before .before .before .before .before .before .before .before .before .before .before .before .before .pre)) (c .before .before .before .before .before .before .put .ensures)) in
-    put-then first (put-of (omega (arith, first .next, put-length first, decimal-length n, c .before .before .before .before .before .before .before .before .before .before .before .before .before .pre)) (c .before .before .put-byte .ensures))
+    let start = c .before .before .before .before .before .before .before .before .before .before .before .before .before in
+    let long = before-length (start .args .mark) (start .args .n) in
+    let d = c .before .before .before .before .before .before .before .before .before .before .decimal in
+    let e = decimal-part (d .last .1 .0) (start .args .n) (d .result) (start .fits .n .fits) (d .ensures .1 .0) (d .ensures .1 .1) in
+    let first = put-as e (put-of (omega (arith, ap length e, long, start .pre)) (c .before .before .before .before .before .before .put .ensures)) in
+    put-then first (put-of (omega (arith, first .next, put-length first, long, start .pre)) (c .before .before .put-byte .ensures))
 
 pub put-number-spec : {M : Type 1} → statement M
 put-number-spec =

@@ -10,6 +10,7 @@ use Rattle.promises.proofs.Reading.{reading}
 use Rattle.promises.proofs.Building.{building}
 use Rattle.promises.proofs.Agreement.{agreement}
 use Rattle.promises.proofs.Files.{files}
+use Rattle.promises.proofs.Listing.{listing}
 use Rattle.promises.proofs.Demand3.{demand3}
 use Rattle.promises.proofs.Newer.{newest}
 use Rattle.promises.proofs.Witnesses.{witnesses}
@@ -19,7 +20,7 @@ use Rattle.promises.proofs.promised.Statement.{statement}
 use Rattle.promises.proofs.promised.Tie as tie
 
 returns : tie.Need-returns
-returns c = (total, determined, interface, refusals, check, text-types, reading, building, agreement, files, demand3, newest, witnesses, all-starred, all-fixed)
+returns c = (total, determined, interface, refusals, check, text-types, reading, building, agreement, files, listing, demand3, newest, witnesses, all-starred, all-fixed)
 
 pub promised-spec : {M : Type 1} → statement M
 promised-spec = tie.close (tie.spec returns)
