@@ -46,7 +46,7 @@ build-said t bytes ns out out′ r w =
     }
 
 -- the record of permitted fields, built again
-again : (ks : List Kind) (s : Bytes) (k : Kind) (fs : List Bytes) → Built ks s k fs → (room : ℕ) → length s ≤ room
+pub again : (ks : List Kind) (s : Bytes) (k : Kind) (fs : List Bytes) → Built ks s k fs → (room : ℕ) → length s ≤ room
     → build (name k) (run fs) (lengths fs) room ≡ made s
 again ks s k fs b room h = rebuilt k fs room (b .permitted) (subst (λ (x : Bytes). length x ≤ room) (b .built) h) ∙ ap made (sym (b .built))
 

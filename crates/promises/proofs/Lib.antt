@@ -16,3 +16,4 @@ pub mod Permitted
 pub mod DamagedFile
 pub mod Witnesses
 pub mod Refusals
+pub mod Rebuilding

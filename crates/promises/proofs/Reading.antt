@@ -25,7 +25,8 @@ use Rattle.reading.specs.declared.Answer.{Answer}
 use Rattle.reading.specs.Reading.{kindWithin, answerOf}
 use Rattle.reading.proofs.Types.{kinds-at}
 use Rattle.reading.proofs.Answers.{told}
-use Rattle.fields.specs.Fields.{wantedPart, wantedNo, wantedStart, startIn, FieldSaid}
+use Rattle.fields.specs.Fields.{wantedPart, wantedNo, wantedStart, startIn, FieldSaid, Placed}
+use Rattle.fields.specs.declared.Place.{Place}
 use Rattle.fields.proofs.Wanted.{nowhere}
 use Rattle.promises.specs.Reading.{Reading}
 
@@ -49,6 +50,18 @@ module _ (o : Outcome) (B : Kind → List Bytes → Type 0) (exact : (k : Kind) 
   hands-back wanted lent part n i p k fs b =
       let q : FieldSaid (accepted k fs) wanted lent part n i = rw (exact k fs .1 b) at p in
       (λ t. rw (T-true (between 1 (length fs) wanted) t) at (q .its-part), q .its-no)
+
+  points-to : (wanted : ℕ) (s : Bytes) (r : Place) → Placed o wanted s r → (k : Kind) (fs : List Bytes) → B k fs
+      → (T (between 1 (length fs) wanted)
+      → (r .start ≡ startIn k fs wanted) × (r .start + r .len ≤ length s) × (take (r .len) (drop (r .start) s) ≡ getD ([] ∷ fs) wanted []))
+      × (r .no ≡ cond (between 1 (length fs) wanted) 0 missingItem)
+  unfolding wantedPart wantedNo wantedStart
+  points-to wanted s r p k fs b =
+      let q : Placed (accepted k fs) wanted s r = rw (exact k fs .1 b) at p in
+      (
+        λ t. (ap (λ (x : Place). x .start) (q .said) ∙ rw (T-true (between 1 (length fs) wanted) t), q .inside, q .bytes),
+        ap (λ (x : Place). x .no) (q .said),
+      )
 
 -- the places of all fields of what is built
 module _ (ks : List Kind) (s : Bytes) (o : Outcome) (exact : (k : Kind) (fs : List Bytes) → (o ≡ accepted k fs) ↔ Built ks s k fs) (r : Answer) (e : r ≡ answerOf o) (k : Kind) (fs : List Bytes) (b : Built ks s k fs) where
@@ -74,6 +87,11 @@ nothing o wanted lent part m i p n =
     let h = nowhere o wanted (λ z. n (p .its-no ∙ z)) in
     same-part (sym (h .0)) (sym (h .1)) (p .its-part)
 
+nowhere-refused : (o : Outcome) (wanted : ℕ) (s : Bytes) (r : Place) → Placed o wanted s r → r .no ≢ 0 → (r .start ≡ 0) × (r .len ≡ 0)
+nowhere-refused o wanted s r p n =
+    let h = nowhere o wanted (λ z. n (ap (λ (x : Place). x .no) (p .said) ∙ z)) in
+    (ap (λ (x : Place). x .start) (p .said) ∙ sym (h .0), ap (λ (x : Place). x .len) (p .said) ∙ sym (ap length (h .1)))
+
 pub reading : Reading
 reading = record {
   identity-exactly = λ κs a r s p. exactly _ (Built identityKinds _) (identity-exact _) (identity-says _) r p;
@@ -88,6 +106,10 @@ reading = record {
   record-fields = λ κs a r s p. hands-back _ (Built recordKinds _) (record-exact _) (record-says _) _ _ _ _ _ p;
   identity-nothing = λ κs a r s p n. nothing _ _ _ _ _ _ p n;
   record-nothing = λ κs a r s p n. nothing _ _ _ _ _ _ p n;
+  identity-points = λ κs a r s p. points-to _ (Built identityKinds _) (identity-exact _) (identity-says _) _ _ r p;
+  record-points = λ κs a r s p. points-to _ (Built recordKinds _) (record-exact _) (record-says _) _ _ r p;
+  identity-nowhere = λ κs a r s p n. nowhere-refused _ _ _ r p n;
+  record-nowhere = λ κs a r s p n. nowhere-refused _ _ _ r p n;
   unique = built-unique;
   longest = built-length;
   identity-length = identity-length;

@@ -17,3 +17,7 @@ Leaves {K} {X} {A} {R} {S} Q left f = (κs : K) (a : A κs) (r : R κs) (s : S �
 -- the contract Q allows the answer r for the arguments a, with some lifetimes and some contents of the parameters afterwards
 abbrev pub Allows : {K : Type 0} {A R S : K → Type 0} → ((κs : K) → A κs → R κs → S κs → Type 0) → ((κs : K) → A κs) → ((κs : K) → R κs) → Type 0
 Allows {K} {A} {R} {S} Q a r = (κs : K) × ((s : S κs) × Q κs (a κs) (r κs) s)
+
+-- a call was made of which P holds
+abbrev pub SomeCall : {K : Type 0} {A R S : K → Type 0} → ((κs : K) → A κs → R κs → S κs → Type 0) → ((κs : K) → A κs → R κs → S κs → Type 0) → Type 0
+SomeCall {K} {A} {R} {S} Q P = (κs : K) × ((a : A κs) × ((r : R κs) × ((s : S κs) × (Q κs a r s × P κs a r s))))

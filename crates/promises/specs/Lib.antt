@@ -17,3 +17,4 @@ pub mod Values
 pub mod Fixed
 pub mod Witnesses
 pub mod Refusals
+pub mod Rebuilding

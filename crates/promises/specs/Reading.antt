@@ -20,8 +20,11 @@ use Rattle.table.specs.Table.{rowOf, missingRow}
 use Rattle.reading.specs.Reading.{kindWithin}
 use Rattle.reading.specs.declared.Answer.{Answer}
 use Rattle.fields.specs.Fields.{startIn}
+use Rattle.fields.specs.declared.Place.{Place}
 use Rattle.reading.proofs.read_identity.Reads as read-identity
 use Rattle.reading.proofs.read_record.Reads as read-record
+use Rattle.fields.proofs.identity_place.Reads as identity-place
+use Rattle.fields.proofs.record_place.Reads as record-place
 use Rattle.fields.proofs.identity_field.Reads as identity-field
 use Rattle.fields.proofs.record_field.Reads as record-field
 
@@ -67,6 +70,20 @@ abbrev pub NothingRefused : {K : Type 0} {A S : K → Type 0} → ((κs : K) →
 NothingRefused {K} {A} {S} Q lent number =
     (κs : K) (a : A κs) (part : RefT Bytes) (s : S κs) → Q κs a part s → number κs s ≢ 0 → NoPart (lent κs a) part
 
+-- the calls that answer with start and length, which C callers have: the same of the field's place
+abbrev pub PointsTo : {K : Type 0} {A S : K → Type 0} → ((κs : K) → A κs → Place → S κs → Type 0)
+    → ((κs : K) → A κs → Bytes) → ((κs : K) → A κs → ℕ) → List Kind → Type 0
+PointsTo {K} {A} {S} Q bytes wanted ks =
+    (κs : K) (a : A κs) (r : Place) (s : S κs) → Q κs a r s → (k : Kind) (fs : List Bytes) → Built ks (bytes κs a) k fs
+    → (T (between 1 (length fs) (wanted κs a))
+    → (r .start ≡ startIn k fs (wanted κs a))
+    × (r .start + r .len ≤ length (bytes κs a))
+    × (take (r .len) (drop (r .start) (bytes κs a)) ≡ getD ([] ∷ fs) (wanted κs a) []))
+    × (r .no ≡ cond (between 1 (length fs) (wanted κs a)) 0 missingItem)
+
+abbrev pub NowhereRefused : {K : Type 0} {A S : K → Type 0} → ((κs : K) → A κs → Place → S κs → Type 0) → Type 0
+NowhereRefused {K} {A} {S} Q = (κs : K) (a : A κs) (r : Place) (s : S κs) → Q κs a r s → r .no ≢ 0 → (r .start ≡ 0) × (r .len ≡ 0)
+
 pub record Reading : Type 0 where
   pub identity-exactly : Exactly read-identity.Post (λ κs a. now (a .0)) identityKinds
   pub record-exactly : Exactly read-record.Post (λ κs a. now (a .0)) recordKinds
@@ -80,6 +97,10 @@ pub record Reading : Type 0 where
   pub record-fields : HandsBack record-field.Post (λ κs a. a .0) (λ κs a. a .1 .0) (λ κs s. now (s .1 .1 .0)) recordKinds
   pub identity-nothing : NothingRefused identity-field.Post (λ κs a. a .0) (λ κs s. now (s .1 .1 .0))
   pub record-nothing : NothingRefused record-field.Post (λ κs a. a .0) (λ κs s. now (s .1 .1 .0))
+  pub identity-points : PointsTo identity-place.Post (λ κs a. now (a .0)) (λ κs a. a .1 .0) identityKinds
+  pub record-points : PointsTo record-place.Post (λ κs a. now (a .0)) (λ κs a. a .1 .0) recordKinds
+  pub identity-nowhere : NowhereRefused identity-place.Post
+  pub record-nowhere : NowhereRefused record-place.Post
   -- kind and fields are unique, over all seven kinds
   pub unique : (s : Bytes) (j k : Kind) (fs gs : List Bytes) → Permitted j fs → Permitted k gs → s ≡ recordOf j fs → s ≡ recordOf k gs
       → (j ≡ k) × (fs ≡ gs)

@@ -8,6 +8,7 @@ use Rattle.promises.proofs.Check.{check}
 use Rattle.promises.proofs.TextTypes.{text-types}
 use Rattle.promises.proofs.Reading.{reading}
 use Rattle.promises.proofs.Building.{building}
+use Rattle.promises.proofs.Rebuilding.{rebuilding}
 use Rattle.promises.proofs.Agreement.{agreement}
 use Rattle.promises.proofs.Files.{files}
 use Rattle.promises.proofs.Listing.{listing}
@@ -20,7 +21,7 @@ use Rattle.promises.proofs.promised.Statement.{statement}
 use Rattle.promises.proofs.promised.Tie as tie
 
 returns : tie.Need-returns
-returns c = (total, determined, interface, refusals, check, text-types, reading, building, agreement, files, listing, demand3, newest, witnesses, all-starred, all-fixed)
+returns c = (total, determined, interface, refusals, check, text-types, reading, building, rebuilding, agreement, files, listing, demand3, newest, witnesses, all-starred, all-fixed)
 
 pub promised-spec : {M : Type 1} → statement M
 promised-spec = tie.close (tie.spec returns)
