@@ -4,8 +4,8 @@ use mathlib.Core.Path.{sym, ap}
 use Rattle.put.specs.declared.Written.{Written}
 use Rattle.list_text.proofs.Writing.{list-lines}
 use Rattle.list_text.proofs.Whole.{says-too-big, list-said, list-left, list-denied, list-kept}
-use Rattle.list_text.proofs.Values.{example}
-use Rattle.promises.specs.Listing.{ListSaid, Listing}
+use Rattle.list_text.proofs.Values.{example, no-bytes}
+use Rattle.promises.specs.Listing.{Listing}
 
 pub listing : Listing
 listing = record {
@@ -21,4 +21,5 @@ listing = record {
   lines-and-totals = λ κs a r s p h. list-lines _ r h p;
   too-big = λ file h. sym (says-too-big file h);
   example = example;
+  no-bytes = no-bytes;
 }

@@ -3,7 +3,7 @@
 -- Assumes nothing.
 use Prim.Native.Nat.{_≤_, _<_}
 use mathlib.Core.Path.{_≡_}
-use mathlib.Core.List.{_++_}
+use mathlib.Core.List.{[], _++_}
 use lib.ListN.{length, drop}
 use denote.Ref.{now}
 use Rattle.text.specs.Text.{Bytes, ascii}
@@ -30,5 +30,6 @@ pub record Listing : Type 0 where
       (λ κs a r s. length (now (a .0)) ≤ most → listText (now (a .0)) ≡ lineTexts 0 (walk (now (a .0))) ++ endText (r .lines) (r .accepted))
   -- more bytes print "too big" and nothing else
   pub too-big : (file : Bytes) → most < length file → listText file ≡ tooBig
-  -- document 01's own example
+  -- document 01's own example, and a file of no bytes
   pub example : listText (ascii "\nPK.ECDH.2|x\nabc") ≡ ascii "1 0 0 2\n2 1 11 2\n3 13 3 11\nend 3 0\n"
+  pub no-bytes : listText [] ≡ ascii "end 0 0\n"

@@ -24,7 +24,8 @@ abbrev μ-loop : tie.MeasureT-loop
 
 -- the answer for the line, and the line
 said : (c : tie.After-no Inv-loop μ-loop)
-    → Read (c .no .given .0 .0) (c .no .given .0 .1 .0) (c .no .given .0 .1 .1 .0) (c .no .given .0 .1 .1 .1 .0) (c .no .given .0 .1 .1 .1 .1 .0) (c .no .given .0 .1 .1 .1 .1 .1 .0) ≡ lineSaid (lineAt (now (c .before .before .before .before .before .before .args .file)) (c .before .before .before .loop .place))
+    → Read (c .no .given .0 .0) (c .no .given .0 .1 .0) (c .no .given .0 .1 .1 .0) (c .no .given .0 .1 .1 .1 .0) (c .no .given .0 .1 .1 .1 .1 .0) (c .no .given .0 .1 .1 .1 .1 .1 .0)
+    ≡ lineSaid (lineAt (now (c .before .before .before .before .before .before .args .file)) (c .before .before .before .loop .place))
 said c = sym (c .no .given .1) ∙ c .before .before .line-at .ensures
 
 read-line : (c : tie.After-no Inv-loop μ-loop)
@@ -44,32 +45,46 @@ enum-told : tie.Need-enum-told Inv-loop μ-loop
 enum-told c = search needs
 
 put-end-requires : tie.Need-put-end-requires Inv-loop μ-loop
-put-end-requires c κs = room-end (c .before .before .before .before .loop .inv) (c .before .before .before .before .before .before .before .pre .0) (c .before .before .before .before .before .before .before .pre .1)
+put-end-requires c κs =
+    let turn = c .before .before .before .before in
+    let start = turn .before .before .before in
+    room-end (turn .loop .inv) (start .pre .0) (start .pre .1)
 
 same-length : tie.Need-same-length Inv-loop μ-loop
 same-length c = omega (arith, put-length (c .before .before .before .before .before .before .before .loop .inv .written), put-length (c .before .before .put-end .ensures))
 
 returns : tie.Need-returns Inv-loop μ-loop
-returns c = listed-all (c .before .before .before .before .before .before .before .loop .inv) (c .before .before .before .before .before .before .before .before .before .before .pre .0) (c .before .before .before .before .before .before .before .before .before .before .pre .1) _ (sym (c .before .before .before .before .enum-told .given .1) ∙ c .before .before .before .before .before .before .line-at .ensures) (c .before .before .put-end .ensures)
+returns c =
+    let turn = c .before .before .before .before .before .before .before in
+    let start = turn .before .before .before in
+    let finished = sym (c .before .before .before .before .enum-told .given .1) ∙ c .before .before .before .before .before .before .line-at .ensures in
+    listed-all (turn .loop .inv) (start .pre .0) (start .pre .1) _ finished (c .before .before .put-end .ensures)
 
 add-accepted : tie.Need-add-accepted Inv-loop μ-loop
-add-accepted c = omega (arith, c .before .before .before .before .before .loop .inv .counted .few, c .before .before .before .before .before .loop .inv .counted .fewer, c .before .before .before .before .before .loop .inv .counted .inside)
+add-accepted c = let counted = c .before .before .before .before .before .loop .inv .counted in omega (arith, counted .few, counted .fewer, counted .inside)
 
 add-lines : tie.Need-add-lines Inv-loop μ-loop
-add-lines c = omega (arith, c .before .before .before .before .before .loop .inv .counted .few, c .before .before .before .before .before .loop .inv .counted .inside)
+add-lines c = let counted = c .before .before .before .before .before .loop .inv .counted in omega (arith, counted .few, counted .inside)
 
 put-line-requires : tie.Need-put-line-requires Inv-loop μ-loop
-put-line-requires c κs = room-line (c .before .before .before .before .before .before .loop .inv) (c .before .before .before .before .before .before .before .before .before .pre .0) (c .before .before .before .before .before .before .before .before .before .pre .1) (read-line (c .before .before .before)) (said (c .before .before .before)) (omega (arith, c .before .before .known-told .given))
+put-line-requires c κs =
+    let line = c .before .before .before in
+    let turn = line .before .before .before in
+    let start = turn .before .before .before in
+    room-line (turn .loop .inv) (start .pre .0) (start .pre .1) (read-line line) (said line) (omega (arith, c .before .before .known-told .given))
 
 loop-less : tie.Need-loop-less Inv-loop μ-loop
-loop-less c = omega (arith, told-beyond (read-line (c .before .before .before .before .before .before)), told-inside (read-line (c .before .before .before .before .before .before)))
+loop-less c = let t = read-line (c .before .before .before .before .before .before) in omega (arith, told-beyond t, told-inside t)
 
 loop-again : tie.Need-loop-again Inv-loop μ-loop
 loop-again c =
-    let l = c .before .before .before .before .before .before .before .before .before .loop .inv in
-    let t = read-line (c .before .before .before .before .before .before) in
+    let line = c .before .before .before .before .before .before in
+    let turn = line .before .before .before in
+    let start = turn .before .before .before in
+    let l = turn .loop .inv in
+    let t = read-line line in
     let counted = ⊎-elim (λ w. counted-accepted (l .counted) t (w .0 .taken) (w .1)) (λ w. counted-refused (l .counted) t (w .0 .left) (w .1)) (c .before .before .before .before .if1 .came) in
-    listed-on l (c .before .before .before .before .before .before .before .before .before .before .before .before .pre .0) (c .before .before .before .before .before .before .before .before .before .before .before .before .pre .1) t (said (c .before .before .before .before .before .before)) (omega (arith, c .before .before .before .before .before .known-told .given)) counted (c .before .before .put-line .ensures)
+    listed-on l (start .pre .0) (start .pre .1) t (said line) (omega (arith, c .before .before .before .before .before .known-told .given)) counted (c .before .before .put-line .ensures)
 
 pub put-list-spec : {M : Type 1} → statement M
 put-list-spec =
