@@ -111,8 +111,7 @@ pub caught : (f g : RefT Bytes) → now f ≡ soundFile → now g ≡ damagedFil
 unfolding AllCaughtSaid first
 caught f g e e′ l m p q =
     let here : l ≡ lineSaid (read first) = p .1 .1 ∙ ap (λ (s : Bytes). lineSaid (lineAt s 0)) e ∙ ap lineSaid at-first in
-    let all = demand3 f g (rw (e, e′) damaged) (l ∷ []) (m ∷ []) (more p none) (more q none) refl in
-    (
+    let all = demand3 f g (rw (e, e′) damaged) (l ∷ []) (m ∷ []) (more p none) (more q none) refl in (
       ap numberOf here ∙ ap (λ (o : Outcome). answerOf o .no) read-first,
       all .0 .refused-there 20 (rw here (omega (arith, long))) (rw (e, e′) (λ z. absurd (omega (arith, there .0, there .2, z)))),
     )

@@ -59,8 +59,7 @@ module _ (f g : RefT Bytes) (long : length (now f) ≡ length (now g)) where
   calls-caught place xs ys r t c (l ∷ ls) [] p q e = absurd (omega arith)
   calls-caught place [] [] r t c (l ∷ ls) (m ∷ ms) (more (κ, (s, p)) ps) (more (κ′, (s′, q)) qs) e =
       let here : l ≡ Finished place = p ∙ ap lineSaid (at-end (now f) place (none-left (now f) place r)) in
-      let there : m ≡ Finished place = q ∙ ap lineSaid (at-end (now g) place (none-left (now g) place t)) in
-      (
+      let there : m ≡ Finished place = q ∙ ap lineSaid (at-end (now g) place (none-left (now g) place t)) in (
         rw (here, there) (end-caught (now f) (now g) long place),
         calls-caught place [] [] r t c ls ms (rw here at ps) (rw there at qs) (omega (arith, e)),
       )
@@ -68,8 +67,7 @@ module _ (f g : RefT Bytes) (long : length (now f) ≡ length (now g)) where
       let (is, left) = first-left (now f) place x xs r in
       let (is′, left′) = first-left (now g) place y ys t in
       let here : l ≡ lineSaid (read x) = p ∙ ap lineSaid is in
-      let there : m ≡ lineSaid (read y) = q ∙ ap lineSaid is′ in
-      (
+      let there : m ≡ lineSaid (read y) = q ∙ ap lineSaid is′ in (
         rw (here, there) (line-caught (now f) (now g) long x y (c .0)),
         calls-caught (x .next) xs ys left (rw (c .0 .same-next) left′) (c .1) ls ms (rw here at ps) (rw (there, ← c .0 .same-next) at qs) (omega (arith, e)),
       )

@@ -33,7 +33,7 @@ use Rattle.promises.specs.Reading.{Reading}
 -- a call whose outcome is accepted exactly for what is built, and whose refusals have another number than 0
 module _ (o : Outcome) (B : Kind → List Bytes → Type 0) (exact : (k : Kind) (fs : List Bytes) → (o ≡ accepted k fs) ↔ B k fs)
     (says : Honest B o) where
-  exactly : (r : Answer) → r ≡ answerOf o → (r .no ≡ 0) ↔ ((k : Kind) × (fs : List Bytes) × B k fs)
+  pub exactly : (r : Answer) → r ≡ answerOf o → (r .no ≡ 0) ↔ ((k : Kind) × (fs : List Bytes) × B k fs)
   exactly r e =
       let q = told o r e .0 in (
         λ z. let (k, fs, h) = honest-zero B o says (sym q ∙ z) in (k, fs, exact k fs .0 h),
@@ -57,8 +57,7 @@ module _ (o : Outcome) (B : Kind → List Bytes → Type 0) (exact : (k : Kind) 
       × (r .no ≡ cond (between 1 (length fs) wanted) 0 missingItem)
   unfolding wantedPart wantedNo wantedStart
   points-to wanted s r p k fs b =
-      let q : Placed (accepted k fs) wanted s r = rw (exact k fs .1 b) at p in
-      (
+      let q : Placed (accepted k fs) wanted s r = rw (exact k fs .1 b) at p in (
         λ t. (ap (λ (x : Place). x .start) (q .said) ∙ rw (T-true (between 1 (length fs) wanted) t), q .inside, q .bytes),
         ap (λ (x : Place). x .no) (q .said),
       )

@@ -32,6 +32,7 @@ use Rattle.items.specs.Items.{lvConcat, textItem}
 use Rattle.items.specs.Place.{placeFrom}
 use Rattle.agreement.specs.Texts.{sharedItems, moduleItems, centreItems, textMade, sharedInfo, moduleText, centreText}
 use Rattle.files.specs.Walk.{lineSaid, numberOf}
+use Rattle.list_text.specs.Listing.{listText, listRoom, writeList}
 use Rattle.subjects.specs.Subjects.{gnt, alike}
 use Rattle.newer.specs.Newer.{Decision, theFirst, theSecond, denied, bySubjects, byRecords, newer, choiceNo, subject}
 use Rattle.promises.specs.Refusals.{ofIdentities, ofRecords, ofTexts, Refusals}
@@ -145,6 +146,14 @@ line-given file place =
     (λ e f h. rw (at-line file place e f h) (further 11 ofRecords (answerOf (readRecord (take (e - place) (drop place file))) .no) (answered ofRecords (readRecord (take (e - place) (drop place file))) (record-given (take (e - place) (drop place file))))))
     (λ e f l h. rw (at-unfinished file place e f l h) tt)
 
+list-given : (file : Bytes) (room : ℕ) → T (oneOf (0 ∷ 10 ∷ []) (says (writeList file room) .no))
+unfolding writeList
+list-given file room = go (leb listRoom room)
+  where
+    go : (b : Bool) → T (oneOf (0 ∷ 10 ∷ []) (says (cond b (made (listText file)) (put.denied shortOutput 0)) .no))
+    go true = tt
+    go false = tt
+
 -- by the Subjects of two keys
 subjects-given : (p q : Outcome) → Gives ofIdentities p → Gives ofIdentities q → T (oneOf (13 ∷ ofRecords) (choiceNo (bySubjects p q)))
 subjects-given (accepted j fs) (accepted k gs) g h = go (alike j fs k gs) (later (gnt gs) (gnt fs))
@@ -186,6 +195,7 @@ refusals = record {
   text-item = λ κs a r s p. rw (p .number-so) (place-given _ (textItem (now (a .0)) (a .1 .0)));
   line-at = λ κs a r s p. rw p (line-given (now (a .0)) (a .1 .0));
   step-from = λ κs a r s p. rw p (line-given (now (a .0)) (a .1 .0));
+  write-list = λ κs a r s p. rw (p .said) (list-given (now (a .0)) (length (now (a .1 .0))));
   newer-of = λ κs a r s p. rw p (newer-given (now (a .0)) (now (a .1 .0)));
   newer = λ κs a r s p. rw (p .number-so) (newer-given (now (a .0)) (now (a .1 .0)));
 }

@@ -10,12 +10,14 @@ use lib.ListN.{length, take, drop, getD}
 use lib.Dec.{T}
 use denote.Ref.{RefT, now}
 use Rattle.crc16.specs.Damage.{AreBytes}
-use Rattle.text.specs.Text.{Bytes}
+use Rattle.text.specs.Text.{Bytes, part}
 use Rattle.text.specs.Part.{Part, NoPart}
 use Rattle.format.specs.Kinds.{REQ}
 use Rattle.format.specs.Build.{Permitted, Built}
 use Rattle.put.specs.declared.Written.{Written}
 use Rattle.items.specs.Items.{lvConcat, concats, nth, itemsOf}
+use Rattle.items.specs.declared.Place.{Place}
+use Rattle.items.proofs.item_place.Reads as item-place
 use Rattle.items.proofs.text_item.Reads as text-item
 use Rattle.agreement.specs.Texts.{idSm, idKmc, qe, sharedItems, moduleItems, centreItems}
 use Rattle.agreement.proofs.shared_info.Reads as shared-info
@@ -42,11 +44,19 @@ pub record ItemSaid (text : RefT Bytes) (wanted : ℕ) (part : RefT Bytes) (numb
       → Part text (length (lvConcat (take (wanted - 1) is)) + 1) x part
   pub only-12 : number ≢ 0 → (number ≡ 12) × NoPart text part
 
+-- the same of the call that answers with start and length
+pub record ItemPlaceSaid (text : Bytes) (wanted : ℕ) (r : Place) : Type 0 where
+  pub exactly : AreBytes text → (r .no ≡ 0) ↔ ((is : List Bytes) × T (concats is) × (text ≡ lvConcat is) × ((x : Bytes) × (nth wanted is ≡ some x)))
+  pub its-item : (is : List Bytes) (x : Bytes) → text ≡ lvConcat is → nth wanted is ≡ some x
+      → (r .start ≡ length (lvConcat (take (wanted - 1) is)) + 1) × (r .start + r .len ≤ length text) × (part (r .start) (r .len) text ≡ x)
+  pub only-12 : r .no ≢ 0 → (r .no ≡ 12) × (r .start ≡ 0) × (r .len ≡ 0)
+
 pub record Agreement : Type 0 where
   pub shared-info : Holds shared-info.Post (λ κs a r s. TextSaid sharedItems (now (a .0)) (now (a .1 .0)) (now (s .1 .0)) r)
   pub module-text : Holds module-text.Post (λ κs a r s. TextSaid moduleItems (now (a .0)) (now (a .1 .0)) (now (s .1 .0)) r)
   pub centre-text : Holds centre-text.Post (λ κs a r s. TextSaid centreItems (now (a .0)) (now (a .1 .0)) (now (s .1 .0)) r)
   pub item : Holds text-item.Post (λ κs a r s. ItemSaid (a .0) (a .1 .0) r (now (s .1 .1 .0)))
+  pub item-place : Holds item-place.Post (λ κs a r s. ItemPlaceSaid (now (a .0)) (a .1 .0) r)
   -- no two different lists of items share a text
   pub one-to-one : (is js : List Bytes) → lvConcat is ≡ lvConcat js → is ≡ js
   -- each text, read back, has its items

@@ -5,14 +5,15 @@ use Prim.Native.Nat.{ℕ, _+_, _<_, _≤_}
 use mathlib.Core.Path.{_≡_}
 use mathlib.Core.Logic.{_↔_}
 use mathlib.Core.List.{List, _++_, map}
-use lib.ListN.{length, replicate}
+use lib.ListN.{length, drop, replicate}
 use lib.Dec.{T}
 use denote.Ref.{RefT, now}
 use Rattle.text.specs.Text.{Bytes, without}
-use Rattle.format.specs.Build.{joined, WithoutAll}
+use Rattle.format.specs.Kinds.{Kind, recordKinds}
+use Rattle.format.specs.Build.{joined, WithoutAll, Built}
 use Rattle.format.specs.Read.{answer}
 use Rattle.format.specs.Files as format
-use Rattle.format.specs.Files.{lineFeed, read, lineAt, walk, linesFrom, acceptedLines}
+use Rattle.format.specs.Files.{lineFeed, upTo, read, lineAt, walk, linesFrom, acceptedLines}
 use Rattle.files.specs.Walk.{lineSaid, numberOf, startOf, lengthOf, nextOf}
 use Rattle.files.specs.Steps.{Begins, Stepped, Steps}
 use Rattle.files.specs.declared.Line.{Line}
@@ -21,6 +22,14 @@ use Rattle.files.specs.declared.Reader.{Reader}
 use Rattle.files.proofs.line_at.Reads as line-at
 use Rattle.files.proofs.count.Reads as count
 use Rattle.promises.specs.Calls.{Holds}
+
+-- what stands from a place on up to the first line feed, or to the end where none follows
+abbrev pub lineFrom : ℕ → Bytes → Bytes
+lineFrom place file = upTo lineFeed (drop place file)
+
+abbrev pub LineExactly : Bytes → ℕ → Line → Type 0
+LineExactly file place r = place < length file
+    → (numberOf r ≡ 0) ↔ (((k : Kind) × (fs : List Bytes) × Built recordKinds (lineFrom place file) k fs) × (place + length (lineFrom place file) < length file))
 
 pub record Files : Type 0 where
   -- every file is such lines
@@ -34,6 +43,8 @@ pub record Files : Type 0 where
   pub beyond : (file : Bytes) (place : ℕ) (l : format.Line) → lineAt file place ≡ read l → (place < l .next) × (l .next ≤ length file)
   -- the number is the record call's for that line, and 11 where no line feed ends it
   pub number : (file : Bytes) (place : ℕ) (l : format.Line) → lineAt file place ≡ read l → numberOf (lineSaid (lineAt file place)) ≡ answer (l .said)
+  -- it is 0 exactly for a line that a line feed ends and that the build rules write from permitted fields
+  pub line-exactly : Holds line-at.Post (λ κs a r s. LineExactly (now (a .0)) (a .1 .0) r)
   -- "finished" exactly at the end or past it
   pub finished-exactly : (file : Bytes) (place : ℕ) → (lineSaid (lineAt file place) ≡ Finished place) ↔ (length file ≤ place)
   -- every answer starts at the place asked; that of a finished file has number 0 and length 0, and the place asked is its next place too

@@ -9,8 +9,13 @@ use denote.Ref.{RefT, now}
 use Rattle.text.specs.Text.{Bytes, isTimestamp}
 use Rattle.text.specs.Part.{NoPart}
 use Rattle.text.specs.Later.{later}
+use Rattle.numbers.specs.Numbers.{notAlike}
+use Rattle.format.specs.Kinds.{pubkeyKinds}
+use Rattle.format.specs.Read.{refused, readOf}
 use Rattle.newer.specs.Keys.{Key, gntOf, Agreed}
+use Rattle.newer.specs.declared.Choice.{Choice}
 use Rattle.newer.proofs.newer.Reads as call
+use Rattle.newer.proofs.newer_of.Reads as choice
 use Rattle.promises.specs.Calls.{Holds}
 
 -- a call that was lent the records a and b handed back the part with this number. A part is more than its bytes: `part ≡ a` says that it
@@ -26,7 +31,19 @@ pub record NewerSaid (a b part : RefT Bytes) (number : ℕ) : Type 0 where
   -- demand 1: the empty part of the first
   pub nothing : number ≢ 0 → NoPart a part
 
+-- the same of the call that answers which of the two it is, 1 or 2
+pub record ChoiceSaid (a b : Bytes) (r : Choice) : Type 0 where
+  pub exactly : (r .no ≡ 0) ↔ Agreed a b
+  pub not-earlier : r .no ≡ 0 → (p : Key a) (q : Key b)
+      → ((r .which ≡ 1) × (later (gntOf q) (gntOf p) ≡ false)) ⊎ ((r .which ≡ 2) × (later (gntOf p) (gntOf q) ≡ false))
+  pub first-when-equal : r .no ≡ 0 → (p : Key a) (q : Key b) → gntOf p ≡ gntOf q → r .which ≡ 1
+  -- the first record's refusals come before the second's; with 13 it is neither alone
+  pub first-refused : (n i : ℕ) → readOf pubkeyKinds a ≡ refused n i → r ≡ record { no = n; field = i; which = 1 }
+  pub second-refused : Key a → (n i : ℕ) → readOf pubkeyKinds b ≡ refused n i → r ≡ record { no = n; field = i; which = 2 }
+  pub not-alike : Key a → Key b → r .no ≢ 0 → r ≡ record { no = notAlike; field = 0; which = 0 }
+
 pub record Newer : Type 0 where
   pub said : Holds call.Post (λ κs a r s. NewerSaid (a .0) (a .1 .0) r (now (s .1 .1 .0)))
+  pub which : Holds choice.Post (λ κs a r s. ChoiceSaid (now (a .0)) (now (a .1 .0)) r)
   -- later is an order of instants: by the parts of the date, and two TIMESTAMPs of which neither is later are one text
   pub neither : (s t : Bytes) → T (isTimestamp s) → T (isTimestamp t) → later s t ≡ false → later t s ≡ false → s ≡ t

@@ -25,6 +25,7 @@ use Rattle.agreement.proofs.module_text.Reads as module-text
 use Rattle.agreement.proofs.centre_text.Reads as centre-text
 use Rattle.files.proofs.line_at.Reads as line-at
 use Rattle.files.proofs.step_from.Reads as step-from
+use Rattle.list_text.proofs.write_list.Reads as write-list
 use Rattle.newer.proofs.newer_of.Reads as newer-of
 use Rattle.newer.proofs.newer.Reads as newer
 
@@ -66,6 +67,7 @@ pub record Refusals : Type 0 where
   -- files; a finished file has number 0
   pub line-at : GivesOnly line-at.Post (λ κs r s. numberOf r) (11 ∷ ofRecords)
   pub step-from : GivesOnly step-from.Post (λ κs r s. numberOf r) (11 ∷ ofRecords)
+  pub write-list : GivesOnly write-list.Post (λ κs r s. r .no) (0 ∷ 10 ∷ [])
   -- the newer key
   pub newer-of : GivesOnly newer-of.Post (λ κs r s. r .no) (13 ∷ ofRecords)
   pub newer : GivesOnly newer.Post (λ κs r s. now (s .1 .1 .0)) (13 ∷ ofRecords)
