@@ -88,6 +88,7 @@ fn main() -> ExitCode {
 #[cfg(test)]
 mod tests {
     use super::*;
+    use crate::cases::Form;
     use std::path::Path;
 
     /// The calls that docs/CONTRACTS.md says are for users. `.ci/tiers` holds that page against the
@@ -116,6 +117,30 @@ mod tests {
         for_users.sort();
         with_cases.sort();
         assert_eq!(with_cases, for_users);
+    }
+
+    /// The cases of each call.
+    fn by_call(plan: &[Case]) -> impl Iterator<Item = (&'static str, Vec<&Case>)> + '_ {
+        CALLS.iter().enumerate().map(|(index, call)| {
+            (call.name(), plan.iter().filter(|case| case.op as usize == index).collect())
+        })
+    }
+
+    #[test]
+    fn every_call_is_given_more_bytes_than_a_number_of_two_bytes_can_say() {
+        for (call, cases) in by_call(&plan::all()) {
+            let longest = cases.iter().map(|case| case.a.len().max(case.b.len())).max();
+            assert!(longest > Some(usize::from(u16::MAX)), "{call}");
+        }
+    }
+
+    #[test]
+    fn every_text_type_and_reading_call_is_given_every_byte_value() {
+        for (call, cases) in by_call(&plan::all()) {
+            if call.starts_with("is_") || call.starts_with("read_") {
+                assert!(cases.iter().any(|case| case.form == Form::EveryByte), "{call}");
+            }
+        }
     }
 
     #[test]

@@ -54,6 +54,26 @@ fn text_types() {
     }
 }
 
+/// Every two byte values in neighbouring places: in a month, a day, an hour, a minute, a second, and in the two that a POINT has
+/// fixed.
+#[test]
+fn neighbours_in_texts() {
+    type Type = fn(&[u8]) -> bool;
+    let point = sample::point(&mut Random::with_seed(65));
+    let types: [(Type, Type, &[u8], usize); 3] = [
+        (obscurlane::is_timestamp, text::is_timestamp, b"20181231T235959Z", 16),
+        (obscurlane::is_ident, text::is_ident, b"Ab0", 3),
+        (obscurlane::is_point, text::is_point, &point, 3),
+    ];
+    for (ours, theirs, right, places) in types {
+        for place in 1..places {
+            at_place(right, place - 1, |changed| {
+                at_place(changed, place, |text| assert_eq!(ours(text), theirs(text), "{text:?}"));
+            });
+        }
+    }
+}
+
 /// Fields of every kind; a public key is signed.
 fn fields_of_kinds() -> [(Kind, Vec<Vec<u8>>); 7] {
     let mut random = Random::with_seed(62);

@@ -4,6 +4,7 @@ use super::reading::reader;
 use super::Plan;
 use crate::calls::Op;
 use crate::cases::{Case, Form};
+use compare::agreement;
 use compare::crc::crc16;
 use compare::kind::Kind;
 use compare::sample;
@@ -25,6 +26,7 @@ pub fn add(plan: &mut Plan) {
         checks(plan, kind, &record);
     }
     line_feeds(plan);
+    items(plan);
 }
 
 impl Plan {
@@ -131,5 +133,13 @@ fn line_feeds(plan: &mut Plan) {
     let file = line.repeat(2);
     for place in [line.len() - 1, file.len() - 1] {
         plan.every_byte(Op::Count, 0, &file, place);
+    }
+}
+
+/// In place of the number of items, of each item's length, and of a byte of an item.
+fn items(plan: &mut Plan) {
+    let text = agreement::join(&[b"U_2", b"", &[0xE9; 97]]);
+    for place in [0, 1, 2, 5, 6, 50] {
+        plan.every_byte(Op::ItemPlace, 3, &text, place);
     }
 }

@@ -5,7 +5,7 @@ use crate::calls::Op;
 use compare::kind::Kind;
 use compare::record::read_identity;
 use compare::sample;
-use compare::text::{MAC_DIGITS, POINT_DIGITS, PRINT_DIGITS, SIG_DIGITS};
+use compare::text::{MAC_DIGITS, PRINT_DIGITS, SIG_DIGITS};
 use compare::worked::worked;
 
 /// What a length that is kept in two bytes forgets.
@@ -26,8 +26,8 @@ enum Part {
     Point,
 }
 
-/// The parts, [`MORE`] digits, the parts backwards, and a tail. Every long string of this group is a
-/// piece of it, so that the case file has it once.
+/// The parts, [`MORE`] digits, the parts backwards, and a tail: a line feed and an accepted line. All
+/// but a few long strings of this group are pieces of it, so that the case file has their bytes once.
 struct Block {
     parts: [Vec<u8>; 8],
     bytes: Vec<u8>,
@@ -79,8 +79,8 @@ impl Block {
 
     /// The request with so many bytes before it and a line feed, and an accepted line.
     fn file(&self) -> Vec<u8> {
-        let request = self.parts[0].len();
-        self.bytes[self.bytes.len() - self.tail - request - MORE..].to_vec()
+        let line = self.part(Part::Request).len() + MORE;
+        self.bytes[self.bytes.len() - self.tail - line..].to_vec()
     }
 
     /// So many digits.
@@ -127,13 +127,9 @@ fn types(plan: &mut Plan, block: &Block) {
             plan.call(op, text);
         }
     }
-    for (op, length) in [
-        (Op::Sig, SIG_DIGITS),
-        (Op::Mac, MAC_DIGITS),
-        (Op::Print, PRINT_DIGITS),
-        (Op::Point, POINT_DIGITS),
-        (Op::Ident, 0),
-    ] {
+    for (op, length) in
+        [(Op::Sig, SIG_DIGITS), (Op::Mac, MAC_DIGITS), (Op::Print, PRINT_DIGITS), (Op::Ident, 1)]
+    {
         plan.call(op, block.digits(MORE + length));
     }
     for (n, length) in [(16, 16 + MORE), (16 + MORE, 16), (16 + MORE, 16 + MORE), (0, MORE)] {

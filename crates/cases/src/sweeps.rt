@@ -15,6 +15,7 @@ fn answer(op: usize, n: usize, a: &[u8]) -> usize {
             let read = reading::read_record(a);
             (read.no as usize) * 100 + (read.field as usize)
         }
+        18 => (items::item_place(a, n).no as usize) * 100,
         23 => {
             let totals = files::count(a);
             totals.lines % 100 * 100 + totals.accepted % 100
