@@ -14,7 +14,7 @@ use Rattle.text.specs.Later.{later}
 use Rattle.text.proofs.Later.{later-itself, later-one-way}
 use Rattle.subjects.specs.Subjects.{alike}
 use Rattle.subjects.proofs.Subjects.{alike-exactly}
-use Rattle.newer.specs.Newer.{Decision, theFirst, theSecond, denied, newer, IsChosen, choiceNo, Chosen}
+use Rattle.newer.specs.Newer.{Decision, theFirst, theSecond, noChoice, newer, IsChosen, choiceNo, Chosen}
 use Rattle.newer.specs.Keys.{Key, gntOf, Agreed}
 use Rattle.newer.proofs.Choosing.{newer-keys, chosen-keys, chosen-agree, chosen-later}
 
@@ -48,7 +48,7 @@ module _ (a b r : RefT Bytes) (n i : ℕ) (c : Chosen (newer (now a) (now b)) a 
       go : (d : Decision) → (choiceNo d ≡ 0 → ⊥) → IsChosen d a b r → NoPart a r
       go theFirst h p = absurd (h refl)
       go theSecond h p = absurd (h refl)
-      go (denied w m j) h p = p
+      go (noChoice w m j) h p = p
 
   module _ (z : n ≡ 0) (p : Key (now a)) (q : Key (now b)) where
     by-gnt : IsChosen (cond (later (gntOf q) (gntOf p)) theSecond theFirst) a b r

@@ -26,7 +26,7 @@ use Rattle.reading.specs.Reading.{kindWithin, answerOf}
 use Rattle.reading.proofs.Types.{kinds-at}
 use Rattle.reading.proofs.Answers.{told}
 use Rattle.fields.specs.Fields.{wantedPart, wantedNo, wantedStart, startIn, FieldSaid}
-use Rattle.fields.proofs.Wanted.{nowhere}
+use Rattle.fields.proofs.Wanted.{no-field}
 use Rattle.promises.specs.Reading.{Reading}
 
 -- a call whose outcome is accepted exactly for what is built, and whose refusals have another number than 0
@@ -71,7 +71,7 @@ no-places (refused m i) r e n = (ap (λ (a : Answer). a .kind) e, ap (λ (a : An
 
 nothing : (o : Outcome) (wanted : ℕ) (lent part : RefT Bytes) (no field : ℕ) → FieldSaid o wanted lent part no field → no ≢ 0 → NoPart lent part
 nothing o wanted lent part m i p n =
-    let h = nowhere o wanted (λ z. n (p .its-no ∙ z)) in
+    let h = no-field o wanted (λ z. n (p .its-no ∙ z)) in
     same-part (sym (h .0)) (sym (h .1)) (p .its-part)
 
 pub reading : Reading

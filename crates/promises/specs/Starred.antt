@@ -10,7 +10,7 @@ use lib.ListN.{length}
 use Rattle.text.specs.Text.{Bytes, ascii, isTimestamp, isHex}
 use Rattle.items.specs.Items.{lvConcat}
 use Rattle.agreement.specs.Texts.{sharedItems, moduleItems, centreItems}
-use Rattle.promises.specs.Worked.{idSm, idKmc, centreKey, requestFields, request, response}
+use Rattle.promises.specs.Worked.{moduleId, centreId, centreKey, requestFields, request, response}
 
 -- what is computed, and what it must be
 pub data Star : Type 0 where
@@ -32,8 +32,8 @@ starred =
     number (crcOf []) 0xFFFF
     ∷ number (crcOf (0x00 ∷ [])) 0x40BF
     ∷ number (crcOf (ascii "123456789")) 0x4B37
-    ∷ number (length idSm) 60
-    ∷ number (length idKmc) 73
+    ∷ number (length moduleId) 60
+    ∷ number (length centreId) 73
     ∷ number (length centreKey) 302
     ∷ number (length request) 434
     ∷ number (length response) 219
