@@ -28,7 +28,7 @@ use Rattle.put.specs.Made.{says, Writes}
 use Rattle.put.specs.declared.Written.{Written}
 use Rattle.put.proofs.Pieces.{put-whole, put-denied}
 use Rattle.building.specs.Building.{sum, pieces, buildOf, build}
-use Rattle.building.specs.Steps.{formNo, placesBy, Lie}
+use Rattle.building.specs.Steps.{countNo, placesBy, Lie}
 use Rattle.building.proofs.Pieces.{pieces-count, lie}
 use Rattle.building.proofs.Names.{named-some, name-short}
 use Rattle.building.proofs.Form.{form-found, form-counted, fromRoom, fromFields, of-form}
@@ -51,7 +51,7 @@ module _ (t bytes : Bytes) (ns : List ℕ) where
 
 pub record Begun (t bytes : Bytes) (ns : List ℕ) (row no : ℕ) : Type 0 where
   pub row-is : row ≡ rowFor (named allKinds t)
-  pub no-is : no ≡ formNo row bytes ns
+  pub no-is : no ≡ countNo row bytes ns
 
 module _ {t bytes : Bytes} {ns : List ℕ} {row no : ℕ} (b : Begun t bytes ns row no) (room : ℕ) where
   to-form : buildOf t bytes ns room ≡ passing no 0 (ofKind (named allKinds t) (fromFields bytes ns room))

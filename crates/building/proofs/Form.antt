@@ -18,7 +18,7 @@ use Rattle.format.specs.Read.{Outcome, accepted, provided, passing, ofKind, jud
 use Rattle.table.specs.Table.{rowOf, missingRow, rowFor, countOf}
 use Rattle.table.proofs.Rows.{row-small, of-kind}
 use Rattle.building.specs.Building.{sum, pieces, buildAs}
-use Rattle.building.specs.Steps.{formNo}
+use Rattle.building.specs.Steps.{countNo}
 
 two-tests : (a b : Bool) → _≡_ {A = ℕ} (cond a 2 (cond b 0 5)) 0 → T b
 two-tests true b e = absurd (omega arith)
@@ -28,28 +28,28 @@ two-tests false false e = absurd (omega arith)
 module _ (row : ℕ) (bytes : Bytes) (ns : List ℕ) where
   -- ---- the tests in a row
 
-  pub form-none : row ≡ missingRow → 2 ≡ formNo row bytes ns
-  unfolding formNo
+  pub form-none : row ≡ missingRow → 2 ≡ countNo row bytes ns
+  unfolding countNo
   form-none e = rw (eq-eqb row missingRow e)
 
   -- n is the count and b the sum's test as the code has them
   module _ (h : row ≡ missingRow → ⊥) (n : ℕ) (en : n ≡ countOf row) where
-    pub form-count : (length ns ≡ n → ⊥) → 5 ≡ formNo row bytes ns
-    unfolding formNo
+    pub form-count : (length ns ≡ n → ⊥) → 5 ≡ countNo row bytes ns
+    unfolding countNo
     form-count l = rw (ne-eqb row missingRow h, ← en, ne-eqb (length ns) n l)
 
-    pub form-sum : length ns ≡ n → (b : Bool) → b ≡ eqb (sum ns) (length bytes) → cond b 0 5 ≡ formNo row bytes ns
-    unfolding formNo
+    pub form-sum : length ns ≡ n → (b : Bool) → b ≡ eqb (sum ns) (length bytes) → cond b 0 5 ≡ countNo row bytes ns
+    unfolding countNo
     form-sum l b eb = rw (ne-eqb row missingRow h, ← en, eq-eqb (length ns) n l, ← eb)
 
   -- ---- a form without a number
 
-  module _ (z : formNo row bytes ns ≡ 0) where
+  module _ (z : countNo row bytes ns ≡ 0) where
     pub form-found : row ≡ missingRow → ⊥
     form-found e = omega (arith, form-none e)
 
     pub form-counted : (length ns ≡ countOf row) × (sum ns ≡ length bytes)
-    unfolding formNo
+    unfolding countNo
     form-counted =
         let a = eqb (length ns) (countOf row) in
         let b = eqb (sum ns) (length bytes) in
@@ -65,8 +65,8 @@ module _ (bytes : Bytes) (ns : List ℕ) (room : ℕ) where
   abbrev pub fromFields : Kind → Outcome
   fromFields k = judged readIdentity k (pieces ns bytes) (fromRoom k)
 
-  as-form : (k : Kind) → buildAs bytes ns room k ≡ passing (formNo (rowOf k) bytes ns) 0 (fromFields k)
-  unfolding buildAs formNo
+  as-form : (k : Kind) → buildAs bytes ns room k ≡ passing (countNo (rowOf k) bytes ns) 0 (fromFields k)
+  unfolding buildAs countNo
   as-form k =
       rw (ne-eqb (rowOf k) missingRow (λ e. omega (arith, row-small k)), of-kind (λ j. length (fieldsOf j)) 0 k)
       (test (eqb (length ns) (length (fieldsOf k)) && eqb (sum ns) (length bytes)))
@@ -76,6 +76,6 @@ module _ (bytes : Bytes) (ns : List ℕ) (room : ℕ) where
       test false = refl
 
   pub of-form : (o : Option Kind) (row : ℕ) → row ≡ rowFor o
-      → ofKind o (buildAs bytes ns room) ≡ passing (formNo row bytes ns) 0 (ofKind o fromFields)
+      → ofKind o (buildAs bytes ns room) ≡ passing (countNo row bytes ns) 0 (ofKind o fromFields)
   of-form none row e = rw (← form-none row bytes ns e)
   of-form (some k) row e = rw e (as-form k)

@@ -14,8 +14,8 @@ use Rattle.places.specs.declared.Places.{Places}
 use Rattle.building.specs.Building.{sum, pieces}
 
 -- numbers 2 and 5, by the row that was found
-unfoldable pub formNo : ℕ → Bytes → List ℕ → ℕ
-formNo row bytes ns = cond (eqb row missingRow) unknownKind (cond (eqb (length ns) (countOf row) && eqb (sum ns) (length bytes)) 0 wrongCount)
+unfoldable pub countNo : ℕ → Bytes → List ℕ → ℕ
+countNo row bytes ns = cond (eqb row missingRow) unknownKind (cond (eqb (length ns) (countOf row) && eqb (sum ns) (length bytes)) 0 wrongCount)
 
 -- where fields of these lengths stand, one behind the other, the first at p
 abbrev pub startsBy : ℕ → List ℕ → List ℕ

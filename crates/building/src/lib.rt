@@ -10,7 +10,7 @@ ghost use Rattle.format.specs.Build.{joined, withCheck};
 ghost use Rattle.put.specs.Put.{Put};
 ghost use Rattle.put.specs.Made.{Writes};
 ghost use Rattle.building.specs.Building.{sum, pieces, build};
-ghost use Rattle.building.specs.Steps.{formNo, placesBy, Lie};
+ghost use Rattle.building.specs.Steps.{countNo, placesBy, Lie};
 
 const CHECK_LENGTH: usize = 4;
 
@@ -32,8 +32,8 @@ fn do_add_up(lens: &[usize], total: usize) -> bool
     left == 0
 }
 
-fn form_no(row: usize, bytes: &[u8], lens: &[usize]) -> u8
-    ensures { λ r. ⌜ r ≡ formNo row (now (bytes .entry)) (now (lens .entry)) ⌝ }
+fn count_no(row: usize, bytes: &[u8], lens: &[usize]) -> u8
+    ensures { λ r. ⌜ r ≡ countNo row (now (bytes .entry)) (now (lens .entry)) ⌝ }
 {
     if row == table::NONE {
         return numbers::UNKNOWN_KIND;
@@ -123,7 +123,7 @@ pub fn build(kind: &[u8], bytes: &[u8], lens: &[usize], out: &mut [u8]) -> put::
     ensures { λ r. ⌜ Writes (build (now (kind .entry)) (now (bytes .entry)) (now (lens .entry)) (length (now (out .entry)))) (now (out .entry)) (now (out .exit)) r ⌝ }
 {
     let row = table::kind_named(kind);
-    let no = form_no(row, bytes, lens);
+    let no = count_no(row, bytes, lens);
     if no != numbers::ACCEPTED {
         return put::refuse(no, 0);
     }

@@ -69,7 +69,7 @@ wanted-few wanted row z h = rw (le-leb 1 wanted (omega (arith, z)), le-leb wante
 
 -- ---- where the field stands
 
--- a number out of range: nothing, and nowhere
+-- a number out of range: nothing, and no-field
 outside : (fs : List Bytes) (w : ℕ) → T (not (between 1 (length fs) w)) → [] ≡ getD ([] ∷ fs) w []
 outside fs zero h = refl
 outside fs (suc w) h =
@@ -77,13 +77,13 @@ outside fs (suc w) h =
     (λ l. absurd (rw (le-leb 1 (suc w) (omega arith), le-leb (suc w) (length fs) l) at h))
     (λ l. sym (List·getD-eq-default fs [] l))
 
-pub nowhere : (o : Outcome) (wanted : ℕ) → (wantedNo o wanted ≡ 0 → ⊥) → (0 ≡ wantedStart o wanted) × ([] ≡ wantedPart o wanted)
+pub no-field : (o : Outcome) (wanted : ℕ) → (wantedNo o wanted ≡ 0 → ⊥) → (0 ≡ wantedStart o wanted) × ([] ≡ wantedPart o wanted)
 unfolding wantedNo wantedPart wantedStart
-nowhere (accepted k fs) wanted n =
+no-field (accepted k fs) wanted n =
     by-test (between 1 (length fs) wanted)
     (λ t. absurd (n (rw (T-true (between 1 (length fs) wanted) t))))
     (λ t. (rw (T-false (between 1 (length fs) wanted) t), outside fs wanted t))
-nowhere (refused m i) wanted n = (refl, refl)
+no-field (refused m i) wanted n = (refl, refl)
 
 module _ (s : Bytes) (wanted : ℕ) where
   placed : (o : Outcome) (n f start len : ℕ) → n ≡ wantedNo o wanted → f ≡ place o → start ≡ wantedStart o wanted
@@ -125,7 +125,7 @@ module _ (s : Bytes) (wanted : ℕ) where
 
   module _ (o : Outcome) (r : Reads s o) (a : Answer) (q : a ≡ answerOf o) (n : ℕ) (e : n ≡ wantedNo o wanted) where
     pub place-none : (n ≡ 0 → ⊥) → Placed o wanted s (record { no = n; field = a .field; start = 0; len = 0 })
-    place-none z = let h = nowhere o wanted (λ (y : wantedNo o wanted ≡ 0). z (e ∙ y)) in placed o n (a .field) 0 0 e (told o a q .1) (h .0) (omega arith) (h .1)
+    place-none z = let h = no-field o wanted (λ (y : wantedNo o wanted ≡ 0). z (e ∙ y)) in placed o n (a .field) 0 0 e (told o a q .1) (h .0) (omega arith) (h .1)
 
     -- i and l are the start and the length as the code has them
     pub place-there : n ≡ 0 → (i l : ℕ) → i ≡ getD (a .starts) (wanted - 1) 0 → l ≡ getD (a .lens) (wanted - 1) 0 → Placed o wanted s (record { no = n; field = a .field; start = i; len = l })

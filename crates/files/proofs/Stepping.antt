@@ -4,7 +4,7 @@
 use denote.Ref.{RefT, now}
 use Prim.Native.Nat.{ℕ, zero, suc, _+_, _≤_}
 use mathlib.Core.Path.{_≡_, refl, ap, ap₂, sym, _∙_}
-use mathlib.Core.List.{List, [], _∷_, _++_}
+use mathlib.Core.List.{List, [], _∷_, _++_, map}
 use native.Mathlib.Nat.{add-zero, add-suc}
 use native.Mathlib.Omega.{arith}
 use lib.ListN.{length, replicate}
@@ -13,12 +13,17 @@ use Rattle.format.specs.Files as files
 use Rattle.format.specs.Files.{Said, finished, read, lineAt, walk}
 use Rattle.format.proofs.Lines.{lineTo, unfinishedTo, at-end, at-line, at-unfinished, by-place, next-inside, rest, rest-walk, rest-onward, rest-step}
 use Rattle.files.specs.Walk.{lineSaid, nextOf}
-use Rattle.files.specs.Steps.{Begins, Stepped, Steps, none, more, answersFrom, answersFor}
+use Rattle.files.specs.Steps.{Begins, Stepped, Steps, none, more}
 use Rattle.files.specs.declared.Line.{Line}
 use Rattle.files.specs.declared.Line.the-variants.{Finished}
 use Rattle.files.specs.declared.Reader.{Reader}
 
 -- ---- the file call
+
+-- its answers, called n times in a row from a place on
+unfoldable answersFrom : ℕ → Bytes → ℕ → List Line
+answersFrom zero file place = []
+answersFrom (suc n) file place = lineSaid (lineAt file place) ∷ answersFrom n file (nextOf (lineSaid (lineAt file place)))
 
 module _ (file : Bytes) where
   step-read : (n place : ℕ) (l : files.Line) → lineAt file place ≡ read l → answersFrom (suc n) file place ≡ lineSaid (read l) ∷ answersFrom n file (l .next)
@@ -54,18 +59,18 @@ module _ (file : Bytes) where
 
   -- from a place on: the lines ls that are left, and then n times that the file is finished
   from-place : (n place : ℕ) → place ≤ length file → (ls : List files.Line) → rest file place ≡ ls
-      → answersFrom (n + length ls) file place ≡ answersFor ls ++ replicate n (Finished (length file))
+      → answersFrom (n + length ls) file place ≡ map (λ l. lineSaid (read l)) ls ++ replicate n (Finished (length file))
   from-place n place h [] r = let end : place ≡ length file = omega (arith, none-left place r) in rw (end, add-zero) (at-finished n)
   from-place n place h (l ∷ ls) r =
       let (is, left) = first-left place l ls r in
       ap (λ m. answersFrom m file place) (add-suc n (length ls)) ∙ step-read (n + length ls) place l is ∙ ap (_∷_ (lineSaid (read l))) (from-place n (l .next) (next-inside file place l is) ls left)
 
-  pub walk-answers : (n : ℕ) → answersFrom (n + length (walk file)) file 0 ≡ answersFor (walk file) ++ replicate n (Finished (length file))
+  walk-answers : (n : ℕ) → answersFrom (n + length (walk file)) file 0 ≡ map (λ l. lineSaid (read l)) (walk file) ++ replicate n (Finished (length file))
   walk-answers n = from-place n 0 (omega arith) (walk file) (rest-walk file)
 
 -- ---- a reader
 
-pub reader-steps : {before after : Reader} {said : List Line} → Steps before said after
+reader-steps : {before after : Reader} {said : List Line} → Steps before said after
     → said ≡ answersFrom (length said) (now (before .file)) (before .place)
 unfolding answersFrom
 reader-steps none = refl
@@ -74,7 +79,7 @@ reader-steps (more {said = a} s t) = rw (← s .its-line, ← s .same-file, ← 
 -- the answers of a new reader
 pub reader-walks : {lent : RefT Bytes} {before after : Reader} {said : List Line} → Begins lent before → Steps before said after
     → (n : ℕ) → length said ≡ n + length (walk (now lent))
-    → said ≡ answersFor (walk (now lent)) ++ replicate n (Finished (length (now lent)))
+    → said ≡ map (λ l. lineSaid (read l)) (walk (now lent)) ++ replicate n (Finished (length (now lent)))
 reader-walks {lent} b t n e = reader-steps t ∙ rw (e, b .same-file, b .its-place) (walk-answers (now lent) n)
 
 -- readers of the same bytes at the same place are one

@@ -1,12 +1,11 @@
 -- What a reader answers, step after step: document 01, "Files of records and the newer key".
 -- Assumes nothing.
 use denote.Ref.{RefT, now}
-use Prim.Native.Nat.{ℕ, zero, suc}
+use Prim.Native.Nat.{ℕ}
 use mathlib.Core.Path.{_≡_}
-use mathlib.Core.List.{List, [], _∷_, map}
+use mathlib.Core.List.{List, [], _∷_}
 use Rattle.text.specs.Text.{Bytes}
-use Rattle.format.specs.Files as files
-use Rattle.format.specs.Files.{read, lineAt}
+use Rattle.format.specs.Files.{lineAt}
 use Rattle.files.specs.Walk.{lineSaid, nextOf}
 use Rattle.files.specs.declared.Line.{Line}
 use Rattle.files.specs.declared.Reader.{Reader}
@@ -31,12 +30,3 @@ pub data Steps : Reader → List Line → Reader → Type 0 where
   none : {reader : Reader} → Steps reader [] reader
   more : {before between after : Reader} {said : Line} {rest : List Line}
       → Stepped before said between → Steps between rest after → Steps before (said ∷ rest) after
-
--- the answers of the file call, called n times in a row from a place on
-unfoldable pub answersFrom : ℕ → Bytes → ℕ → List Line
-answersFrom zero file place = []
-answersFrom (suc n) file place = lineSaid (lineAt file place) ∷ answersFrom n file (nextOf (lineSaid (lineAt file place)))
-
--- the answers that say the lines ls
-abbrev pub answersFor : List files.Line → List Line
-answersFor ls = map (λ l. lineSaid (read l)) ls

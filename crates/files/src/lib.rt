@@ -7,7 +7,6 @@ ghost use Rattle.format.specs.Files.{lineAt, walk};
 ghost use Rattle.files.specs.Walk.{lineEnd, lineSaid, nextOf, totalsOf};
 ghost use Rattle.files.specs.Steps.{Begins, Stepped, stepFrom};
 
-// The number of an unfinished last line, whatever it holds.
 // What stands at a place of a file.
 pub enum Line {
     // A place at or past the end, which is its start and its next place; its length is 0.

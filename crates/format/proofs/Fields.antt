@@ -17,7 +17,7 @@ use Rattle.numbers.specs.Numbers.{wrongText, wrongIdentity, wrongKind, unpaired
 use Rattle.format.specs.Kinds.{Kind, Field, Text, Identity, OrEmpty, name, mark, fieldsOf, among}
 use Rattle.format.specs.Build.{joined, WithoutAll, recordOf, empty, Fits, FitAll, paired, PermittedOver}
 use Rattle.format.specs.Read.{Outcome, accepted, refused, passing, identityAnswer, fieldAnswer, each, wholeAnswer, judged}
-use Rattle.format.proofs.Table.{alien, absent, longestIdentity, longestOf, room, mark-absent}
+use Rattle.format.proofs.Table.{alien, absent, longestIdentity, longestOf, fieldRoom, mark-absent}
 use Rattle.format.proofs.Parts.{record-length}
 use Rattle.format.proofs.Outcomes.{passing-law}
 
@@ -116,7 +116,7 @@ module _ (I : Kind → Bytes → Type 0) (tame : Tame I) where
   field-held m (OrEmpty t) (c ∷ f) u (inr h) = field-held m t (c ∷ f) u h
 
   pub fields-held : (m : ℕ) (ts : List Field) (fs : List Bytes) → T (allOf (map (absent m) ts)) → FitAll I ts fs
-      → WithoutAll m fs × (length (joined m fs) ≤ room ts)
+      → WithoutAll m fs × (length (joined m fs) ≤ fieldRoom ts)
   unfolding FitAll
   fields-held m [] [] u h = (tt, omega arith)
   fields-held m [] (f ∷ fs) u h = absurd h
@@ -128,7 +128,7 @@ module _ (I : Kind → Bytes → Type 0) (tame : Tame I) where
       ((a .0, b .0), omega (arith, length-append f (m ∷ joined m fs)))
 
   pub record-held : (k : Kind) (fs : List Bytes) → FitAll I (fieldsOf k) fs
-      → WithoutAll (mark k) fs × (length (recordOf k fs) ≤ length (name k) + room (fieldsOf k) + 5)
+      → WithoutAll (mark k) fs × (length (recordOf k fs) ≤ length (name k) + fieldRoom (fieldsOf k) + 5)
   record-held k fs h =
       let held = fields-held (mark k) (fieldsOf k) fs (mark-absent k) h in
       (held .0, omega (arith, record-length k fs))

@@ -137,18 +137,18 @@ longestRecord = longestIn longestIdentity allKinds
 abbrev pub longestOf : Field → ℕ
 longestOf t = longestOver longestIdentity t
 
-abbrev pub room : List Field → ℕ
-room ts = roomOver longestIdentity ts
+abbrev pub fieldRoom : List Field → ℕ
+fieldRoom ts = roomOver longestIdentity ts
 
-pub record-room : (k : Kind) → length (name k) + room (fieldsOf k) + 5 ≤ longestRecord
+pub record-room : (k : Kind) → length (name k) + fieldRoom (fieldsOf k) + 5 ≤ longestRecord
 record-room k =
-    leb→le (length (name k) + room (fieldsOf k) + 5) longestRecord
-    (every-kind (λ j. leb (length (name j) + room (fieldsOf j) + 5) longestRecord) tt k)
+    leb→le (length (name k) + fieldRoom (fieldsOf k) + 5) longestRecord
+    (every-kind (λ j. leb (length (name j) + fieldRoom (fieldsOf j) + 5) longestRecord) tt k)
 
 -- ---- the rows of identities and of public keys
 
 pub identity-row : (k : Kind) → T (among k identityKinds)
-    → (mark k ≡ code ":") × (fieldsOf k ≡ identityFields) × (length (name k) + room (fieldsOf k) + 5 ≤ longestIdentity)
+    → (mark k ≡ code ":") × (fieldsOf k ≡ identityFields) × (length (name k) + fieldRoom (fieldsOf k) + 5 ≤ longestIdentity)
 identity-row = all-among _ identityKinds ((refl, refl, lit≤ tt), ((refl, refl, lit≤ tt), ((refl, refl, lit≤ tt), tt)))
 
 pub pubkey-row : (k : Kind) → T (among k pubkeyKinds) → (ks : List Kind) × (fieldsOf k ≡ pubkeyFields ks)

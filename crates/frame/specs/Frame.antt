@@ -28,5 +28,6 @@ partStart m s n = length (joined m (take n (cut m s)))
 unfoldable pub partPlace : ℕ → Bytes → ℕ → ℕ
 partPlace m s n = cond (ltb n (length (cut m s))) (partStart m s n) 0
 
+-- r is part n of s, where it stands
 abbrev pub IsPart : ℕ → RefT Bytes → ℕ → RefT Bytes → Type 0
 IsPart m s n r = Part s (partPlace m (now s) n) (partOf m (now s) n) r

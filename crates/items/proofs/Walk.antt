@@ -55,7 +55,7 @@ given x none = none
 given x (some is) = some x
 
 -- i of n items are passed, and place p is reached; item w, if it is among them, has its length at place f
-pub record Walked (s : Bytes) (w n i p f : ℕ) : Type 0 where
+pub record Passed (s : Bytes) (w n i p f : ℕ) : Type 0 where
   pub wanted : 1 ≤ w
   pub inside : i ≤ n
   pub place : p ≤ length s
@@ -65,7 +65,7 @@ pub record Walked (s : Bytes) (w n i p f : ℕ) : Type 0 where
   pub end : w ≤ i → f + 1 + getD s f 0 ≤ length s
   pub late : w ≤ i → textItem s w ≡ given (take (getD s f 0) (drop (f + 1) s)) (itemsIn (n - i) (drop p s))
 
-pub walked-none : (s : Bytes) (w : ℕ) → (length s ≡ 0 → ⊥) → (w ≡ 0 → ⊥) → Walked s w (getD s 0 0) 0 1 0
+pub walked-none : (s : Bytes) (w : ℕ) → (length s ≡ 0 → ⊥) → (w ≡ 0 → ⊥) → Passed s w (getD s 0 0) 0 1 0
 unfolding textItem behind
 walked-none [] w h z = absurd (h refl)
 walked-none (n ∷ s) w h z = record {
@@ -101,7 +101,7 @@ item-at : (s : Bytes) (k m p : ℕ) → k ≡ suc m → p < length s
     → itemsIn k (drop p s) ≡ cond (leb (getD s p 0) (length (drop (p + 1) s))) (itemBefore (take (getD s p 0) (drop (p + 1) s)) (itemsIn m (drop (p + 1 + getD s p 0) s))) none
 item-at s k m p e h = rw (e, drop-cons s p 0 h, add-one, drop-drop)
 
-module _ {s : Bytes} {w n i p f : ℕ} (d : Walked s w n i p f) where
+module _ {s : Bytes} {w n i p f : ℕ} (d : Passed s w n i p f) where
   -- where the rest has no items, there is no answer
   broken : itemsIn (n - i) (drop p s) ≡ none → textItem s w ≡ none
   broken z = less-or i w (λ h. d .early h ∙ rw z) (λ h. d .late h ∙ rw z)
@@ -138,7 +138,7 @@ module _ {s : Bytes} {w n i p f : ℕ} (d : Walked s w n i p f) where
     reached-next = ap (λ (q : ℕ). q + 1 + getD s q 0) (d .reached) ∙ ap (λ (j : ℕ). behind j s) (sym (add-one i))
 
     -- item i + 1 is not the wanted one
-    pub walked-more : (i + 1 ≡ w → ⊥) → Walked s w n (i + 1) (p + 1 + getD s p 0) f
+    pub walked-more : (i + 1 ≡ w → ⊥) → Passed s w n (i + 1) (p + 1 + getD s p 0) f
     walked-more z = record {
       wanted = d .wanted;
       inside = omega arith;
@@ -153,7 +153,7 @@ module _ {s : Bytes} {w n i p f : ℕ} (d : Walked s w n i p f) where
     }
 
     -- item i + 1 is the wanted one
-    pub walked-there : i + 1 ≡ w → Walked s w n (i + 1) (p + 1 + getD s p 0) p
+    pub walked-there : i + 1 ≡ w → Passed s w n (i + 1) (p + 1 + getD s p 0) p
     walked-there z = record {
       wanted = d .wanted;
       inside = omega arith;

@@ -23,7 +23,7 @@ use Rattle.reading.specs.declared.Answer.{Answer}
 use Rattle.reading.proofs.Answers.{Taken, taken, untaken}
 use Rattle.subjects.specs.Subjects.{alike, identityPart, areAlike}
 use Rattle.subjects.proofs.Subjects.{identity-field, identity-gnt, alike-identities}
-use Rattle.newer.specs.Newer.{Decision, theFirst, theSecond, denied, subject, bySubjects, byRecords, newer, choiceNo, choiceWhich, choiceSaid, IsChosen, Chosen}
+use Rattle.newer.specs.Newer.{Decision, theFirst, theSecond, noChoice, subject, bySubjects, byRecords, newer, choiceNo, choiceWhich, choiceSaid, IsChosen, Chosen}
 use Rattle.newer.specs.declared.Choice.{Choice}
 use Rattle.newer.specs.Keys.{Key, gntOf}
 use Rattle.newer.specs.Steps.{Named}
@@ -32,7 +32,7 @@ use Rattle.newer.proofs.Keys.{key, its-subject}
 -- ---- by the two Subjects
 
 module _ (i j : Bytes) (p : Named i) (q : Named j) where
-  by-names : bySubjects (readIdentity i) (readIdentity j) ≡ cond (areAlike i j) (cond (after (identityPart j 3) (identityPart i 3)) theSecond theFirst) (denied 0 notAlike 0)
+  by-names : bySubjects (readIdentity i) (readIdentity j) ≡ cond (areAlike i j) (cond (after (identityPart j 3) (identityPart i 3)) theSecond theFirst) (noChoice 0 notAlike 0)
   by-names =
       rw (
         p .known,
@@ -104,7 +104,7 @@ module _ (a b : Bytes) where
     abbrev by-gnt : Decision
     by-gnt = cond (later (gntOf q) (gntOf p)) theSecond theFirst
 
-    pub newer-keys : newer a b ≡ cond agree by-gnt (denied 0 notAlike 0)
+    pub newer-keys : newer a b ≡ cond agree by-gnt (noChoice 0 notAlike 0)
     unfolding newer
     newer-keys = rw (p .is, q .is, p .known, q .known)
 
@@ -132,11 +132,11 @@ module _ (a b : Bytes) where
           by-test (agree p q)
           (λ t. t)
           (λ t.
-          let n : notAlike ≡ 0 = sym (ap choiceNo (newer-keys p q ∙ cond-no (agree p q) (by-gnt p q) (denied 0 notAlike 0) t)) ∙ z in
+          let n : notAlike ≡ 0 = sym (ap choiceNo (newer-keys p q ∙ cond-no (agree p q) (by-gnt p q) (noChoice 0 notAlike 0) t)) ∙ z in
           absurd (omega arith))
 
       pub chosen-later : newer a b ≡ by-gnt p q
-      chosen-later = newer-keys p q ∙ cond-yes (agree p q) (by-gnt p q) (denied 0 notAlike 0) chosen-agree
+      chosen-later = newer-keys p q ∙ cond-yes (agree p q) (by-gnt p q) (noChoice 0 notAlike 0) chosen-agree
 
     one-of-two : (l : Bool) × (newer a b ≡ cond l theSecond theFirst)
     one-of-two = (later (gntOf (chosen-keys .1)) (gntOf (chosen-keys .0)), chosen-later (chosen-keys .0) (chosen-keys .1))
@@ -173,7 +173,7 @@ module _ {first second r : RefT Bytes} where
   pub chosen-none : (d : Decision) (c : Choice) → c ≡ choiceSaid d → (c .no ≡ 0 → ⊥) → NoPart first r → Chosen d first second r (c .no) (c .field)
   chosen-none theFirst c e z p = absurd (z (ap (λ (x : Choice). x .no) e))
   chosen-none theSecond c e z p = absurd (z (ap (λ (x : Choice). x .no) e))
-  chosen-none (denied w n i) c e z p = chosen (denied w n i) c e p
+  chosen-none (noChoice w n i) c e z p = chosen (noChoice w n i) c e p
 
   pub chosen-second : (c : Choice) → c ≡ choiceSaid (newer (now first) (now second)) → c .no ≡ 0 → c .which ≡ 2 → r ≡ second
       → Chosen (newer (now first) (now second)) first second r (c .no) (c .field)

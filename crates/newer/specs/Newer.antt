@@ -25,20 +25,20 @@ subject fs = getD fs 0 []
 -- a refusal has the record that is refused, 1 or 2, and 0 where it is the two together; its number and its field's number
 pub data Decision : Type 0 where
   theFirst theSecond : Decision
-  denied : ℕ → ℕ → ℕ → Decision
+  noChoice : ℕ → ℕ → ℕ → Decision
 
 -- by the identity call's outcomes of the two Subjects
 abbrev pub bySubjects : Outcome → Outcome → Decision
 bySubjects (accepted j fs) (accepted k gs) =
-    cond (alike j fs k gs) (cond (later (gnt gs) (gnt fs)) theSecond theFirst) (denied 0 notAlike 0)
-bySubjects (accepted j fs) (refused n i) = denied 2 n i
-bySubjects (refused n i) o = denied 1 n i
+    cond (alike j fs k gs) (cond (later (gnt gs) (gnt fs)) theSecond theFirst) (noChoice 0 notAlike 0)
+bySubjects (accepted j fs) (refused n i) = noChoice 2 n i
+bySubjects (refused n i) o = noChoice 1 n i
 
 -- by the record call's outcomes of the two records
 abbrev pub byRecords : Outcome → Outcome → Decision
 byRecords (accepted j fs) (accepted k gs) = bySubjects (readIdentity (subject fs)) (readIdentity (subject gs))
-byRecords (accepted j fs) (refused n i) = denied 2 n i
-byRecords (refused n i) o = denied 1 n i
+byRecords (accepted j fs) (refused n i) = noChoice 2 n i
+byRecords (refused n i) o = noChoice 1 n i
 
 unfoldable pub newer : Bytes → Bytes → Decision
 newer a b = byRecords (readOf pubkeyKinds a) (readOf pubkeyKinds b)
@@ -48,18 +48,18 @@ newer a b = byRecords (readOf pubkeyKinds a) (readOf pubkeyKinds b)
 abbrev pub choiceNo : Decision → ℕ
 choiceNo theFirst = 0
 choiceNo theSecond = 0
-choiceNo (denied w n i) = n
+choiceNo (noChoice w n i) = n
 
 abbrev pub choiceField : Decision → ℕ
 choiceField theFirst = 0
 choiceField theSecond = 0
-choiceField (denied w n i) = i
+choiceField (noChoice w n i) = i
 
 -- 1 for the first record and 2 for the second: the newer one, and with a refusal the one that is refused
 abbrev pub choiceWhich : Decision → ℕ
 choiceWhich theFirst = 1
 choiceWhich theSecond = 2
-choiceWhich (denied w n i) = w
+choiceWhich (noChoice w n i) = w
 
 abbrev pub choiceSaid : Decision → Choice
 choiceSaid c = record { no = choiceNo c; field = choiceField c; which = choiceWhich c }
@@ -68,7 +68,7 @@ choiceSaid c = record { no = choiceNo c; field = choiceField c; which = choiceWh
 abbrev pub IsChosen : Decision → RefT Bytes → RefT Bytes → RefT Bytes → Type 0
 IsChosen theFirst first second r = r ≡ first
 IsChosen theSecond first second r = r ≡ second
-IsChosen (denied w n i) first second r = NoPart first r
+IsChosen (noChoice w n i) first second r = NoPart first r
 
 pub record Chosen (c : Decision) (first second r : RefT Bytes) (no field : ℕ) : Type 0 where
   pub part-so : IsChosen c first second r

@@ -59,6 +59,7 @@ partAt s starts lens j = cond (isPlace s starts lens j) (take (getD lens j 0) (d
 unfoldable pub startAt : Bytes → List ℕ → List ℕ → ℕ → ℕ
 startAt s starts lens j = cond (isPlace s starts lens j) (getD starts j 0) 0
 
+-- r is the part of s at place j, where it stands
 abbrev pub IsPartAt : RefT Bytes → List ℕ → List ℕ → ℕ → RefT Bytes → Type 0
 IsPartAt s starts lens j r = Part s (startAt (now s) starts lens j) (partAt (now s) starts lens j) r
 
@@ -71,6 +72,7 @@ unfoldable pub fieldStartAt : Bytes → List ℕ → List ℕ → ℕ → ℕ
 fieldStartAt s starts lens zero = 0
 fieldStartAt s starts lens (suc j) = startAt s starts lens j
 
+-- r is the field of s of this number, where it stands
 abbrev pub IsFieldAt : RefT Bytes → List ℕ → List ℕ → ℕ → RefT Bytes → Type 0
 IsFieldAt s starts lens n r = Part s (fieldStartAt (now s) starts lens n) (fieldAt (now s) starts lens n) r
 

@@ -33,7 +33,7 @@ use Rattle.promises.specs.Agreement.{TextSaid, ItemSaid, ItemPlaceSaid, 
 -- ---- a text
 
 -- a made text is that of an accepted request, and there is room
-pub record Fits (items : List Bytes → List Bytes) (room : ℕ) (o : Outcome) : Type 0 where
+pub record TextFits (items : List Bytes → List Bytes) (room : ℕ) (o : Outcome) : Type 0 where
   pub fs : List Bytes
   pub k : Kind
   pub is-accepted : o ≡ accepted k fs
@@ -43,7 +43,7 @@ module _ (items : List Bytes → List Bytes) (room : ℕ) where
   made-yes : (k : Kind) (fs : List Bytes) → length (lvConcat (items fs)) ≤ room → textMade items room (accepted k fs) ≡ made (lvConcat (items fs))
   made-yes k fs h = cond-yes (leb (length (lvConcat (items fs))) room) _ _ (le→leb (length (lvConcat (items fs))) room h)
 
-  made-zero : (o : Outcome) → (answer o ≡ 0 → (k : Kind) × (fs : List Bytes) × (o ≡ accepted k fs)) → says (textMade items room o) .no ≡ 0 → Fits items room o
+  made-zero : (o : Outcome) → (answer o ≡ 0 → (k : Kind) × (fs : List Bytes) × (o ≡ accepted k fs)) → says (textMade items room o) .no ≡ 0 → TextFits items room o
   made-zero (accepted k fs) h z =
       by-test (leb (length (lvConcat (items fs))) room)
       (λ t. record { fs = fs; k = k; is-accepted = refl; room-so = leb→le (length (lvConcat (items fs))) room t })

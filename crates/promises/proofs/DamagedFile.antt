@@ -31,7 +31,7 @@ use Rattle.files.proofs.Stepping.{first-left}
 use Rattle.files.proofs.line_at.Reads as line-at
 use Rattle.promises.specs.Calls.{Allows}
 use Rattle.promises.specs.Demand3.{none, more, AllCaughtSaid}
-use Rattle.promises.specs.Worked.{idSmFields, idSm, idKmcFields, idKmc, centreKeyFields, centreKey, responseFields, response, fieldsOfWorked, soundLines, soundFile, damagedFile}
+use Rattle.promises.specs.Worked.{moduleIdFields, moduleId, centreIdFields, centreId, centreKeyFields, centreKey, responseFields, response, fieldsOfWorked, soundLines, soundFile, damagedFile}
 use Rattle.promises.proofs.Demand3.{demand3}
 use Rattle.promises.proofs.Permitted.{permitted, built-of}
 
@@ -41,7 +41,7 @@ first : format.Line
 first = record { said = readRecord response; start = 0; size = length response; next = 0 + length response + 1 }
 
 listed : walk soundFile ≡ linesFrom 0 soundLines []
-unfolding soundFile soundLines response responseFields centreKey centreKeyFields idSm idSmFields idKmc idKmcFields recordOf withCheck checkText hexDigit crcOf addAll add bitSteps bitStep
+unfolding soundFile soundLines response responseFields centreKey centreKeyFields moduleId moduleIdFields centreId centreIdFields recordOf withCheck checkText hexDigit crcOf addAll add bitSteps bitStep
 listed = walk-lines soundLines [] (tt, (tt, (tt, tt))) tt
 
 read-first : readRecord response ≡ accepted RESP responseFields
@@ -54,7 +54,7 @@ at-first = first-left soundFile 0 first _ (rest-walk soundFile ∙ listed) .0
 
 -- its length
 long : length response ≡ 219
-unfolding response responseFields idSm idSmFields idKmc idKmcFields recordOf withCheck checkText hexDigit
+unfolding response responseFields moduleId moduleIdFields centreId centreIdFields recordOf withCheck checkText hexDigit
 long = refl
 
 -- ---- where the files differ
@@ -68,7 +68,7 @@ differ-there p d =
 
 -- the bytes there
 there : (getD soundFile 20 0 ≡ code "1") × (getD soundFile 21 0 ≡ code ":") × (getD damagedFile 20 0 ≡ code "?") × (getD damagedFile 21 0 ≡ code "?")
-unfolding damagedFile soundFile soundLines response responseFields idKmc idKmcFields recordOf withCheck
+unfolding damagedFile soundFile soundLines response responseFields centreId centreIdFields recordOf withCheck
 there = (refl, refl, refl, refl)
 
 no-feed : (p : ℕ) → (p ≡ 20) ⊎ (p ≡ 21) → (getD soundFile p 0 ≢ lineFeed) × (getD damagedFile p 0 ≢ lineFeed)
@@ -92,7 +92,7 @@ are-bytes : (s : Bytes) → T (allOf (map (λ c. ltb c 256) s)) → AreBytes s
 are-bytes s t k = ltb→lt (getD s k 0) 256 (at-every (λ c. ltb c 256) 0 tt s t k)
 
 all-bytes : AreBytes soundFile × AreBytes damagedFile
-unfolding damagedFile soundFile soundLines response responseFields centreKey centreKeyFields idSm idSmFields idKmc idKmcFields recordOf withCheck checkText hexDigit crcOf addAll add bitSteps bitStep
+unfolding damagedFile soundFile soundLines response responseFields centreKey centreKeyFields moduleId moduleIdFields centreId centreIdFields recordOf withCheck checkText hexDigit crcOf addAll add bitSteps bitStep
 all-bytes = (are-bytes soundFile tt, are-bytes damagedFile tt)
 
 pub damaged : Damaged soundFile damagedFile

@@ -7,7 +7,7 @@ use Rattle.crc16.specs.declared.Crc.{Crc}
 use Rattle.text.specs.Text.{Bytes}
 use Rattle.text.specs.Part.{Part}
 use Rattle.table.proofs.Codes.{one-code}
-use Rattle.newer.specs.Newer.{Decision, theFirst, theSecond, denied, IsChosen, Chosen}
+use Rattle.newer.specs.Newer.{Decision, theFirst, theSecond, noChoice, IsChosen, Chosen}
 use Rattle.promises.specs.Determined.{Determined}
 
 -- two states with one number are one state
@@ -24,7 +24,7 @@ one-chosen {d} {a} {b} {x} {y} p q = go d (p .part-so) (q .part-so)
     go : (c : Decision) → IsChosen c a b x → IsChosen c a b y → (ptr x ≡ ptr y) × (now x ≡ now y)
     go theFirst e f = (ap ptr (e ∙ sym f), ap now (e ∙ sym f))
     go theSecond e f = (ap ptr (e ∙ sym f), ap now (e ∙ sym f))
-    go (denied w n i) e f = one-part e f
+    go (noChoice w n i) e f = one-part e f
 
 pub determined : Determined
 determined = record {

@@ -8,7 +8,7 @@ use Rattle.text.specs.Base16.{hexDigit, checkText}
 use Rattle.format.specs.Build.{withCheck, recordOf}
 use Rattle.format.specs.Read.{checkNo, identityAnswer, fieldAnswer, wholeAnswer, judged, readAs, readOver, readIdentity, readOf, readRecord}
 use Rattle.promises.specs.Values.{Value, AllCome, admittedFrom}
-use Rattle.promises.specs.Worked.{idManFields, idMan, idSmFields, idSm, idKmcFields, idKmc, manufacturerKeyFields, manufacturerKey, moduleKeyFields, moduleKey, centreKeyFields, centreKey, requestFields, request, responseFields, response}
+use Rattle.promises.specs.Worked.{manufacturerIdFields, manufacturerId, moduleIdFields, moduleId, centreIdFields, centreId, manufacturerKeyFields, manufacturerKey, moduleKeyFields, moduleKey, centreKeyFields, centreKey, requestFields, request, responseFields, response}
 use Rattle.promises.specs.Fixed.{rows, alphabets, limits, labels, checks, numbers, fixed}
 
 -- two sets of values are one
@@ -33,11 +33,11 @@ unfolding labels requestFields
 all-labels = (refl, (refl, (refl, tt)))
 
 all-checks : AllCome checks
-unfolding checks idManFields idMan idSmFields idSm idKmcFields idKmc manufacturerKeyFields manufacturerKey moduleKeyFields moduleKey centreKeyFields centreKey requestFields request responseFields response recordOf withCheck checkText hexDigit crcOf addAll add bitSteps bitStep
+unfolding checks manufacturerIdFields manufacturerId moduleIdFields moduleId centreIdFields centreId manufacturerKeyFields manufacturerKey moduleKeyFields moduleKey centreKeyFields centreKey requestFields request responseFields response recordOf withCheck checkText hexDigit crcOf addAll add bitSteps bitStep
 all-checks = (refl, (refl, (refl, (refl, (refl, (refl, (refl, (refl, tt))))))))
 
 all-numbers : AllCome numbers
-unfolding numbers idManFields idMan idSmFields idSm idKmcFields idKmc manufacturerKeyFields centreKeyFields centreKey recordOf withCheck checkText hexDigit crcOf addAll add bitSteps bitStep isIdent isTimestamp looks numberFrom isHex isPoint checkNo identityAnswer fieldAnswer wholeAnswer judged readAs readOver readIdentity readOf readRecord
+unfolding numbers manufacturerIdFields manufacturerId moduleIdFields moduleId centreIdFields centreId manufacturerKeyFields centreKeyFields centreKey recordOf withCheck checkText hexDigit crcOf addAll add bitSteps bitStep isIdent isTimestamp looks numberFrom isHex isPoint checkNo identityAnswer fieldAnswer wholeAnswer judged readAs readOver readIdentity readOf readRecord
 all-numbers = (refl, (refl, (refl, (refl, (refl, (refl, (refl, (refl, (refl, (refl, (refl, (refl, (refl, tt)))))))))))))
 
 pub all-fixed : AllCome fixed

@@ -16,7 +16,7 @@ use Rattle.subjects.specs.Subjects.{alike}
 use Rattle.newer.specs.declared.Choice.{Choice}
 use Rattle.newer.specs.Keys.{Key, gntOf}
 use Rattle.newer.specs.Newer as newer
-use Rattle.newer.specs.Newer.{Decision, theFirst, theSecond, denied, choiceNo, choiceSaid, choiceWhich, IsChosen, Chosen}
+use Rattle.newer.specs.Newer.{Decision, theFirst, theSecond, noChoice, choiceNo, choiceSaid, choiceWhich, IsChosen, Chosen}
 use Rattle.newer.proofs.Choosing.{newer-keys}
 use Rattle.newer.proofs.Chosen.{agreed-exactly, decided, decided-equal}
 use Rattle.promises.specs.Newer.{NewerSaid, ChoiceSaid, Newer}
@@ -26,7 +26,7 @@ use Rattle.promises.specs.Newer.{NewerSaid, ChoiceSaid, Newer}
 refused-empty : (a b part : RefT Bytes) (d : Decision) → choiceNo d ≢ 0 → IsChosen d a b part → NoPart a part
 refused-empty a b part theFirst h p = absurd (h refl)
 refused-empty a b part theSecond h p = absurd (h refl)
-refused-empty a b part (denied w m j) h p = p
+refused-empty a b part (noChoice w m j) h p = p
 
 newer-said : (a b part : RefT Bytes) (n i : ℕ) → Chosen (newer.newer (now a) (now b)) a b part n i → NewerSaid a b part n
 newer-said a b part n i c =
@@ -40,8 +40,8 @@ newer-said a b part n i c =
 
 -- ---- which of the two
 
-unlike : (agree after : Bool) → choiceNo (cond agree (cond after theSecond theFirst) (denied 0 notAlike 0)) ≢ 0
-    → choiceSaid (cond agree (cond after theSecond theFirst) (denied 0 notAlike 0)) ≡ record { no = notAlike; field = 0; which = 0 }
+unlike : (agree after : Bool) → choiceNo (cond agree (cond after theSecond theFirst) (noChoice 0 notAlike 0)) ≢ 0
+    → choiceSaid (cond agree (cond after theSecond theFirst) (noChoice 0 notAlike 0)) ≡ record { no = notAlike; field = 0; which = 0 }
 unlike true true n = absurd (n refl)
 unlike true false n = absurd (n refl)
 unlike false after n = refl

@@ -7,12 +7,12 @@ use lib.Dec.{T}
 use Rattle.text.specs.Text.{Bytes, looks, numberFrom, isIdent, isTimestamp, isHex, isPoint}
 use Rattle.format.specs.Kinds.{Kind, SMMAN, SMID, KMCID, ECDSA, ECDH, REQ, RESP, among}
 use Rattle.format.specs.Build.{withCheck, recordOf, Fits, FitAll, PermittedOver, NeverIdentity, IsIdentity, Permitted, Built}
-use Rattle.promises.specs.Worked.{idManFields, idMan, idSmFields, idSm, idKmcFields, idKmc, manufacturerKeyFields, moduleKeyFields, centreKeyFields, requestFields, responseFields, fieldsOfWorked, unsignedKeyFields, laterIdFields, laterKeyFields}
+use Rattle.promises.specs.Worked.{manufacturerIdFields, manufacturerId, moduleIdFields, moduleId, centreIdFields, centreId, manufacturerKeyFields, moduleKeyFields, centreKeyFields, requestFields, responseFields, fieldsOfWorked, unsignedKeyFields, laterIdFields, laterKeyFields}
 
 -- an identity whose fields are texts as the table says
-pub names-permitted : (I : Kind → Bytes → Type 0) → PermittedOver I SMMAN idManFields × PermittedOver I SMID idSmFields × PermittedOver I KMCID idKmcFields
+pub names-permitted : (I : Kind → Bytes → Type 0) → PermittedOver I SMMAN manufacturerIdFields × PermittedOver I SMID moduleIdFields × PermittedOver I KMCID centreIdFields
     × PermittedOver I KMCID laterIdFields
-unfolding FitAll Fits idManFields idSmFields idKmcFields laterIdFields isIdent isTimestamp looks numberFrom isHex
+unfolding FitAll Fits manufacturerIdFields moduleIdFields centreIdFields laterIdFields isIdent isTimestamp looks numberFrom isHex
 names-permitted I = (
   record { fit = (tt, (tt, (tt, (tt, tt)))); both = tt },
   record { fit = (tt, (tt, (tt, (tt, tt)))); both = tt },
@@ -20,24 +20,24 @@ names-permitted I = (
   record { fit = (tt, (tt, (tt, (tt, tt)))); both = tt },
 )
 
-is-man : IsIdentity SMMAN idMan
-unfolding IsIdentity idMan
-is-man = (idManFields, record { of-kind = tt; permitted = names-permitted NeverIdentity .0; built = refl })
+is-man : IsIdentity SMMAN manufacturerId
+unfolding IsIdentity manufacturerId
+is-man = (manufacturerIdFields, record { of-kind = tt; permitted = names-permitted NeverIdentity .0; built = refl })
 
-is-sm : IsIdentity SMID idSm
-unfolding IsIdentity idSm
-is-sm = (idSmFields, record { of-kind = tt; permitted = names-permitted NeverIdentity .1; built = refl })
+is-sm : IsIdentity SMID moduleId
+unfolding IsIdentity moduleId
+is-sm = (moduleIdFields, record { of-kind = tt; permitted = names-permitted NeverIdentity .1; built = refl })
 
-is-kmc : IsIdentity KMCID idKmc
-unfolding IsIdentity idKmc
-is-kmc = (idKmcFields, record { of-kind = tt; permitted = names-permitted NeverIdentity .2; built = refl })
+is-kmc : IsIdentity KMCID centreId
+unfolding IsIdentity centreId
+is-kmc = (centreIdFields, record { of-kind = tt; permitted = names-permitted NeverIdentity .2; built = refl })
 
 is-later : IsIdentity KMCID (recordOf KMCID laterIdFields)
 unfolding IsIdentity
 is-later = (laterIdFields, record { of-kind = tt; permitted = names-permitted NeverIdentity .3; built = refl })
 
 pub permitted : (k : Kind) → Permitted k (fieldsOfWorked k)
-unfolding FitAll Fits idMan recordOf withCheck fieldsOfWorked manufacturerKeyFields moduleKeyFields requestFields responseFields isIdent isTimestamp looks numberFrom isHex isPoint
+unfolding FitAll Fits manufacturerId recordOf withCheck fieldsOfWorked manufacturerKeyFields moduleKeyFields requestFields responseFields isIdent isTimestamp looks numberFrom isHex isPoint
 permitted SMMAN = names-permitted IsIdentity .0
 permitted SMID = names-permitted IsIdentity .1
 permitted KMCID = names-permitted IsIdentity .2

@@ -27,7 +27,7 @@ use Rattle.reading.proofs.Types.{kinds-at}
 use Rattle.reading.proofs.Answers.{told}
 use Rattle.fields.specs.Fields.{wantedPart, wantedNo, wantedStart, startIn, FieldSaid, Placed}
 use Rattle.fields.specs.declared.Place.{Place}
-use Rattle.fields.proofs.Wanted.{nowhere}
+use Rattle.fields.proofs.Wanted.{no-field}
 use Rattle.promises.specs.Reading.{Reading}
 
 -- a call whose outcome is accepted exactly for what is built, and whose refusals have another number than 0
@@ -83,12 +83,12 @@ no-places (refused m i) r e n = (ap (λ (a : Answer). a .kind) e, ap (λ (a : An
 
 nothing : (o : Outcome) (wanted : ℕ) (lent part : RefT Bytes) (no field : ℕ) → FieldSaid o wanted lent part no field → no ≢ 0 → NoPart lent part
 nothing o wanted lent part m i p n =
-    let h = nowhere o wanted (λ z. n (p .its-no ∙ z)) in
+    let h = no-field o wanted (λ z. n (p .its-no ∙ z)) in
     same-part (sym (h .0)) (sym (h .1)) (p .its-part)
 
 nowhere-refused : (o : Outcome) (wanted : ℕ) (s : Bytes) (r : Place) → Placed o wanted s r → r .no ≢ 0 → (r .start ≡ 0) × (r .len ≡ 0)
 nowhere-refused o wanted s r p n =
-    let h = nowhere o wanted (λ z. n (ap (λ (x : Place). x .no) (p .said) ∙ z)) in
+    let h = no-field o wanted (λ z. n (ap (λ (x : Place). x .no) (p .said) ∙ z)) in
     (ap (λ (x : Place). x .start) (p .said) ∙ sym (h .0), ap (λ (x : Place). x .len) (p .said) ∙ sym (ap length (h .1)))
 
 pub reading : Reading

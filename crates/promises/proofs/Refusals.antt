@@ -34,7 +34,7 @@ use Rattle.agreement.specs.Texts.{sharedItems, moduleItems, centreItems, textMa
 use Rattle.files.specs.Walk.{lineSaid, numberOf}
 use Rattle.list_text.specs.Listing.{listText, listRoom, writeList}
 use Rattle.subjects.specs.Subjects.{gnt, alike}
-use Rattle.newer.specs.Newer.{Decision, theFirst, theSecond, denied, bySubjects, byRecords, newer, choiceNo, subject}
+use Rattle.newer.specs.Newer.{Decision, theFirst, theSecond, noChoice, bySubjects, byRecords, newer, choiceNo, subject}
 use Rattle.promises.specs.Refusals.{ofIdentities, ofRecords, ofTexts, Refusals}
 
 -- a number more may be given
@@ -158,7 +158,7 @@ list-given file room = go (leb listRoom room)
 subjects-given : (p q : Outcome) → Gives ofIdentities p → Gives ofIdentities q → T (oneOf (13 ∷ ofRecords) (choiceNo (bySubjects p q)))
 subjects-given (accepted j fs) (accepted k gs) g h = go (alike j fs k gs) (later (gnt gs) (gnt fs))
   where
-    go : (agree after : Bool) → T (oneOf (13 ∷ ofRecords) (choiceNo (cond agree (cond after theSecond theFirst) (denied 0 notAlike 0))))
+    go : (agree after : Bool) → T (oneOf (13 ∷ ofRecords) (choiceNo (cond agree (cond after theSecond theFirst) (noChoice 0 notAlike 0))))
     go true true = tt
     go true false = tt
     go false after = tt

@@ -29,7 +29,7 @@ use Rattle.newer.specs.Newer.{theFirst, theSecond, newer}
 use Rattle.newer.specs.Keys.{Key, Agreed}
 use Rattle.newer.proofs.Choosing.{newer-keys}
 use Rattle.promises.specs.Demand3.{Called, none, more}
-use Rattle.promises.specs.Worked.{idManFields, idMan, idSmFields, idSm, idKmcFields, idKmc, manufacturerKeyFields, moduleKeyFields, centreKeyFields, centreKey, requestFields, request, responseFields, response, fieldsOfWorked, unsignedKeyFields, laterIdFields, laterKeyFields, laterKey, soundLines, soundFile, damagedFile}
+use Rattle.promises.specs.Worked.{manufacturerIdFields, manufacturerId, moduleIdFields, moduleId, centreIdFields, centreId, manufacturerKeyFields, moduleKeyFields, centreKeyFields, centreKey, requestFields, request, responseFields, response, fieldsOfWorked, unsignedKeyFields, laterIdFields, laterKeyFields, laterKey, soundLines, soundFile, damagedFile}
 use Rattle.promises.proofs.Permitted.{names-permitted, permitted, unsigned, later-permitted, built-of}
 use Rattle.promises.proofs.DamagedFile.{damaged, caught}
 use Rattle.promises.specs.Witnesses.{Witnesses}
@@ -63,19 +63,19 @@ key-of fs names p e q = record {
 }
 
 centre : Key centreKey
-unfolding centreKey centreKeyFields idKmc
-centre = key-of centreKeyFields idKmcFields (unsigned .1) refl (names-permitted IsIdentity .2)
+unfolding centreKey centreKeyFields centreId
+centre = key-of centreKeyFields centreIdFields (unsigned .1) refl (names-permitted IsIdentity .2)
 
 later-centre : Key laterKey
 unfolding laterKey laterKeyFields centreKeyFields
 later-centre = key-of laterKeyFields laterIdFields later-permitted refl (names-permitted IsIdentity .3)
 
 agreed : Agreed centreKey laterKey
-unfolding centre later-centre key-of idKmcFields laterIdFields
+unfolding centre later-centre key-of centreIdFields laterIdFields
 agreed = record { one = centre; other = later-centre; kinds = refl; manufacturers = refl; mids = refl }
 
 choices : (newer centreKey laterKey ≡ theSecond) × (newer laterKey centreKey ≡ theFirst) × (newer centreKey centreKey ≡ theFirst)
-unfolding centre later-centre key-of idKmcFields laterIdFields alike later numberFrom
+unfolding centre later-centre key-of centreIdFields laterIdFields alike later numberFrom
 choices = (newer-keys _ _ centre later-centre, newer-keys _ _ later-centre centre, newer-keys _ _ centre centre)
 
 -- ---- calls and steps

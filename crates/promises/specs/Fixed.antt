@@ -15,7 +15,7 @@ use Rattle.table.specs.Table.{rowOf, missingRow}
 use Rattle.items.specs.Items.{lvConcat}
 use Rattle.agreement.specs.Texts.{sharedItems, moduleItems, centreItems}
 use Rattle.promises.specs.Values.{Value, number, bytes, test, types, admitted}
-use Rattle.promises.specs.Worked.{idMan, idSm, idKmc, manufacturerKeyFields, manufacturerKey, moduleKey, centreKeyFields, centreKey, requestFields, request, response}
+use Rattle.promises.specs.Worked.{manufacturerId, moduleId, centreId, manufacturerKeyFields, manufacturerKey, moduleKey, centreKeyFields, centreKey, requestFields, request, response}
 
 -- ---- "Seven kinds of record": names, marks and field types, row by row
 
@@ -103,9 +103,9 @@ labels =
 
 unfoldable pub checks : List Value
 checks =
-    bytes (check idKmc) (ascii "4C31")
-    ∷ bytes (check idMan) (ascii "8B04")
-    ∷ bytes (check idSm) (ascii "8EFF")
+    bytes (check centreId) (ascii "4C31")
+    ∷ bytes (check manufacturerId) (ascii "8B04")
+    ∷ bytes (check moduleId) (ascii "8EFF")
     ∷ bytes (check centreKey) (ascii "B8F9")
     ∷ bytes (check manufacturerKey) (ascii "1F11")
     ∷ bytes (check moduleKey) (ascii "4971")
@@ -125,14 +125,14 @@ numbers =
     (1 ∷ 2 ∷ 3 ∷ 4 ∷ 5 ∷ 6 ∷ 7 ∷ 8 ∷ 9 ∷ 10 ∷ 11 ∷ 12 ∷ 13 ∷ [])
     ∷ bytes (said (readRecord (ascii "PK.ECDH.1"))) (2 ∷ 0 ∷ [])
     ∷ bytes (said (readRecord (ascii "PK.ECDH.1:x"))) (2 ∷ 0 ∷ [])
-    ∷ bytes (said (readRecord idSm)) (2 ∷ 0 ∷ [])
+    ∷ bytes (said (readRecord moduleId)) (2 ∷ 0 ∷ [])
     ∷ bytes (said (readIdentity centreKey)) (2 ∷ 0 ∷ [])
     ∷ bytes (said (readRecord (ascii "PK.ECDH.1|x"))) (3 ∷ 0 ∷ [])
     ∷ bytes (said (readRecord (ascii "PK.ECDH.1|0000"))) (4 ∷ 0 ∷ [])
     ∷ bytes (said (readRecord (recordOf ECDH []))) (5 ∷ 0 ∷ [])
     ∷ bytes (said (readRecord (recordOf ECDH (drop 1 centreKeyFields)))) (5 ∷ 0 ∷ [])
-    ∷ bytes (said (readRecord (recordOf RESP (idKmc ∷ idSm ∷ ascii "20180125T240000Z" ∷ ascii "0" ∷ [])))) (6 ∷ 3 ∷ [])
-    ∷ bytes (said (readRecord (recordOf RESP (idKmc ∷ ascii "SMID.1" ∷ ascii "20180125T240000Z" ∷ ascii "0" ∷ [])))) (7 ∷ 2 ∷ [])
+    ∷ bytes (said (readRecord (recordOf RESP (centreId ∷ moduleId ∷ ascii "20180125T240000Z" ∷ ascii "0" ∷ [])))) (6 ∷ 3 ∷ [])
+    ∷ bytes (said (readRecord (recordOf RESP (centreId ∷ ascii "SMID.1" ∷ ascii "20180125T240000Z" ∷ ascii "0" ∷ [])))) (7 ∷ 2 ∷ [])
     ∷ bytes (said (readRecord (recordOf ECDSA (take 4 manufacturerKeyFields ++ [] ∷ [])))) (8 ∷ 0 ∷ [])
     ∷ bytes (said (readRecord (recordOf ECDSA centreKeyFields))) (9 ∷ 1 ∷ [])
     ∷ []

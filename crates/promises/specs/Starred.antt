@@ -9,15 +9,15 @@ use Rattle.text.specs.Text.{ascii, isTimestamp, isHex}
 use Rattle.items.specs.Items.{lvConcat}
 use Rattle.agreement.specs.Texts.{sharedItems, moduleItems, centreItems}
 use Rattle.promises.specs.Values.{Value, number, bytes, test}
-use Rattle.promises.specs.Worked.{idSm, idKmc, centreKey, requestFields, request, response}
+use Rattle.promises.specs.Worked.{moduleId, centreId, centreKey, requestFields, request, response}
 
 unfoldable pub starred : List Value
 starred =
     number (crcOf []) 0xFFFF
     ∷ number (crcOf (0x00 ∷ [])) 0x40BF
     ∷ number (crcOf (ascii "123456789")) 0x4B37
-    ∷ number (length idSm) 60
-    ∷ number (length idKmc) 73
+    ∷ number (length moduleId) 60
+    ∷ number (length centreId) 73
     ∷ number (length centreKey) 302
     ∷ number (length request) 434
     ∷ number (length response) 219

@@ -11,7 +11,7 @@ use lib.Dec.{ltb, ltb→lt, lit<}
 use Rattle.text.specs.Text.{Ident}
 use Rattle.text.proofs.Tests.{less-or, at-every, allBelow, below}
 use Rattle.format.specs.Kinds.{Field, Text, name, fieldsOf, allKinds}
-use Rattle.table.specs.Table.{rowCount, ofRow, nameOf, fieldsAt, countOf, fieldType, TypeOf}
+use Rattle.table.specs.Table.{rowCount, ofRow, fieldsAt, countOf, fieldType, TypeOf}
 use Rattle.table.proofs.Rows.{in-row, past-rows}
 use Rattle.table.proofs.Codes.{codeCount, codeOf}
 use Rattle.table.proofs.Pieces.{places, Piece, piece, piece-length, piece-entry}
@@ -22,7 +22,7 @@ use Rattle.table.proofs.Pieces.{places, Piece, piece, piece-length, pie
 abbrev pub starts : List ℕ
 starts = places 0 (map name allKinds)
 
-pub name-piece : (row : ℕ) → row < rowCount → Piece (flatten (map name allKinds)) (nameOf row) (getD starts row 0) (getD starts (row + 1) 0)
+pub name-piece : (row : ℕ) → row < rowCount → Piece (flatten (map name allKinds)) (ofRow name [] row) (getD starts row 0) (getD starts (row + 1) 0)
 unfolding ofRow
 name-piece row h = rw add-one (piece (map name allKinds) row h)
 

@@ -41,9 +41,6 @@ ofRow f z row = getD (map f allKinds) row z
 abbrev pub kindOf : ℕ → Option Kind
 kindOf row = ofRow some none row
 
-abbrev pub nameOf : ℕ → Bytes
-nameOf row = ofRow name [] row
-
 abbrev pub markOf : ℕ → ℕ
 markOf row = ofRow mark 0 row
 

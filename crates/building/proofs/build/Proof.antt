@@ -9,14 +9,14 @@ use Rattle.building.proofs.build.Statement.{statement}
 use Rattle.building.proofs.build.Tie as tie
 
 -- numbers 2 and 5
-start : (c : tie.After-form-no) → Begun (now (c .before .before .before .before .before .before .args .kind)) (now (c .before .before .before .before .before .before .args .bytes)) (now (c .before .before .before .before .before .before .args .lens)) (c .before .kind-named .result) (c .form-no .result)
-start c = record { row-is = c .before .kind-named .ensures; no-is = c .form-no .ensures }
+start : (c : tie.After-count-no) → Begun (now (c .before .before .before .before .before .before .args .kind)) (now (c .before .before .before .before .before .before .args .bytes)) (now (c .before .before .before .before .before .before .args .lens)) (c .before .kind-named .result) (c .count-no .result)
+start c = record { row-is = c .before .kind-named .ensures; no-is = c .count-no .ensures }
 
 kind-named-requires : tie.Need-kind-named-requires
 kind-named-requires c κs = search needs
 
-form-no-requires : tie.Need-form-no-requires
-form-no-requires c κs = search needs
+count-no-requires : tie.Need-count-no-requires
+count-no-requires c κs = search needs
 
 refuse-requires : tie.Need-refuse-requires
 refuse-requires c κs = search needs
@@ -74,7 +74,7 @@ build-spec =
     tie.close
     (tie.spec
     kind-named-requires
-    form-no-requires
+    count-no-requires
     refuse-requires
     returns
     places-by-requires

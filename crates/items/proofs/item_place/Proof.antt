@@ -1,14 +1,14 @@
--- `items::item_place` meets its contract. The loop's invariant: i of n items are passed (`Walked`).
+-- `items::item_place` meets its contract. The loop's invariant: i of n items are passed (`Passed`).
 -- Assumes nothing.
 use Prim.Native.Nat.{_-_}
 use native.Mathlib.Omega.{arith}
-use Rattle.items.proofs.Walk.{Walked, placed-none, no-text, number-zero, walked-none, no-length, no-bytes, walked-more, walked-there, bytes-behind, too-few, found}
+use Rattle.items.proofs.Walk.{Passed, placed-none, no-text, number-zero, walked-none, no-length, no-bytes, walked-more, walked-there, bytes-behind, too-few, found}
 use borrow.Author.Needs.{needs}
 use Rattle.items.proofs.item_place.Statement.{statement}
 use Rattle.items.proofs.item_place.Tie as tie
 
 abbrev Inv-loop : tie.InvT-loop
-Inv-loop text wanted n i₀ at₀ found₀ i at found = Walked text wanted n i at found
+Inv-loop text wanted n i₀ at₀ found₀ i at found = Passed text wanted n i at found
 
 abbrev μ-loop : tie.MeasureT-loop
 μ-loop text wanted n i₀ at₀ found₀ i at found = n - i
