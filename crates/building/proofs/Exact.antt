@@ -14,7 +14,7 @@ use Rattle.text.proofs.Tests.{T-true}
 use Rattle.numbers.specs.Numbers.{wrongCount, shortOutput}
 use Rattle.format.specs.Kinds.{Kind, name, fieldsOf, allKinds}
 use Rattle.format.specs.Build.{recordOf, IsIdentity, Permitted}
-use Rattle.format.specs.Read.{Outcome, accepted, answer, readIdentity}
+use Rattle.format.specs.Read.{Outcome, accepted, answer, provided, readIdentity}
 use Rattle.format.proofs.Outcomes.{provided-law, ofKind-law, Honest, honest-zero}
 use Rattle.format.proofs.Fields.{fit-length, judged-law}
 use Rattle.format.proofs.Exactly.{ask-exact, permitted-judged}
@@ -47,23 +47,27 @@ build-says t bytes ns room =
       room-so = leb→le (length (recordOf k fs)) room fits;
     }))))
 
-as-accepts : (k : Kind) (fs : List Bytes) (room : ℕ) → Permitted k fs → length (recordOf k fs) ≤ room
-    → buildAs (run fs) (lengths fs) room k ≡ accepted k fs
+as-permitted : (k : Kind) (fs : List Bytes) (room : ℕ) → Permitted k fs
+    → buildAs (run fs) (lengths fs) room k ≡ provided (leb (length (recordOf k fs)) room) shortOutput (accepted k fs)
 unfolding buildAs
-as-accepts k fs room p h =
+as-permitted k fs room p =
     let count = lengths-count fs ∙ fit-length IsIdentity (fieldsOf k) fs (p .fit) in
     let counts = yes-and (eqb (length (lengths fs)) (length (fieldsOf k))) (eqb (sum (lengths fs)) (length (run fs))) (yes-eqb count) (yes-eqb (sum-lengths fs)) in
     rw (
       T-true (eqb (length (lengths fs)) (length (fieldsOf k)) && eqb (sum (lengths fs)) (length (run fs))) counts,
       pieces-back fs,
       permitted-judged k fs _ p,
-      T-true (leb (length (recordOf k fs)) room) (le→leb (length (recordOf k fs)) room h),
     )
+
+-- of permitted fields only the room is still asked
+pub build-permitted : (k : Kind) (fs : List Bytes) (room : ℕ) → Permitted k fs
+    → buildOf (name k) (run fs) (lengths fs) room ≡ provided (leb (length (recordOf k fs)) room) shortOutput (accepted k fs)
+unfolding buildOf
+build-permitted k fs room p = rw (named-known k) (as-permitted k fs room p)
 
 build-accepts : (k : Kind) (fs : List Bytes) (room : ℕ) → Permitted k fs → length (recordOf k fs) ≤ room
     → buildOf (name k) (run fs) (lengths fs) room ≡ accepted k fs
-unfolding buildOf
-build-accepts k fs room p h = rw (named-known k) (as-accepts k fs room p h)
+build-accepts k fs room p h = build-permitted k fs room p ∙ rw (T-true (leb (length (recordOf k fs)) room) (le→leb (length (recordOf k fs)) room h))
 
 pub build-exact : (t bytes : Bytes) (ns : List ℕ) (room : ℕ) (k : Kind) (fs : List Bytes)
     → (buildOf t bytes ns room ≡ accepted k fs) ↔ Builds t bytes ns room k fs

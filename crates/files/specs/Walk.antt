@@ -22,10 +22,14 @@ abbrev pub lineSaid : Said → Line
 lineSaid (finished place) = Finished place
 lineSaid (read l) = Read (answerOf (l .said) .no) (answerOf (l .said) .field) (answerOf (l .said) .kind) (l .start) (l .size) (l .next)
 
--- document 01's number and values of each case: a finished file has no number, that place as start and as next place, and length 0
+-- document 01's number and values of each case: a finished file has number and field number 0, that place as start and as next place, and length 0
 abbrev pub numberOf : Line → ℕ
 numberOf (Finished place) = 0
 numberOf (Read n f k start len next) = n
+
+abbrev pub fieldOf : Line → ℕ
+fieldOf (Finished place) = 0
+fieldOf (Read n f k start len next) = f
 
 abbrev pub startOf : Line → ℕ
 startOf (Finished place) = place

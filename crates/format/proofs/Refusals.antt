@@ -1,24 +1,26 @@
 -- Which numbers a call can give: those of the form, those that the types of a kind's fields can be refused with, and 8 where the kind has
--- Issuer and Signature.
+-- Issuer and Signature. And that a field is named exactly with 6, 7 and 9.
 -- Assumes nothing.
 use Prim.Native.Nat.{ℕ, zero, suc}
-use mathlib.Core.Path.{_≡_}
+use mathlib.Core.Path.{_≡_, refl}
 use mathlib.Core.Logic.{⊎-elim}
-use mathlib.Core.Bool.{Bool, true, false, cond, not, _&&_, _||_}
+use mathlib.Core.Bool.{Bool, true, false, cond, not, _&&_, _||_, Bool·beq}
 use mathlib.Core.List.{List, [], _∷_, map}
-use lib.Dec.{T, leb, eqb}
+use native.Mathlib.Omega.{arith}
+use borrow.Author.Tests.{lt-ltb}
+use lib.Dec.{T, leb, ltb, eqb, eqb→eq}
 use lib.ListN.{length}
 use mir.Facts.{and-yes, or-yes}
 use Rattle.crc16.specs.Crc.{crcOf}
-use Rattle.text.specs.Text.{Bytes, allOf, oneOf, same, isHex, isOf}
+use Rattle.text.specs.Text.{Bytes, allOf, oneOf, every, same, isHex, isOf}
 use Rattle.text.specs.Base16.{checkText}
-use Rattle.text.proofs.Tests.{T-true, or-left}
+use Rattle.text.proofs.Tests.{T-true, or-left, or-right, one-of}
 use Rattle.numbers.specs.Numbers.{tooLong, unknownKind, missingCheck, wrongCheck, wrongCount, wrongText, wrongIdentity, unpaired, wrongKind}
 use Rattle.format.specs.Kinds.{Kind, Field, Text, Identity, OrEmpty, mark, fieldsOf, pubkeyKinds, among}
 use Rattle.format.specs.Build.{empty, paired}
-use Rattle.format.specs.Read.{Outcome, accepted, refused, answer, provided, passing, title, markAfter, kindIn, body, check, endsIn, checkNo, fieldsIn, identityAnswer, fieldAnswer, each, wholeAnswer, judged, readAs, readOver}
+use Rattle.format.specs.Read.{Outcome, accepted, refused, answer, place, provided, passing, title, markAfter, kindIn, body, check, endsIn, checkNo, fieldsIn, identityAnswer, fieldAnswer, each, wholeAnswer, judged, readAs, readOver}
 use Rattle.format.proofs.Table.{All, all-among, kindIn-some}
-use Rattle.format.proofs.Outcomes.{ofKind-law}
+use Rattle.format.proofs.Outcomes.{provided-law, ofKind-law}
 
 abbrev pub Gives : List ℕ → Outcome → Type 0
 Gives ns o = T (oneOf ns (answer o))
@@ -34,7 +36,7 @@ abbrev pub covers : List ℕ → Kind → Bool
 covers ns k = allOf (map (covered ns) (fieldsOf k)) && (not (among k pubkeyKinds) || oneOf ns unpaired)
 
 module _ (ns : List ℕ) (z : T (oneOf ns 0)) where
-  either-given : (b : Bool) (n m : ℕ) → T (oneOf ns n) → T (oneOf ns m) → T (oneOf ns (cond b n m))
+  pub either-given : (b : Bool) (n m : ℕ) → T (oneOf ns n) → T (oneOf ns m) → T (oneOf ns (cond b n m))
   either-given true n m h k = h
   either-given false n m h k = k
 
@@ -45,6 +47,12 @@ module _ (ns : List ℕ) (z : T (oneOf ns 0)) where
   passing-given : (n i : ℕ) (o : Outcome) → T (oneOf ns n) → Gives ns o → Gives ns (passing n i o)
   passing-given zero i o h g = g
   passing-given (suc n) i o h g = h
+
+  pub check-given : (m : ℕ) (s : Bytes) → T (oneOf ns missingCheck) → T (oneOf ns wrongCheck) → T (oneOf ns (checkNo m s))
+  unfolding checkNo
+  check-given m s missing wrong =
+      either-given (isHex 4 (check s) && endsIn m (body s)) _ missingCheck
+      (either-given (same (check s) (checkText (crcOf (body s)))) 0 wrongCheck z wrong) missing
 
   -- ---- the fields
 
@@ -90,14 +98,65 @@ module _ (ns : List ℕ) (z : T (oneOf ns 0)) where
     Form = T (oneOf ns tooLong) × T (oneOf ns unknownKind) × T (oneOf ns missingCheck) × T (oneOf ns wrongCheck) × T (oneOf ns wrongCount)
 
     pub over-given : Form → (ks : List Kind) → All (λ k. T (covers ns k)) ks → (s : Bytes) → Gives ns (readOver ask ks s)
-    unfolding readOver readAs checkNo
+    unfolding readOver readAs
     over-given (long, kind, missing, wrong, count) ks h s =
         provided-given (leb (length s) 1024) tooLong _ long
         (ofKind-law (Gives ns) (kindIn ks (title s) (markAfter s)) (readAs ask s) kind
         (λ k e.
         let fs : List Bytes = fieldsIn k s in
-        passing-given (checkNo (mark k) s) 0 _
-        (either-given (isHex 4 (check s) && endsIn (mark k) (body s)) _ missingCheck
-        (either-given (same (check s) (checkText (crcOf (body s)))) 0 wrongCheck z wrong) missing)
+        passing-given (checkNo (mark k) s) 0 _ (check-given (mark k) s missing wrong)
         (provided-given (eqb (length fs) (length (fieldsOf k))) wrongCount _ count
         (judged-given k fs (accepted k fs) (all-among (λ k. T (covers ns k)) ks h k (kindIn-some ks (title s) (markAfter s) k e .0)) z))))
+
+-- ---- a field is named exactly with 6, 7 and 9
+
+abbrev pub naming : List ℕ
+naming = wrongText ∷ wrongIdentity ∷ wrongKind ∷ []
+
+abbrev pub Names : Outcome → Type 0
+Names o = oneOf naming (answer o) ≡ ltb 0 (place o)
+
+beq-eq : (a b : Bool) → T (Bool·beq a b) → a ≡ b
+beq-eq true true h = refl
+beq-eq true false h = absurd h
+beq-eq false true h = absurd h
+beq-eq false false h = refl
+
+-- a number of ns is 0, or it names a field where i does
+passing-names : (ns : List ℕ) (n i : ℕ) (o : Outcome) → T (oneOf ns n) → T (every (λ m. eqb m 0 || Bool·beq (oneOf naming m) (ltb 0 i)) ns) → Names o → Names (passing n i o)
+passing-names ns zero i o h e s = s
+passing-names ns (suc n) i o h e s =
+    ⊎-elim (λ z. absurd (omega (arith, eqb→eq (suc n) 0 z))) (beq-eq (oneOf naming (suc n)) (ltb 0 i))
+    (or-yes (eqb (suc n) 0) _ (one-of (λ m. eqb m 0 || Bool·beq (oneOf naming m) (ltb 0 i)) ns e (suc n) h))
+
+abbrev ofFields : List ℕ
+ofFields = 0 ∷ 6 ∷ 7 ∷ 9 ∷ []
+
+-- what any field can be answered
+any-covered : (t : Field) → T (covered ofFields t)
+any-covered (Text t) = tt
+any-covered (Identity ks) = tt
+any-covered (OrEmpty t) = any-covered t
+
+module _ (ask : Bytes → Outcome) where
+  each-names : (i : ℕ) (ts : List Field) (fs : List Bytes) (o : Outcome) → Names o → Names (each ask (suc i) ts fs o)
+  each-names i [] fs o s = s
+  each-names i (t ∷ ts) [] o s = s
+  each-names i (t ∷ ts) (f ∷ fs) o s =
+      passing-names ofFields (fieldAnswer ask t f) (suc i) (each ask (suc (suc i)) ts fs o) (field-given ofFields tt ask t f (any-covered t)) (rw (lt-ltb 0 (suc i) (omega arith)) tt) (each-names (suc i) ts fs o s)
+
+  pub judged-names : (k : Kind) (fs : List Bytes) (o : Outcome) → Names o → Names (judged ask k fs o)
+  unfolding judged
+  judged-names k fs o s =
+      each-names 0 (fieldsOf k) fs (passing (wholeAnswer k fs) 0 o)
+      (passing-names (0 ∷ 8 ∷ []) (wholeAnswer k fs) 0 o (whole-given (0 ∷ 8 ∷ []) tt ask k fs (or-right (not (among k pubkeyKinds)) _ tt)) tt s)
+
+  pub over-names : (ks : List Kind) (s : Bytes) → Names (readOver ask ks s)
+  unfolding readOver readAs
+  over-names ks s =
+      provided-law Names (leb (length s) 1024) tooLong _ refl
+      (λ _. ofKind-law Names (kindIn ks (title s) (markAfter s)) (readAs ask s) refl
+      (λ k e.
+      let fs : List Bytes = fieldsIn k s in
+      passing-names (0 ∷ 3 ∷ 4 ∷ []) (checkNo (mark k) s) 0 _ (check-given (0 ∷ 3 ∷ 4 ∷ []) tt (mark k) s tt tt) tt
+      (provided-law Names (eqb (length fs) (length (fieldsOf k))) wrongCount _ refl (λ _. judged-names k fs (accepted k fs) refl))))

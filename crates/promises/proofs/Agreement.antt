@@ -7,6 +7,7 @@ use mathlib.Core.Option.{Option, none, some}
 use mathlib.Core.List.{List, [], _∷_}
 use native.Mathlib.Omega.{arith}
 use lib.ListN.{length, take}
+use borrow.Author.Tests.{lt-leb}
 use lib.Dec.{T, leb, leb→le, le→leb}
 use Rattle.crc16.specs.Damage.{AreBytes}
 use denote.Ref.{RefT, now}
@@ -79,6 +80,14 @@ text-said items request out out′ r w =
       written = λ fs b h.
           let e = yes fs b h in
           (ap (λ (x : Written). x .len) (w .said ∙ ap says e), w .left ∙ ap (λ (m : Made). leaves m out) e);
+      own = λ n i h.
+          let e : r ≡ record { no = n; field = i; len = 0 } = w .said ∙ ap (λ (x : Outcome). says (textMade items (length out) x)) h in
+          (ap (λ (x : Written). x .no) e, ap (λ (x : Written). x .field) e);
+      short = λ fs b h.
+          let f : textMade items (length out) o ≡ denied shortOutput 0 =
+          ap (textMade items (length out)) (read-exact (REQ ∷ []) request REQ fs .1 b) ∙ rw (lt-leb (length (lvConcat (items fs))) (length out) h) in
+          let e : r ≡ record { no = shortOutput; field = 0; len = 0 } = w .said ∙ ap says f in
+          (ap (λ (x : Written). x .no) e, ap (λ (x : Written). x .field) e);
       untouched = λ n.
           let e = made-kept items (length out) o out (λ z. n (q ∙ z)) in
           (ap (λ (x : Written). x .len) (w .said) ∙ e .0, w .left ∙ e .1);
@@ -150,9 +159,12 @@ agreement = record {
   centre-text = λ κs a r s w. text-said _ _ _ _ r w;
   item = λ κs a r s h. item-said _ _ _ _ h;
   item-place = λ κs a r s h. item-place-said _ _ r h;
+  shared-items = λ fs. refl;
+  module-items = λ fs. refl;
+  centre-items = λ fs. refl;
+  very-bytes = λ fs. (refl, refl, refl, refl, refl, refl);
   one-to-one = concat-inj;
   read-back = items-back;
   taken = items-concat;
   decoded = λ fs p. qe-length p;
-  very-bytes = λ fs. (refl, refl, refl, refl, refl, refl, refl, refl);
 }

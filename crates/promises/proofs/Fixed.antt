@@ -7,9 +7,15 @@ use Rattle.text.specs.Text.{looks, numberFrom, isIdent, isTimestamp, isHex, isP
 use Rattle.text.specs.Base16.{hexDigit, checkText}
 use Rattle.format.specs.Build.{withCheck, recordOf}
 use Rattle.format.specs.Read.{checkNo, identityAnswer, fieldAnswer, wholeAnswer, judged, readAs, readOver, readIdentity, readOf, readRecord}
+use Rattle.format.specs.Files.{lineOf, lineAt}
+use Rattle.building.specs.Building.{buildAs, buildOf, build}
+use Rattle.agreement.specs.Texts.{sharedInfo, moduleText, centreText}
+use Rattle.fields.specs.Fields.{wantedNo}
+use Rattle.subjects.specs.Subjects.{alike}
+use Rattle.newer.specs.Newer.{newer}
 use Rattle.promises.specs.Values.{Value, AllCome, admittedFrom}
 use Rattle.promises.specs.Worked.{manufacturerIdFields, manufacturerId, moduleIdFields, moduleId, centreIdFields, centreId, manufacturerKeyFields, manufacturerKey, moduleKeyFields, moduleKey, centreKeyFields, centreKey, requestFields, request, responseFields, response}
-use Rattle.promises.specs.Fixed.{rows, alphabets, limits, labels, checks, numbers, fixed}
+use Rattle.promises.specs.Fixed.{rows, alphabets, limits, labels, checks, numbers, building, texts, others, fixed}
 
 -- two sets of values are one
 both : (vs us : List Value) → AllCome vs → AllCome us → AllCome (vs ++ us)
@@ -22,7 +28,7 @@ all-rows = (refl, (refl, (refl, (refl, (refl, (refl, (refl, (refl, (refl, (refl,
 
 all-alphabets : AllCome alphabets
 unfolding alphabets admittedFrom isIdent isTimestamp looks numberFrom isHex
-all-alphabets = (refl, (refl, (refl, (refl, (refl, (refl, (refl, (refl, (refl, (refl, (refl, (refl, (refl, (refl, tt))))))))))))))
+all-alphabets = (refl, (refl, (refl, (refl, (refl, (refl, (refl, (refl, (refl, (refl, (refl, (refl, (refl, (refl, (refl, (refl, (refl, tt)))))))))))))))))
 
 all-limits : AllCome limits
 unfolding limits isIdent isTimestamp looks numberFrom isHex isPoint readRecord readOf readIdentity readOver
@@ -38,12 +44,27 @@ all-checks = (refl, (refl, (refl, (refl, (refl, (refl, (refl, (refl, tt))))))))
 
 all-numbers : AllCome numbers
 unfolding numbers manufacturerIdFields manufacturerId moduleIdFields moduleId centreIdFields centreId manufacturerKeyFields centreKeyFields centreKey recordOf withCheck checkText hexDigit crcOf addAll add bitSteps bitStep isIdent isTimestamp looks numberFrom isHex isPoint checkNo identityAnswer fieldAnswer wholeAnswer judged readAs readOver readIdentity readOf readRecord
-all-numbers = (refl, (refl, (refl, (refl, (refl, (refl, (refl, (refl, (refl, (refl, (refl, (refl, (refl, tt)))))))))))))
+all-numbers = (refl, (refl, (refl, (refl, (refl, (refl, (refl, (refl, (refl, (refl, (refl, (refl, (refl, (refl, tt))))))))))))))
+
+all-building : AllCome building
+unfolding building build buildOf buildAs manufacturerIdFields manufacturerId moduleIdFields moduleId centreIdFields centreId manufacturerKeyFields moduleKeyFields moduleKey centreKeyFields centreKey requestFields request responseFields response recordOf withCheck checkText hexDigit crcOf addAll add bitSteps bitStep isIdent isTimestamp looks numberFrom isHex isPoint checkNo identityAnswer fieldAnswer wholeAnswer judged readAs readOver readIdentity readOf readRecord
+all-building = (refl, (refl, (refl, (refl, (refl, (refl, (refl, (refl, tt))))))))
+
+all-texts : AllCome texts
+unfolding texts sharedInfo moduleText centreText manufacturerIdFields manufacturerId moduleIdFields moduleId centreIdFields centreId manufacturerKeyFields moduleKeyFields moduleKey centreKeyFields centreKey requestFields request responseFields response recordOf withCheck checkText hexDigit crcOf addAll add bitSteps bitStep isIdent isTimestamp looks numberFrom isHex isPoint checkNo identityAnswer fieldAnswer wholeAnswer judged readAs readOver readIdentity readOf readRecord
+all-texts = (refl, (refl, (refl, (refl, tt))))
+
+all-others : AllCome others
+unfolding others wantedNo lineAt lineOf newer alike manufacturerIdFields manufacturerId moduleIdFields moduleId centreIdFields centreId manufacturerKeyFields moduleKeyFields moduleKey centreKeyFields centreKey requestFields request responseFields response recordOf withCheck checkText hexDigit crcOf addAll add bitSteps bitStep isIdent isTimestamp looks numberFrom isHex isPoint checkNo identityAnswer fieldAnswer wholeAnswer judged readAs readOver readIdentity readOf readRecord
+all-others = (refl, (refl, (refl, (refl, (refl, (refl, (refl, (refl, tt))))))))
 
 pub all-fixed : AllCome fixed
 unfolding fixed
 all-fixed =
-    both (rows ++ alphabets ++ limits ++ labels ++ checks) numbers
+    both (rows ++ alphabets ++ limits ++ labels ++ checks ++ numbers ++ building ++ texts) others
+    (both (rows ++ alphabets ++ limits ++ labels ++ checks ++ numbers ++ building) texts
+    (both (rows ++ alphabets ++ limits ++ labels ++ checks ++ numbers) building
+    (both (rows ++ alphabets ++ limits ++ labels ++ checks) numbers
     (both (rows ++ alphabets ++ limits ++ labels) checks
     (both (rows ++ alphabets ++ limits) labels
-    (both (rows ++ alphabets) limits (both rows alphabets all-rows all-alphabets) all-limits) all-labels) all-checks) all-numbers
+    (both (rows ++ alphabets) limits (both rows alphabets all-rows all-alphabets) all-limits) all-labels) all-checks) all-numbers) all-building) all-texts) all-others

@@ -17,3 +17,4 @@ pub mod DamagedFile
 pub mod Witnesses
 pub mod Refusals
 pub mod Rebuilding
+pub mod FieldNumbers

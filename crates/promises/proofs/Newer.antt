@@ -21,23 +21,6 @@ use Rattle.newer.proofs.Choosing.{newer-keys}
 use Rattle.newer.proofs.Chosen.{agreed-exactly, decided, decided-equal}
 use Rattle.promises.specs.Newer.{NewerSaid, ChoiceSaid, Newer}
 
--- ---- the record that is handed back
-
-refused-empty : (a b part : RefT Bytes) (d : Decision) → choiceNo d ≢ 0 → IsChosen d a b part → NoPart a part
-refused-empty a b part theFirst h p = absurd (h refl)
-refused-empty a b part theSecond h p = absurd (h refl)
-refused-empty a b part (noChoice w m j) h p = p
-
-newer-said : (a b part : RefT Bytes) (n i : ℕ) → Chosen (newer.newer (now a) (now b)) a b part n i → NewerSaid a b part n
-newer-said a b part n i c =
-    let exact = agreed-exactly (now a) (now b) in
-    record {
-      exactly = (λ z. exact .0 (sym (c .number-so) ∙ z), λ g. c .number-so ∙ exact .1 g);
-      not-earlier = λ z p q. ⊎-elim (λ (e, l). inl (rw e at (c .part-so), l)) (λ (e, l). inr (rw e at (c .part-so), l)) (decided (now a) (now b) (sym (c .number-so) ∙ z) p q);
-      first-when-equal = λ z p q e. rw (decided-equal (now a) (now b) (sym (c .number-so) ∙ z) p q e) at (c .part-so);
-      nothing = λ n. refused-empty a b part (newer.newer (now a) (now b)) (λ z. n (c .number-so ∙ z)) (c .part-so);
-    }
-
 -- ---- which of the two
 
 unlike : (agree after : Bool) → choiceNo (cond agree (cond after theSecond theFirst) (noChoice 0 notAlike 0)) ≢ 0
@@ -59,6 +42,29 @@ choice-said a b r e =
       first-refused = λ n i h. e ∙ rw h;
       second-refused = λ p n i h. e ∙ rw (p .is, h);
       not-alike = λ p q n. e ∙ ap choiceSaid (newer-keys a b p q) ∙ unlike (alike (p .who) (p .names) (q .who) (q .names)) (later (gntOf q) (gntOf p)) (λ z. n (number ∙ ap choiceNo (newer-keys a b p q) ∙ z));
+    }
+
+-- ---- the record that is handed back
+
+refused-empty : (a b part : RefT Bytes) (d : Decision) → choiceNo d ≢ 0 → IsChosen d a b part → NoPart a part
+refused-empty a b part theFirst h p = absurd (h refl)
+refused-empty a b part theSecond h p = absurd (h refl)
+refused-empty a b part (noChoice w m j) h p = p
+
+newer-said : (a b part : RefT Bytes) (n i : ℕ) → Chosen (newer.newer (now a) (now b)) a b part n i → NewerSaid a b part n i
+newer-said a b part n i c =
+    let r : Choice = choiceSaid (newer.newer (now a) (now b)) in
+    let said = choice-said (now a) (now b) r refl in
+    let both : (m j w : ℕ) → r ≡ record { no = m; field = j; which = w } → (n ≡ m) × (i ≡ j) =
+    λ m j w e. (c .number-so ∙ ap (λ (x : Choice). x .no) e, c .field-so ∙ ap (λ (x : Choice). x .field) e) in
+    record {
+      exactly = (λ z. said .exactly .0 (sym (c .number-so) ∙ z), λ g. c .number-so ∙ said .exactly .1 g);
+      not-earlier = λ z p q. ⊎-elim (λ (e, l). inl (rw e at (c .part-so), l)) (λ (e, l). inr (rw e at (c .part-so), l)) (decided (now a) (now b) (sym (c .number-so) ∙ z) p q);
+      first-when-equal = λ z p q e. rw (decided-equal (now a) (now b) (sym (c .number-so) ∙ z) p q e) at (c .part-so);
+      first-refused = λ m j h. both m j 1 (said .first-refused m j h);
+      second-refused = λ p m j h. both m j 2 (said .second-refused p m j h);
+      not-alike = λ p q h. both notAlike 0 0 (said .not-alike p q (λ z. h (c .number-so ∙ z)));
+      nothing = λ h. refused-empty a b part (newer.newer (now a) (now b)) (λ z. h (c .number-so ∙ z)) (c .part-so);
     }
 
 pub newest : Newer

@@ -7,20 +7,23 @@ use mathlib.Core.Bool.{cond}
 use mathlib.Core.List.{List, [], _∷_}
 use native.Mathlib.Numerals.{add-one}
 use lib.Dec.{T}
-use lib.ListN.{length, take, drop, getD, replicate}
+use native.Mathlib.Omega.{arith}
+use lib.ListN.{length, take, drop, getD, replicate, List·getD-eq-default}
 use denote.Ref.{RefT}
 use Rattle.text.specs.Text.{Bytes, between, Ident}
 use Rattle.text.specs.Part.{Part, NoPart}
 use Rattle.text.proofs.Tests.{T-true}
 use Rattle.text.proofs.Part.{same-part}
 use Rattle.numbers.specs.Numbers.{missingItem}
-use Rattle.format.specs.Kinds.{Kind, Text, fieldsOf, identityKinds, recordKinds}
+use Rattle.format.specs.Kinds.{Kind, Text, name, fieldsOf, identityKinds, recordKinds}
 use Rattle.format.specs.Build.{Built}
-use Rattle.format.specs.Read.{Outcome, accepted, refused, answer, readIdentity, readRecord}
+use Rattle.format.specs.Read.{Outcome, accepted, refused, answer, place, readIdentity, readRecord}
 use Rattle.format.proofs.Outcomes.{Honest, honest-zero}
 use Rattle.format.proofs.Exactly.{identity-says, identity-exact, record-says, record-exact, its-parts, its-few, built-unique, built-length, identity-length, unsigned-length, signed-length}
 use Rattle.table.specs.Table.{rowOf, missingRow}
-use Rattle.places.proofs.Stands.{record-start, record-place}
+use Rattle.places.specs.Places.{startsFrom, startsOf}
+use Rattle.places.proofs.Seven.{seven-at}
+use Rattle.places.proofs.Stands.{starts-count, record-start, record-place}
 use Rattle.reading.specs.declared.Answer.{Answer}
 use Rattle.reading.specs.Reading.{kindWithin, answerOf}
 use Rattle.reading.proofs.Types.{kinds-at}
@@ -62,6 +65,13 @@ module _ (o : Outcome) (B : Kind → List Bytes → Type 0) (exact : (k : Kind) 
         ap (λ (x : Place). x .no) (q .said),
       )
 
+-- no start is told past the last field
+past-last : (k : Kind) (fs : List Bytes) → length fs ≤ 7 → (j : ℕ) → length fs ≤ j → getD (startsOf k fs) j 0 ≡ 0
+past-last k fs few j h =
+    let starts : List ℕ = startsFrom (length (name k) + 1) fs in
+    let count = starts-count (length (name k) + 1) fs in
+    seven-at 0 starts (omega (arith, count)) j ∙ List·getD-eq-default starts 0 (omega (arith, count))
+
 -- the places of all fields of what is built
 module _ (ks : List Kind) (s : Bytes) (o : Outcome) (exact : (k : Kind) (fs : List Bytes) → (o ≡ accepted k fs) ↔ Built ks s k fs) (r : Answer) (e : r ≡ answerOf o) (k : Kind) (fs : List Bytes) (b : Built ks s k fs) where
   said : r ≡ answerOf (accepted k fs)
@@ -69,12 +79,13 @@ module _ (ks : List Kind) (s : Bytes) (o : Outcome) (exact : (k : Kind) (fs : Li
 
   says-places : (j : ℕ)
       → (j < length fs → getD (r .starts) j 0 ≡ startIn k fs (j + 1))
+      × (length fs ≤ j → getD (r .starts) j 0 ≡ 0)
       × (getD (r .starts) j 0 + getD (r .lens) j 0 ≤ length s)
       × (take (getD (r .lens) j 0) (drop (getD (r .starts) j 0) s) ≡ getD fs j [])
       × (getD (r .kinds) j missingRow ≡ kindWithin (getD (fieldsOf k) j (Text Ident)) (getD fs j []))
   says-places j =
       let place = record-place k s fs (its-few b) (its-parts b) j in
-      rw said ((λ h. rw (add-one j) (record-start k s fs (its-few b) (its-parts b) j h)), place .0, place .1, kinds-at k fs j)
+      rw said ((λ h. rw (add-one j) (record-start k s fs (its-few b) (its-parts b) j h)), (λ h. past-last k fs (its-few b) j h), place .0, place .1, kinds-at k fs j)
 
 no-places : (o : Outcome) (r : Answer) → r ≡ answerOf o → r .no ≢ 0
     → (r .kind ≡ missingRow) × (r .starts ≡ replicate 7 0) × (r .lens ≡ replicate 7 0) × (r .kinds ≡ replicate 7 missingRow)
@@ -91,6 +102,11 @@ nowhere-refused o wanted s r p n =
     let h = no-field o wanted (λ z. n (ap (λ (x : Place). x .no) (p .said) ∙ z)) in
     (ap (λ (x : Place). x .start) (p .said) ∙ sym (h .0), ap (λ (x : Place). x .len) (p .said) ∙ sym (ap length (h .1)))
 
+own-first : (o : Outcome) (wanted no field : ℕ) → no ≡ wantedNo o wanted → field ≡ place o
+    → ((n i : ℕ) → o ≡ refused n i → (no ≡ n) × (field ≡ i)) × ((k : Kind) (fs : List Bytes) → o ≡ accepted k fs → field ≡ 0)
+unfolding wantedNo
+own-first o wanted m j e f = (λ n i h. (e ∙ ap (λ (x : Outcome). wantedNo x wanted) h, f ∙ ap place h), λ k fs h. f ∙ ap place h)
+
 pub reading : Reading
 reading = record {
   identity-exactly = λ κs a r s p. exactly _ (Built identityKinds _) (identity-exact _) (identity-says _) r p;
@@ -105,6 +121,10 @@ reading = record {
   record-fields = λ κs a r s p. hands-back _ (Built recordKinds _) (record-exact _) (record-says _) _ _ _ _ _ p;
   identity-nothing = λ κs a r s p n. nothing _ _ _ _ _ _ p n;
   record-nothing = λ κs a r s p n. nothing _ _ _ _ _ _ p n;
+  identity-field-own = λ κs a r s p. own-first _ _ _ _ (p .its-no) (p .its-field);
+  record-field-own = λ κs a r s p. own-first _ _ _ _ (p .its-no) (p .its-field);
+  identity-place-own = λ κs a r s p. own-first _ _ _ _ (ap (λ (x : Place). x .no) (p .said)) (ap (λ (x : Place). x .field) (p .said));
+  record-place-own = λ κs a r s p. own-first _ _ _ _ (ap (λ (x : Place). x .no) (p .said)) (ap (λ (x : Place). x .field) (p .said));
   identity-points = λ κs a r s p. points-to _ (Built identityKinds _) (identity-exact _) (identity-says _) _ _ r p;
   record-points = λ κs a r s p. points-to _ (Built recordKinds _) (record-exact _) (record-says _) _ _ r p;
   identity-nowhere = λ κs a r s p n. nowhere-refused _ _ _ r p n;

@@ -4,22 +4,21 @@ use Prim.Native.Nat.{ℕ, _-_}
 use mathlib.Core.Bool.{Bool, true, false, cond, _&&_}
 use mathlib.Core.Option.{Option, none, some}
 use mathlib.Core.List.{List, [], _∷_}
-use lib.Dec.{T, leb, eqb}
+use mathlib.Core.Path.{_≡_, refl}
+use lib.Dec.{T, leb, ltb, eqb}
 use lib.ListN.{length, take, drop}
 use denote.Ref.{now}
-use Rattle.crc16.specs.Crc.{crcOf}
-use Rattle.text.specs.Text.{Bytes, between, oneOf, same, isHex}
-use Rattle.text.specs.Base16.{checkText}
+use Rattle.text.specs.Text.{Bytes, between, oneOf}
 use Rattle.text.specs.Later.{later}
 use Rattle.text.proofs.Tests.{or-right, one-of}
-use Rattle.numbers.specs.Numbers.{missingCheck, wrongCheck, wrongCount, shortOutput, missingItem, notAlike}
+use Rattle.numbers.specs.Numbers.{wrongCount, shortOutput, missingItem, notAlike}
 use Rattle.format.specs.Kinds.{Kind, REQ, fieldsOf, identityKinds, recordKinds, pubkeyKinds, allKinds}
 use Rattle.format.specs.Build.{recordOf}
-use Rattle.format.specs.Read.{Outcome, accepted, refused, answer, body, check, endsIn, checkNo, judged, nobody, readIdentity, readOf, readRecord}
+use Rattle.format.specs.Read.{Outcome, accepted, refused, answer, place, judged, nobody, readIdentity, readOf, readRecord}
 use Rattle.format.specs.Files.{lineAt}
 use Rattle.format.proofs.Table.{All, every-kind}
-use Rattle.format.proofs.Outcomes.{ofKind-law}
-use Rattle.format.proofs.Refusals.{Gives, covers, provided-given, judged-given, over-given}
+use Rattle.format.proofs.Outcomes.{provided-law, ofKind-law}
+use Rattle.format.proofs.Refusals.{Gives, covers, either-given, provided-given, check-given, judged-given, over-given, naming, Names, judged-names, over-names}
 use Rattle.format.proofs.Lines.{at-end, at-line, at-unfinished, by-place}
 use Rattle.table.specs.Table.{kindsFrom, kindOf, countOf, named}
 use Rattle.places.specs.Places.{partsFrom}
@@ -31,10 +30,10 @@ use Rattle.building.specs.Building.{sum, pieces, buildAs, buildOf, recordMade, 
 use Rattle.items.specs.Items.{lvConcat, textItem}
 use Rattle.items.specs.Place.{placeFrom}
 use Rattle.agreement.specs.Texts.{sharedItems, moduleItems, centreItems, textMade, sharedInfo, moduleText, centreText}
-use Rattle.files.specs.Walk.{lineSaid, numberOf}
+use Rattle.files.specs.Walk.{lineSaid, numberOf, fieldOf}
 use Rattle.list_text.specs.Listing.{listText, listRoom, writeList}
 use Rattle.subjects.specs.Subjects.{gnt, alike}
-use Rattle.newer.specs.Newer.{Decision, theFirst, theSecond, noChoice, bySubjects, byRecords, newer, choiceNo, subject}
+use Rattle.newer.specs.Newer.{Decision, theFirst, theSecond, noChoice, bySubjects, byRecords, newer, choiceNo, choiceField, subject}
 use Rattle.promises.specs.Refusals.{ofIdentities, ofRecords, ofTexts, Refusals}
 
 -- a number more may be given
@@ -73,13 +72,9 @@ module _ (ns : List ℕ) where
   judged-answered (accepted k fs) g = g
   judged-answered (refused n i) g = g
 
-  either : (b : Bool) (n m : ℕ) → T (oneOf ns n) → T (oneOf ns m) → T (oneOf ns (cond b n m))
-  either true n m g h = g
-  either false n m g h = h
-
   wanted-given : (o : Outcome) (wanted : ℕ) → Gives ns o → T (oneOf ns 0) → T (oneOf ns missingItem) → T (oneOf ns (wantedNo o wanted))
   unfolding wantedNo
-  wanted-given (accepted k fs) wanted g z h = either (between 1 (length fs) wanted) 0 missingItem z h
+  wanted-given (accepted k fs) wanted g z h = either-given ns z (between 1 (length fs) wanted) 0 missingItem z h
   wanted-given (refused n i) wanted g z h = g
 
   made-given : (o : Outcome) → Gives ns o → T (oneOf ns (says (recordMade o) .no))
@@ -93,12 +88,6 @@ module _ (ns : List ℕ) where
       go true = g
       go false = h
   text-given items room (refused n i) g h = g
-
-check-given : (m : ℕ) (s : Bytes) → T (oneOf (0 ∷ 3 ∷ 4 ∷ []) (checkNo m s))
-unfolding checkNo
-check-given m s =
-    either (0 ∷ 3 ∷ 4 ∷ []) (isHex 4 (check s) && endsIn m (body s)) _ missingCheck
-    (either (0 ∷ 3 ∷ 4 ∷ []) (same (check s) (checkText (crcOf (body s)))) 0 wrongCheck tt tt) tt
 
 abbrev ofFields : List ℕ
 ofFields = 0 ∷ 2 ∷ 6 ∷ 7 ∷ 8 ∷ 9 ∷ []
@@ -178,7 +167,7 @@ newer-given a b = keys-given (readOf pubkeyKinds a) (readOf pubkeyKinds b) (read
 pub refusals : Refusals
 unfolding sharedInfo moduleText centreText
 refusals = record {
-  check-no = λ κs a r s p. rw p (check-given (a .0) (now (a .1 .0)));
+  check-no = λ κs a r s p. rw p (check-given (0 ∷ 3 ∷ 4 ∷ []) tt (a .0) (now (a .1 .0)) tt tt);
   read-identity = λ κs a r s p. rw p (answered ofIdentities (readIdentity (now (a .0))) (identity-given (now (a .0))));
   read-record = λ κs a r s p. rw p (answered ofRecords (readRecord (now (a .0))) (record-given (now (a .0))));
   read-of = λ κs a r s p. rw p (answered ofRecords (readOf (kindsFrom (a .0) (a .1 .0)) (now (a .1 .1 .0))) (read-given (kindsFrom (a .0) (a .1 .0)) (now (a .1 .1 .0))));

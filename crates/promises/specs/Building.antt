@@ -2,17 +2,20 @@
 -- building answers 0 exactly when the lengths cut the bytes into a permitted list and the room is enough. Demand 1 for building: a
 -- refused build leaves the output as it was.
 -- Assumes nothing.
-use Prim.Native.Nat.{ℕ, _≤_}
+use Prim.Native.Nat.{ℕ, _≤_, _<_}
 use mathlib.Core.Path.{_≡_}
 use mathlib.Core.Logic.{_↔_, _≢_}
+use mathlib.Core.Option.{none}
 use mathlib.Core.List.{List, _++_}
 use lib.ListN.{length, drop}
 use lib.Dec.{T}
 use denote.Ref.{now}
 use Rattle.text.specs.Text.{Bytes}
-use Rattle.format.specs.Kinds.{Kind, name, identityKinds, recordKinds, among}
+use Rattle.format.specs.Kinds.{Kind, name, identityKinds, recordKinds, allKinds, among}
 use Rattle.format.specs.Build.{recordOf, Permitted}
 use Rattle.format.specs.Read.{accepted, readIdentity, readRecord}
+use Rattle.numbers.specs.Numbers.{unknownKind, shortOutput}
+use Rattle.table.specs.Table.{named}
 use Rattle.put.specs.Made.{made}
 use Rattle.put.specs.declared.Written.{Written}
 use Rattle.building.specs.Building.{run, build, Builds}
@@ -27,6 +30,10 @@ pub record BuildSaid (t bytes : Bytes) (ns : List ℕ) (out out′ : Bytes) (r :
   -- then the record stands at the front, and every byte past it stays
   pub written : (k : Kind) (fs : List Bytes) → Builds t bytes ns (length out) k fs
       → (r .len ≡ length (recordOf k fs)) × (out′ ≡ recordOf k fs ++ drop (length (recordOf k fs)) out)
+  -- 2 for a kind name that is not in the table; 10 last, where only the room is missing
+  pub unknown : named allKinds t ≡ none → (r .no ≡ unknownKind) × (r .field ≡ 0)
+  pub short : (k : Kind) (fs : List Bytes) → t ≡ name k → bytes ≡ run fs → ns ≡ lengths fs → Permitted k fs → length out < length (recordOf k fs)
+      → (r .no ≡ shortOutput) × (r .field ≡ 0)
   -- demand 1
   pub untouched : r .no ≢ 0 → (r .len ≡ 0) × (out′ ≡ out)
 

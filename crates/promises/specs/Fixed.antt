@@ -1,11 +1,11 @@
--- What document 01 fixes beside its starred values: the table, the alphabets, the limits, the labels, 003's checks, the numbers, and an
--- example of each number that reading gives. A definition that is changed together with the code changes here too, and that is seen.
+-- What document 01 fixes beside its starred values: the table, the alphabets, the limits, the labels, 003's checks, the numbers, and
+-- examples of each number and of their order. A definition that is changed together with the code changes here too, and that is seen.
 -- proofs/Fixed.antt proves `AllCome fixed` by computing each.
 -- Assumes nothing.
 use Prim.Native.Char.{code}
 use mathlib.Core.Bool.{true, false}
 use mathlib.Core.List.{List, [], _∷_, _++_}
-use lib.ListN.{take, drop, replicate}
+use lib.ListN.{take, drop, replicate, set}
 use Rattle.numbers.specs.Numbers.{tooLong, unknownKind, missingCheck, wrongCheck, wrongCount, wrongText, wrongIdentity, unpaired, wrongKind, shortOutput, unfinished, missingItem, notAlike}
 use Rattle.text.specs.Text.{Bytes, ascii, isIdent, isTimestamp, isHex, Ident, Timestamp, Point, Sig, Mac, Print, isOf}
 use Rattle.format.specs.Kinds.{SMMAN, SMID, KMCID, ECDSA, ECDH, REQ, RESP, Field, Text, Identity, OrEmpty, name, mark, fieldsOf}
@@ -13,9 +13,16 @@ use Rattle.format.specs.Build.{recordOf}
 use Rattle.format.specs.Read.{Outcome, answer, place, check, readIdentity, readRecord}
 use Rattle.table.specs.Table.{rowOf, missingRow}
 use Rattle.items.specs.Items.{lvConcat}
-use Rattle.agreement.specs.Texts.{sharedItems, moduleItems, centreItems}
+use Rattle.agreement.specs.Texts.{sharedItems, moduleItems, centreItems, sharedInfo, moduleText, centreText}
+use Rattle.places.specs.Places.{lengths}
+use Rattle.put.specs.Made.{Made, says}
+use Rattle.building.specs.Building.{run, build}
+use Rattle.fields.specs.Fields.{wantedNo}
+use Rattle.format.specs.Files.{lineFeed, lineAt}
+use Rattle.files.specs.Walk.{lineSaid, numberOf}
+use Rattle.newer.specs.Newer.{newer, choiceNo}
 use Rattle.promises.specs.Values.{Value, number, bytes, test, types, admitted}
-use Rattle.promises.specs.Worked.{manufacturerId, moduleId, centreId, manufacturerKeyFields, manufacturerKey, moduleKey, centreKeyFields, centreKey, requestFields, request, response}
+use Rattle.promises.specs.Worked.{manufacturerId, moduleIdFields, moduleId, centreId, manufacturerKeyFields, manufacturerKey, moduleKey, centreKeyFields, centreKey, requestFields, request, response}
 
 -- ---- "Seven kinds of record": names, marks and field types, row by row
 
@@ -55,13 +62,16 @@ alphabets =
     ∷ bytes (admitted isTimestamp [] (ascii "0180120T090000Z")) (ascii "0123456789")
     ∷ bytes (admitted isTimestamp (ascii "2018") (ascii "120T090000Z")) (ascii "01")
     ∷ bytes (admitted isTimestamp (ascii "20180") (ascii "20T090000Z")) (ascii "123456789")
+    ∷ bytes (admitted isTimestamp (ascii "20181") (ascii "20T090000Z")) (ascii "012")
     ∷ bytes (admitted isTimestamp (ascii "201801") (ascii "0T090000Z")) (ascii "123")
     ∷ bytes (admitted isTimestamp (ascii "2018013") (ascii "T090000Z")) (ascii "01")
     ∷ bytes (admitted isTimestamp (ascii "20180120") (ascii "090000Z")) (ascii "T")
     ∷ bytes (admitted isTimestamp (ascii "20180120T") (ascii "30000Z")) (ascii "012")
     ∷ bytes (admitted isTimestamp (ascii "20180120T2") (ascii "0000Z")) (ascii "0123")
     ∷ bytes (admitted isTimestamp (ascii "20180120T09") (ascii "000Z")) (ascii "012345")
+    ∷ bytes (admitted isTimestamp (ascii "20180120T095") (ascii "00Z")) (ascii "0123456789")
     ∷ bytes (admitted isTimestamp (ascii "20180120T0900") (ascii "0Z")) (ascii "012345")
+    ∷ bytes (admitted isTimestamp (ascii "20180120T09005") (ascii "Z")) (ascii "0123456789")
     ∷ bytes (admitted isTimestamp (ascii "20180120T090000") []) (ascii "Z")
     ∷ []
 
@@ -134,8 +144,47 @@ numbers =
     ∷ bytes (said (readRecord (recordOf RESP (centreId ∷ moduleId ∷ ascii "20180125T240000Z" ∷ ascii "0" ∷ [])))) (6 ∷ 3 ∷ [])
     ∷ bytes (said (readRecord (recordOf RESP (centreId ∷ ascii "SMID.1" ∷ ascii "20180125T240000Z" ∷ ascii "0" ∷ [])))) (7 ∷ 2 ∷ [])
     ∷ bytes (said (readRecord (recordOf ECDSA (take 4 manufacturerKeyFields ++ [] ∷ [])))) (8 ∷ 0 ∷ [])
+    ∷ bytes (said (readRecord (recordOf ECDSA (set (take 4 manufacturerKeyFields) 2 [] ++ [] ∷ [])))) (6 ∷ 3 ∷ [])
     ∷ bytes (said (readRecord (recordOf ECDSA centreKeyFields))) (9 ∷ 1 ∷ [])
     ∷ []
 
+-- building: 2, 5, the fields, 8, 10; what is asked first is answered where a later number would do too
+abbrev pub saidOf : Made → Bytes
+saidOf m = says m .no ∷ says m .field ∷ []
+
+unfoldable pub building : List Value
+building =
+    bytes (saidOf (build (ascii "PK.ECDH.2") [] (1 ∷ []) 0)) (2 ∷ 0 ∷ [])
+    ∷ bytes (saidOf (build (name RESP) [] [] 0)) (5 ∷ 0 ∷ [])
+    ∷ bytes (saidOf (build (name RESP) (ascii "abc") (1 ∷ 1 ∷ 1 ∷ 1 ∷ []) 0)) (5 ∷ 0 ∷ [])
+    ∷ bytes (saidOf (build (name RESP) (ascii "abcd") (1 ∷ 1 ∷ 1 ∷ 1 ∷ []) 0)) (7 ∷ 1 ∷ [])
+    ∷ bytes (saidOf (build (name SMID) (ascii "abcd") (1 ∷ 1 ∷ 1 ∷ 1 ∷ []) 0)) (6 ∷ 3 ∷ [])
+    ∷ bytes (saidOf (build (name ECDSA) (run (take 4 manufacturerKeyFields)) (lengths (take 4 manufacturerKeyFields ++ [] ∷ [])) 0)) (8 ∷ 0 ∷ [])
+    ∷ bytes (saidOf (build (name SMID) (run moduleIdFields) (lengths moduleIdFields) 59)) (10 ∷ 0 ∷ [])
+    ∷ bytes (saidOf (build (name SMID) (run moduleIdFields) (lengths moduleIdFields) 60)) (0 ∷ 0 ∷ [])
+    ∷ []
+
+-- texts: the request's own refusal first, any other kind 2 in its normal place, then 10
+unfoldable pub texts : List Value
+texts =
+    bytes (saidOf (sharedInfo (ascii "VKLOAD.RESP.1|x") 0)) (2 ∷ 0 ∷ [])
+    ∷ bytes (saidOf (moduleText (ascii "VKLOAD.REQ.1|x") 0)) (3 ∷ 0 ∷ [])
+    ∷ bytes (saidOf (centreText request 253)) (10 ∷ 0 ∷ [])
+    ∷ bytes (saidOf (centreText request 254)) (0 ∷ 0 ∷ [])
+    ∷ []
+
+-- 12 after every other number; 11 though the check fits; 13 for two Subjects
+unfoldable pub others : List Value
+others =
+    number (wantedNo (readIdentity (ascii "SMID.1:x")) 5) 3
+    ∷ number (wantedNo (readIdentity moduleId) 0) 12
+    ∷ number (wantedNo (readIdentity moduleId) 4) 0
+    ∷ number (wantedNo (readIdentity moduleId) 5) 12
+    ∷ number (numberOf (lineSaid (lineAt response 0))) 11
+    ∷ number (numberOf (lineSaid (lineAt (lineFeed ∷ []) 0))) 2
+    ∷ number (choiceNo (newer centreKey moduleKey)) 13
+    ∷ number (choiceNo (newer request centreKey)) 2
+    ∷ []
+
 unfoldable pub fixed : List Value
-fixed = rows ++ alphabets ++ limits ++ labels ++ checks ++ numbers
+fixed = rows ++ alphabets ++ limits ++ labels ++ checks ++ numbers ++ building ++ texts ++ others

@@ -18,3 +18,4 @@ pub mod Fixed
 pub mod Witnesses
 pub mod Refusals
 pub mod Rebuilding
+pub mod FieldNumbers

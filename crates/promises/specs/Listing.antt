@@ -10,7 +10,7 @@ use Rattle.text.specs.Text.{Bytes, ascii}
 use Rattle.numbers.specs.Numbers.{shortOutput}
 use Rattle.format.specs.Files.{walk}
 use Rattle.put.specs.declared.Written.{Written}
-use Rattle.list_text.specs.Listing.{lineTexts, endText, tooBig, most, listText, listRoom}
+use Rattle.list_text.specs.Listing.{lineTexts, endText, listText, listRoom}
 use Rattle.files.proofs.count.Reads as count
 use Rattle.list_text.proofs.write_list.Reads as call
 use Rattle.promises.specs.Calls.{Holds}
@@ -27,9 +27,9 @@ pub record Listing : Type 0 where
   pub said : Holds call.Post (λ κs a r s. ListSaid (now (a .0)) (now (a .1 .0)) (now (s .1 .0)) r)
   -- every line of the walk, in order, numbered from 1; then the totals that the counting call answers
   pub lines-and-totals : Holds count.Post
-      (λ κs a r s. length (now (a .0)) ≤ most → listText (now (a .0)) ≡ lineTexts 0 (walk (now (a .0))) ++ endText (r .lines) (r .accepted))
+      (λ κs a r s. length (now (a .0)) ≤ 65536 → listText (now (a .0)) ≡ lineTexts 0 (walk (now (a .0))) ++ endText (r .lines) (r .accepted))
   -- more bytes print "too big" and nothing else
-  pub too-big : (file : Bytes) → most < length file → listText file ≡ tooBig
+  pub too-big : (file : Bytes) → 65536 < length file → listText file ≡ ascii "too big\n"
   -- document 01's own example, and a file of no bytes
   pub example : listText (ascii "\nPK.ECDH.2|x\nabc") ≡ ascii "1 0 0 2\n2 1 11 2\n3 13 3 11\nend 3 0\n"
   pub no-bytes : listText [] ≡ ascii "end 0 0\n"

@@ -16,6 +16,7 @@ use Rattle.text.specs.Part.{Part, NoPart}
 use Rattle.numbers.specs.Numbers.{missingItem}
 use Rattle.format.specs.Kinds.{Kind, Text, name, fieldsOf, identityKinds, recordKinds, pubkeyKinds, among}
 use Rattle.format.specs.Build.{recordOf, empty, Permitted, Built}
+use Rattle.format.specs.Read.{Outcome, accepted, refused, readIdentity, readRecord}
 use Rattle.table.specs.Table.{rowOf, missingRow}
 use Rattle.reading.specs.Reading.{kindWithin}
 use Rattle.reading.specs.declared.Answer.{Answer}
@@ -45,6 +46,7 @@ SaysPlaces {K} {A} {S} Q bytes ks =
     (κs : K) (a : A κs) (r : Answer) (s : S κs) → Q κs a r s → (k : Kind) (fs : List Bytes) → Built ks (bytes κs a) k fs
     → (j : ℕ)
     → (j < length fs → getD (r .starts) j 0 ≡ startIn k fs (j + 1))
+    × (length fs ≤ j → getD (r .starts) j 0 ≡ 0)
     × (getD (r .starts) j 0 + getD (r .lens) j 0 ≤ length (bytes κs a))
     × (take (getD (r .lens) j 0) (drop (getD (r .starts) j 0) (bytes κs a)) ≡ getD fs j [])
     × (getD (r .kinds) j missingRow ≡ kindWithin (getD (fieldsOf k) j (Text Ident)) (getD fs j []))
@@ -63,6 +65,14 @@ HandsBack {K} {A} {S} Q lent wanted number ks =
     (κs : K) (a : A κs) (part : RefT Bytes) (s : S κs) → Q κs a part s → (k : Kind) (fs : List Bytes) → Built ks (now (lent κs a)) k fs
     → (T (between 1 (length fs) (wanted κs a)) → Part (lent κs a) (startIn k fs (wanted κs a)) (getD ([] ∷ fs) (wanted κs a) []) part)
     × (number κs s ≡ cond (between 1 (length fs) (wanted κs a)) 0 missingItem)
+
+-- the record's own refusal comes first, with its field's number; the field's number is 0 else
+abbrev pub OwnFirst : {K : Type 0} {A R S : K → Type 0} → ((κs : K) → A κs → R κs → S κs → Type 0) → ((κs : K) → A κs → Outcome)
+    → ((κs : K) → R κs → S κs → ℕ) → ((κs : K) → R κs → S κs → ℕ) → Type 0
+OwnFirst {K} {A} {R} {S} Q outcome number field =
+    (κs : K) (a : A κs) (r : R κs) (s : S κs) → Q κs a r s
+    → ((n i : ℕ) → outcome κs a ≡ refused n i → (number κs r s ≡ n) × (field κs r s ≡ i))
+    × ((k : Kind) (fs : List Bytes) → outcome κs a ≡ accepted k fs → field κs r s ≡ 0)
 
 -- demand 1: with another number than 0 the part is the empty one at the front of what was lent
 abbrev pub NothingRefused : {K : Type 0} {A S : K → Type 0} → ((κs : K) → A κs → RefT Bytes → S κs → Type 0)
@@ -97,6 +107,10 @@ pub record Reading : Type 0 where
   pub record-fields : HandsBack record-field.Post (λ κs a. a .0) (λ κs a. a .1 .0) (λ κs s. now (s .1 .1 .0)) recordKinds
   pub identity-nothing : NothingRefused identity-field.Post (λ κs a. a .0) (λ κs s. now (s .1 .1 .0))
   pub record-nothing : NothingRefused record-field.Post (λ κs a. a .0) (λ κs s. now (s .1 .1 .0))
+  pub identity-field-own : OwnFirst identity-field.Post (λ κs a. readIdentity (now (a .0))) (λ κs r s. now (s .1 .1 .0)) (λ κs r s. now (s .1 .1 .1 .0))
+  pub record-field-own : OwnFirst record-field.Post (λ κs a. readRecord (now (a .0))) (λ κs r s. now (s .1 .1 .0)) (λ κs r s. now (s .1 .1 .1 .0))
+  pub identity-place-own : OwnFirst identity-place.Post (λ κs a. readIdentity (now (a .0))) (λ κs r s. r .no) (λ κs r s. r .field)
+  pub record-place-own : OwnFirst record-place.Post (λ κs a. readRecord (now (a .0))) (λ κs r s. r .no) (λ κs r s. r .field)
   pub identity-points : PointsTo identity-place.Post (λ κs a. now (a .0)) (λ κs a. a .1 .0) identityKinds
   pub record-points : PointsTo record-place.Post (λ κs a. now (a .0)) (λ κs a. a .1 .0) recordKinds
   pub identity-nowhere : NowhereRefused identity-place.Post

@@ -4,6 +4,7 @@ ghost use Rattle.promises.specs.Total.{Total};
 ghost use Rattle.promises.specs.Determined.{Determined};
 ghost use Rattle.promises.specs.Interface.{Interface};
 ghost use Rattle.promises.specs.Refusals.{Refusals};
+ghost use Rattle.promises.specs.FieldNumbers.{FieldNumbers};
 ghost use Rattle.promises.specs.Check.{Check};
 ghost use Rattle.promises.specs.TextTypes.{TextTypes};
 ghost use Rattle.promises.specs.Reading.{Reading};
@@ -20,5 +21,5 @@ ghost use Rattle.promises.specs.Starred.{starred};
 ghost use Rattle.promises.specs.Fixed.{fixed};
 
 fn promised()
-    ensures { λ _. ⌜ Total × Determined × Interface × Refusals × Check × TextTypes × Reading × Building × Rebuilding × Agreement × Files × Listing × Demand3 × Newer × Witnesses × AllCome starred × AllCome fixed ⌝ }
+    ensures { λ _. ⌜ Total × Determined × Interface × Refusals × FieldNumbers × Check × TextTypes × Reading × Building × Rebuilding × Agreement × Files × Listing × Demand3 × Newer × Witnesses × AllCome starred × AllCome fixed ⌝ }
 {}

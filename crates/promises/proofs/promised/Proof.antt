@@ -4,6 +4,7 @@ use Rattle.promises.proofs.Total.{total}
 use Rattle.promises.proofs.Determined.{determined}
 use Rattle.promises.proofs.Interface.{interface}
 use Rattle.promises.proofs.Refusals.{refusals}
+use Rattle.promises.proofs.FieldNumbers.{field-numbers}
 use Rattle.promises.proofs.Check.{check}
 use Rattle.promises.proofs.TextTypes.{text-types}
 use Rattle.promises.proofs.Reading.{reading}
@@ -21,7 +22,7 @@ use Rattle.promises.proofs.promised.Statement.{statement}
 use Rattle.promises.proofs.promised.Tie as tie
 
 returns : tie.Need-returns
-returns c = (total, determined, interface, refusals, check, text-types, reading, building, rebuilding, agreement, files, listing, demand3, newest, witnesses, all-starred, all-fixed)
+returns c = (total, determined, interface, refusals, field-numbers, check, text-types, reading, building, rebuilding, agreement, files, listing, demand3, newest, witnesses, all-starred, all-fixed)
 
 pub promised-spec : {M : Type 1} → statement M
 promised-spec = tie.close (tie.spec returns)

@@ -1,0 +1,49 @@
+-- "The field number is 0 where the table names none": document 01, "Numbers given back". For each call that answers with a field number, when
+-- it names a field. A function of the C interface answers by the definition of its call (Interface.antt).
+-- Assumes nothing.
+use Prim.Native.Nat.{ℕ}
+use mathlib.Core.Path.{_≡_}
+use mathlib.Core.List.{[], _∷_}
+use lib.Dec.{ltb}
+use denote.Ref.{now}
+use Rattle.text.specs.Text.{oneOf}
+use Rattle.files.specs.Walk.{numberOf, fieldOf}
+use Rattle.reading.proofs.read_identity.Reads as read-identity
+use Rattle.reading.proofs.read_record.Reads as read-record
+use Rattle.reading.proofs.read_of.Reads as read-of
+use Rattle.reading.proofs.judge.Reads as judge
+use Rattle.fields.proofs.identity_place.Reads as identity-place
+use Rattle.fields.proofs.record_place.Reads as record-place
+use Rattle.fields.proofs.identity_field.Reads as identity-field
+use Rattle.fields.proofs.record_field.Reads as record-field
+use Rattle.building.proofs.build.Reads as build
+use Rattle.agreement.proofs.shared_info.Reads as shared-info
+use Rattle.agreement.proofs.module_text.Reads as module-text
+use Rattle.agreement.proofs.centre_text.Reads as centre-text
+use Rattle.files.proofs.line_at.Reads as line-at
+use Rattle.files.proofs.step_from.Reads as step-from
+use Rattle.newer.proofs.newer_of.Reads as newer-of
+use Rattle.newer.proofs.newer.Reads as newer
+
+-- a field is named, by its number from 1, exactly with 6, 7 and 9; the field number is 0 with every other number
+abbrev pub NamesField : {K : Type 0} {A R S : K → Type 0} → ((κs : K) → A κs → R κs → S κs → Type 0) → ((κs : K) → R κs → S κs → ℕ) → ((κs : K) → R κs → S κs → ℕ) → Type 0
+NamesField {K} {A} {R} {S} Q number field =
+    (κs : K) (a : A κs) (r : R κs) (s : S κs) → Q κs a r s → oneOf (6 ∷ 7 ∷ 9 ∷ []) (number κs r s) ≡ ltb 0 (field κs r s)
+
+pub record FieldNumbers : Type 0 where
+  pub read-identity : NamesField read-identity.Post (λ κs r s. r .no) (λ κs r s. r .field)
+  pub read-record : NamesField read-record.Post (λ κs r s. r .no) (λ κs r s. r .field)
+  pub read-of : NamesField read-of.Post (λ κs r s. r .no) (λ κs r s. r .field)
+  pub judge : NamesField judge.Post (λ κs r s. r .no) (λ κs r s. r .field)
+  pub identity-place : NamesField identity-place.Post (λ κs r s. r .no) (λ κs r s. r .field)
+  pub record-place : NamesField record-place.Post (λ κs r s. r .no) (λ κs r s. r .field)
+  pub identity-field : NamesField identity-field.Post (λ κs r s. now (s .1 .1 .0)) (λ κs r s. now (s .1 .1 .1 .0))
+  pub record-field : NamesField record-field.Post (λ κs r s. now (s .1 .1 .0)) (λ κs r s. now (s .1 .1 .1 .0))
+  pub build : NamesField build.Post (λ κs r s. r .no) (λ κs r s. r .field)
+  pub shared-info : NamesField shared-info.Post (λ κs r s. r .no) (λ κs r s. r .field)
+  pub module-text : NamesField module-text.Post (λ κs r s. r .no) (λ κs r s. r .field)
+  pub centre-text : NamesField centre-text.Post (λ κs r s. r .no) (λ κs r s. r .field)
+  pub line-at : NamesField line-at.Post (λ κs r s. numberOf r) (λ κs r s. fieldOf r)
+  pub step-from : NamesField step-from.Post (λ κs r s. numberOf r) (λ κs r s. fieldOf r)
+  pub newer-of : NamesField newer-of.Post (λ κs r s. r .no) (λ κs r s. r .field)
+  pub newer : NamesField newer.Post (λ κs r s. now (s .1 .1 .0)) (λ κs r s. now (s .1 .1 .1 .0))
