@@ -1,10 +1,10 @@
 -- A file of 003's records with two bytes of its first line changed: it is damaged as demand 3 says, so by demand 3 that line is refused.
 -- Assumes nothing.
-use Prim.Native.Nat.{ℕ, _+_, _≤_, _<_}
+use Prim.Native.Nat.{ℕ, _+_, _≤_}
 use Prim.Native.Char.{code}
 use mathlib.Core.Path.{_≡_, refl, sym, ap, _∙_}
 use mathlib.Core.Logic.{_≢_, _⊎_, inl, inr, ⊎-elim}
-use mathlib.Core.List.{List, [], _∷_, List·Memᴰ, List·Memᴰ·cases-cons, List·Memᴰ·not-nil, map}
+use mathlib.Core.List.{[], _∷_, List·Memᴰ, List·Memᴰ·cases-cons, List·Memᴰ·not-nil, map}
 use native.Mathlib.Omega.{arith}
 use denote.Ref.{RefT, now}
 use lib.Dec.{T, eqb, ltb, eqb→eq, ltb→lt}

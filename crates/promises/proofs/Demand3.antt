@@ -1,24 +1,22 @@
 -- Demand 3, by the damage theorem of format: what the file call answers is what the walk's lines say.
 -- Assumes nothing.
-use Prim.Native.Nat.{ℕ, suc, _+_}
+use Prim.Native.Nat.{ℕ}
 use mathlib.Core.Path.{_≡_, refl, sym, ap, _∙_}
-use mathlib.Core.Logic.{_≢_}
 use mathlib.Core.List.{List, [], _∷_}
 use native.Mathlib.Omega.{arith}
-use lib.ListN.{length, getD}
-use lib.Seq.{ext-getD}
+use lib.ListN.{length}
 use denote.Ref.{RefT, now}
-use Rattle.text.specs.Text.{Bytes, part}
-use Rattle.format.specs.Read.{Outcome, accepted, refused, answer}
+use Rattle.text.specs.Text.{Bytes}
+use Rattle.format.specs.Read.{Outcome}
 use Rattle.format.specs.Files as format
-use Rattle.format.specs.Files.{read, lineAt, walk}
-use Rattle.format.specs.Damage.{Damaged, Accepted, Refused, Caught, AllCaught, Differ}
-use Rattle.format.proofs.Lines.{at-end, next-inside, rest, rest-walk}
+use Rattle.format.specs.Files.{read, walk}
+use Rattle.format.specs.Damage.{Caught, AllCaught}
+use Rattle.format.proofs.Lines.{at-end, rest, rest-walk}
 use Rattle.format.proofs.Damage.{part-same, damage-caught}
 use Rattle.reading.specs.Reading.{answerOf}
 use Rattle.files.specs.declared.Line.{Line}
 use Rattle.files.specs.declared.Line.the-variants.{Finished}
-use Rattle.files.specs.Walk.{lineSaid, numberOf, startOf, lengthOf, nextOf}
+use Rattle.files.specs.Walk.{lineSaid}
 use Rattle.files.proofs.Stepping.{none-left, first-left}
 use Rattle.promises.specs.Demand3.{Called, none, more, CaughtSaid, AllCaughtSaid, Demand3}
 

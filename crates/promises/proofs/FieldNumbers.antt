@@ -2,23 +2,20 @@
 -- Assumes nothing.
 use Prim.Native.Nat.{ℕ, _-_}
 use mathlib.Core.Bool.{Bool, true, false, cond, _&&_}
-use mathlib.Core.Option.{Option, none, some}
 use mathlib.Core.List.{List, [], _∷_}
 use mathlib.Core.Path.{_≡_, refl}
-use lib.Dec.{T, leb, ltb, eqb}
+use lib.Dec.{leb, ltb, eqb}
 use lib.ListN.{length, take, drop}
 use denote.Ref.{now}
 use Rattle.text.specs.Text.{Bytes, between, oneOf}
 use Rattle.text.specs.Later.{later}
-use Rattle.text.proofs.Tests.{or-right, one-of}
 use Rattle.numbers.specs.Numbers.{wrongCount, shortOutput, missingItem, notAlike}
 use Rattle.format.specs.Kinds.{Kind, REQ, fieldsOf, identityKinds, recordKinds, pubkeyKinds, allKinds}
 use Rattle.format.specs.Build.{recordOf}
-use Rattle.format.specs.Read.{Outcome, accepted, refused, answer, place, judged, nobody, readIdentity, readOf, readRecord}
+use Rattle.format.specs.Read.{Outcome, accepted, refused, place, judged, nobody, readIdentity, readOf, readRecord}
 use Rattle.format.specs.Files.{lineAt}
-use Rattle.format.proofs.Table.{All, every-kind}
 use Rattle.format.proofs.Outcomes.{provided-law, ofKind-law}
-use Rattle.format.proofs.Refusals.{Gives, covers, either-given, provided-given, check-given, judged-given, over-given, naming, Names, judged-names, over-names}
+use Rattle.format.proofs.Refusals.{naming, Names, judged-names, over-names}
 use Rattle.format.proofs.Lines.{at-end, at-line, at-unfinished, by-place}
 use Rattle.table.specs.Table.{kindsFrom, kindOf, countOf, named}
 use Rattle.places.specs.Places.{partsFrom}
@@ -27,13 +24,11 @@ use Rattle.fields.specs.Fields.{wantedNo}
 use Rattle.put.specs.Made as put
 use Rattle.put.specs.Made.{made, says}
 use Rattle.building.specs.Building.{sum, pieces, buildAs, buildOf, recordMade, build}
-use Rattle.items.specs.Items.{lvConcat, textItem}
-use Rattle.items.specs.Place.{placeFrom}
+use Rattle.items.specs.Items.{lvConcat}
 use Rattle.agreement.specs.Texts.{sharedItems, moduleItems, centreItems, textMade, sharedInfo, moduleText, centreText}
 use Rattle.files.specs.Walk.{lineSaid, numberOf, fieldOf}
-use Rattle.list_text.specs.Listing.{listText, listRoom, writeList}
 use Rattle.subjects.specs.Subjects.{gnt, alike}
-use Rattle.newer.specs.Newer.{Decision, theFirst, theSecond, noChoice, bySubjects, byRecords, newer, choiceNo, choiceField, subject}
+use Rattle.newer.specs.Newer.{theFirst, theSecond, noChoice, bySubjects, byRecords, newer, choiceNo, choiceField, subject}
 use Rattle.promises.specs.FieldNumbers.{FieldNumbers}
 
 identity-names : (s : Bytes) → Names (readIdentity s)

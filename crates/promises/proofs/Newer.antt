@@ -10,11 +10,9 @@ use Rattle.text.specs.Part.{NoPart}
 use Rattle.text.specs.Later.{later}
 use Rattle.text.proofs.Later.{later-neither}
 use Rattle.numbers.specs.Numbers.{notAlike}
-use Rattle.format.specs.Kinds.{pubkeyKinds}
-use Rattle.format.specs.Read.{refused, readOf}
 use Rattle.subjects.specs.Subjects.{alike}
 use Rattle.newer.specs.declared.Choice.{Choice}
-use Rattle.newer.specs.Keys.{Key, gntOf}
+use Rattle.newer.specs.Keys.{gntOf}
 use Rattle.newer.specs.Newer as newer
 use Rattle.newer.specs.Newer.{Decision, theFirst, theSecond, noChoice, choiceNo, choiceSaid, choiceWhich, IsChosen, Chosen}
 use Rattle.newer.proofs.Choosing.{newer-keys}

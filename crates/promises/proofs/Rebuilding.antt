@@ -1,21 +1,21 @@
 -- What the field calls hand back one after another are the fields, so building gives the record again.
 -- Assumes nothing.
-use Prim.Native.Nat.{ℕ, suc, _≤_, _<_}
-use mathlib.Core.Path.{_≡_, refl, sym, ap, ap₂, _∙_, subst}
+use Prim.Native.Nat.{ℕ, suc, _≤_}
+use mathlib.Core.Path.{_≡_, sym, ap, ap₂, _∙_}
 use mathlib.Core.Bool.{not}
-use mathlib.Core.Option.{Option, none, some}
+use mathlib.Core.Option.{none, some}
 use mathlib.Core.Logic.{_↔_}
 use mathlib.Core.List.{List, [], _∷_}
 use native.Mathlib.Omega.{arith}
 use lib.Dec.{T}
-use lib.ListN.{length, drop, getD, drop-of-length-le}
+use lib.ListN.{length, drop, drop-of-length-le}
 use lib.Seq.{drop-cons}
 use denote.Ref.{RefT, now}
 use borrow.Author.Tests.{le-leb}
 use Rattle.text.specs.Text.{Bytes, between}
 use Rattle.text.proofs.Tests.{by-test, less-or, cond-yes, cond-no, between-high}
 use Rattle.numbers.specs.Numbers.{missingItem}
-use Rattle.format.specs.Kinds.{Kind, name, identityKinds, recordKinds}
+use Rattle.format.specs.Kinds.{Kind, identityKinds, recordKinds}
 use Rattle.format.specs.Build.{Built}
 use Rattle.format.specs.Read.{Outcome, accepted, readIdentity, readRecord}
 use Rattle.format.proofs.Outcomes.{Honest, honest-zero}
@@ -29,8 +29,7 @@ use Rattle.fields.specs.Fields.{wantedPart, wantedNo}
 use Rattle.fields.specs.declared.Place.{Place}
 use Rattle.put.specs.Made.{Made, made, says, leaves}
 use Rattle.put.specs.declared.Written.{Written}
-use Rattle.places.specs.Places.{lengths}
-use Rattle.building.specs.Building.{run, build}
+use Rattle.building.specs.Building.{build}
 use Rattle.promises.specs.Rebuilding as asked
 use Rattle.promises.specs.Rebuilding.{Asked, IdentityField, RecordField, IdentityPlace, RecordPlace, Gives, Rebuilding}
 use Rattle.promises.proofs.Building.{again}

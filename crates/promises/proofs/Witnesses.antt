@@ -2,20 +2,17 @@
 -- Assumes nothing.
 use Prim.Native.Nat.{ℕ, zero, suc}
 use Prim.Native.Char.{code}
-use mathlib.Core.Path.{_≡_, refl, sym, ap, _∙_}
-use mathlib.Core.Logic.{inl, inr}
+use mathlib.Core.Path.{_≡_, refl, ap, _∙_}
 use mathlib.Core.List.{List, [], _∷_, _++_}
 use native.Mathlib.Omega.{arith}
 use lib.ListN.{length, getD, replicate, length-replicate}
 use denote.Ref.{RefT, now}
 use lib.Dec.{T, eqb}
 use mir.Facts.{yes-and, yes-eqb}
-use Rattle.crc16.specs.Crc.{bitStep, bitSteps, add, addAll, crcOf}
 use Rattle.text.specs.Text.{Bytes, ascii, every, hexadecimal, TextType, Ident, Timestamp, Point, Sig, Mac, Print, Hex, isOf, looks, numberFrom, isIdent, isTimestamp, isHex, isPoint}
-use Rattle.text.specs.Base16.{hexDigit, checkText}
-use Rattle.format.specs.Kinds.{Kind, SMMAN, SMID, KMCID, ECDSA, ECDH, REQ, RESP, identityKinds, recordKinds, pubkeyKinds, among}
-use Rattle.format.specs.Build.{withCheck, recordOf, Fits, FitAll, PermittedOver, NeverIdentity, IsIdentity, Permitted, Built}
-use Rattle.format.specs.Read.{Outcome, accepted, checkNo, identityAnswer, fieldAnswer, wholeAnswer, judged, readAs, readOver, readIdentity, readOf, readRecord}
+use Rattle.format.specs.Kinds.{KMCID, ECDH, REQ, identityKinds, recordKinds, pubkeyKinds}
+use Rattle.format.specs.Build.{recordOf, IsIdentity, Permitted}
+use Rattle.format.specs.Read.{readIdentity}
 use Rattle.format.proofs.Exactly.{identity-exact, read-exact, record-exact}
 use Rattle.format.specs.Files.{lineAt}
 use Rattle.subjects.specs.Subjects.{alike}
@@ -29,7 +26,7 @@ use Rattle.newer.specs.Newer.{theFirst, theSecond, newer}
 use Rattle.newer.specs.Keys.{Key, Agreed}
 use Rattle.newer.proofs.Choosing.{newer-keys}
 use Rattle.promises.specs.Demand3.{Called, none, more}
-use Rattle.promises.specs.Worked.{manufacturerIdFields, manufacturerId, moduleIdFields, moduleId, centreIdFields, centreId, manufacturerKeyFields, moduleKeyFields, centreKeyFields, centreKey, requestFields, request, responseFields, response, fieldsOfWorked, unsignedKeyFields, laterIdFields, laterKeyFields, laterKey, soundLines, soundFile, damagedFile}
+use Rattle.promises.specs.Worked.{centreIdFields, centreId, centreKeyFields, centreKey, requestFields, request, fieldsOfWorked, laterIdFields, laterKeyFields, laterKey}
 use Rattle.promises.proofs.Permitted.{names-permitted, permitted, unsigned, later-permitted, built-of}
 use Rattle.promises.proofs.DamagedFile.{damaged, caught}
 use Rattle.promises.specs.Witnesses.{Witnesses}

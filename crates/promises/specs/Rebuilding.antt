@@ -4,7 +4,7 @@
 use Prim.Native.Nat.{ℕ, suc, _≤_}
 use mathlib.Core.Path.{_≡_}
 use mathlib.Core.List.{List, [], _∷_, _++_}
-use lib.ListN.{length, take, drop}
+use lib.ListN.{length, drop}
 use denote.Ref.{RefT, now}
 use Rattle.text.specs.Text.{Bytes, part}
 use Rattle.format.specs.Kinds.{Kind, name}

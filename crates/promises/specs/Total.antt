@@ -1,5 +1,6 @@
 -- No call expects its caller to have looked first: demand 1. `Pre` is what a call's `requires` says of its arguments, which the checker makes
--- from the code as it makes `Post`; here it holds of any arguments, for every public call and for every function of the C interface.
+-- from the code as it makes `Post`; here it holds of any arguments, for every public call and for every function of the C interface. The
+-- checker makes no `Pre` for the two calls of a reader, a struct that holds a reference: that they have no `requires` is seen by .ci/contracts.
 -- Assumes nothing.
 use Rattle.crc16.proofs.Crc.begin.Reads as begun
 use Rattle.crc16.proofs.Crc.add.Reads as add

@@ -1,6 +1,5 @@
 -- `newer::by_subjects` meets its contract.
 -- Assumes nothing.
-use denote.Ref.{now}
 use mathlib.Core.Path.{sym, ap₂, _∙_}
 use mathlib.Core.Bool.{true, false}
 use borrow.Author.Tests.{not-true, not-false}

@@ -1,7 +1,7 @@
 -- `reading::field_said` meets its contract.
 -- Assumes nothing.
 use denote.Ref.{now}
-use mathlib.Core.Path.{sym, ap, _∙_}
+use mathlib.Core.Path.{sym, _∙_}
 use mir.Facts.{and-yes}
 use Rattle.text.proofs.Tests.{true-T}
 use Rattle.format.specs.Build.{empty}
