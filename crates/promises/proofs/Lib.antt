@@ -15,6 +15,7 @@ pub mod Fixed
 pub mod Permitted
 pub mod DamagedFile
 pub mod Witnesses
+pub mod Answered
 pub mod Refusals
 pub mod Rebuilding
 pub mod FieldNumbers

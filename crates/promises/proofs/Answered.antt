@@ -1,0 +1,113 @@
+-- What holds of the number and the field's number of a reading holds of what the calls above it answer, where it holds of the numbers that
+-- these add with field number 0.
+-- Assumes nothing.
+use Prim.Native.Nat.{ℕ, _-_}
+use mathlib.Core.Bool.{Bool, true, false, cond, _&&_}
+use mathlib.Core.List.{List}
+use lib.Dec.{leb, eqb}
+use lib.ListN.{length, take, drop}
+use Rattle.text.specs.Text.{Bytes, between}
+use Rattle.text.specs.Later.{later}
+use Rattle.numbers.specs.Numbers.{unknownKind, wrongCount, shortOutput, unfinished, missingItem, notAlike}
+use Rattle.format.specs.Kinds.{Kind, fieldsOf, pubkeyKinds, allKinds}
+use Rattle.format.specs.Build.{recordOf}
+use Rattle.format.specs.Read.{Outcome, accepted, refused, answer, place, judged, readIdentity, readOf, readRecord}
+use Rattle.format.specs.Files.{lineAt}
+use Rattle.format.proofs.Outcomes.{provided-law, ofKind-law}
+use Rattle.format.proofs.Lines.{at-end, at-line, at-unfinished, by-place}
+use Rattle.table.specs.Table.{kindOf, countOf, named}
+use Rattle.places.specs.Places.{partsFrom}
+use Rattle.reading.specs.Reading.{answerOf, judgedBy, judgedSaid, judge}
+use Rattle.fields.specs.Fields.{wantedNo}
+use Rattle.put.specs.Made as put
+use Rattle.put.specs.Made.{made, says}
+use Rattle.building.specs.Building.{sum, pieces, buildAs, buildOf, recordMade, build}
+use Rattle.items.specs.Items.{lvConcat}
+use Rattle.agreement.specs.Texts.{textMade}
+use Rattle.files.specs.Walk.{lineSaid, numberOf, fieldOf}
+use Rattle.subjects.specs.Subjects.{gnt, alike}
+use Rattle.newer.specs.Newer.{theFirst, theSecond, noChoice, bySubjects, byRecords, newer, choiceNo, choiceField, subject}
+
+module _ (P : ℕ → ℕ → Type 0) (z : P 0 0) where
+  abbrev pub Of : Outcome → Type 0
+  Of o = P (answer o) (place o)
+
+  pub answered : (o : Outcome) → Of o → P (answerOf o .no) (answerOf o .field)
+  answered (accepted k fs) h = h
+  answered (refused n i) h = h
+
+  -- one field: 12 besides
+  pub wanted-answered : (o : Outcome) (wanted : ℕ) → Of o → P missingItem 0 → P (wantedNo o wanted) (place o)
+  unfolding wantedNo
+  wanted-answered (accepted k fs) wanted h more = go (between 1 (length fs) wanted)
+    where
+      go : (b : Bool) → P (cond b 0 missingItem) 0
+      go true = z
+      go false = more
+  wanted-answered (refused n i) wanted h more = h
+
+  -- a text: 10 besides
+  pub text-answered : (items : List Bytes → List Bytes) (room : ℕ) (o : Outcome) → Of o → P shortOutput 0
+      → P (says (textMade items room o) .no) (says (textMade items room o) .field)
+  text-answered items room (accepted k fs) h more = go (leb (length (lvConcat (items fs))) room)
+    where
+      go : (b : Bool) → let m = cond b (made (lvConcat (items fs))) (put.denied shortOutput 0) in P (says m .no) (says m .field)
+      go true = z
+      go false = more
+  text-answered items room (refused n i) h more = h
+
+  -- the fields alone: 2 besides; a building: 2, 5 and 10
+  module _ (fields : (k : Kind) (fs : List Bytes) (o : Outcome) → Of o → Of (judged readIdentity k fs o)) (kind : P unknownKind 0) where
+    judged-answered : (o : Outcome) → Of o → P (judgedSaid o .no) (judgedSaid o .field)
+    judged-answered (accepted k fs) h = h
+    judged-answered (refused n i) h = h
+
+    pub judge-answered : (row : ℕ) (s : Bytes) (starts lens : List ℕ) → P (judge row s starts lens .no) (judge row s starts lens .field)
+    unfolding judgedBy
+    judge-answered row s starts lens =
+        let fs : List Bytes = partsFrom s starts lens 0 (countOf row) in
+        judged-answered (judgedBy row fs) (ofKind-law Of (kindOf row) (λ k. judged readIdentity k fs (accepted k fs)) kind (λ k e. fields k fs (accepted k fs) z))
+
+    made-answered : (o : Outcome) → Of o → P (says (recordMade o) .no) (says (recordMade o) .field)
+    made-answered (accepted k fs) h = h
+    made-answered (refused n i) h = h
+
+    pub build-answered : P wrongCount 0 → P shortOutput 0 → (t bytes : Bytes) (lens : List ℕ) (room : ℕ)
+        → P (says (build t bytes lens room) .no) (says (build t bytes lens room) .field)
+    unfolding build buildOf buildAs
+    build-answered count short t bytes lens room =
+        let fs : List Bytes = pieces lens bytes in
+        made-answered (buildOf t bytes lens room)
+        (ofKind-law Of (named allKinds t) (buildAs bytes lens room) kind
+        (λ k e. provided-law Of (eqb (length lens) (length (fieldsOf k)) && eqb (sum lens) (length bytes)) wrongCount _ count
+        (λ _. fields k fs _ (provided-law Of (leb (length (recordOf k fs)) room) shortOutput (accepted k fs) short (λ _. z)))))
+
+  -- a line: 11 besides
+  pub line-answered : ((s : Bytes) → Of (readRecord s)) → P unfinished 0 → (file : Bytes) (place : ℕ)
+      → P (numberOf (lineSaid (lineAt file place))) (fieldOf (lineSaid (lineAt file place)))
+  line-answered records more file place =
+      by-place file place (λ h. rw (at-end file place h) z)
+      (λ e f h. let l : Bytes = take (e - place) (drop place file) in rw (at-line file place e f h) (answered (readRecord l) (records l)))
+      (λ e f l h. rw (at-unfinished file place e f l h) more)
+
+  -- the newer key: 13 besides
+  module _ (more : P notAlike 0) where
+    subjects-answered : (p q : Outcome) → Of p → Of q → P (choiceNo (bySubjects p q)) (choiceField (bySubjects p q))
+    subjects-answered (accepted j fs) (accepted k gs) g h = go (alike j fs k gs) (later (gnt gs) (gnt fs))
+      where
+        go : (agree after : Bool) → let d = cond agree (cond after theSecond theFirst) (noChoice 0 notAlike 0) in P (choiceNo d) (choiceField d)
+        go true true = z
+        go true false = z
+        go false after = more
+    subjects-answered (accepted j fs) (refused n i) g h = h
+    subjects-answered (refused n i) q g h = g
+
+    pub newer-answered : ((s : Bytes) → Of (readIdentity s)) → ((s : Bytes) → Of (readOf pubkeyKinds s)) → (a b : Bytes) → P (choiceNo (newer a b)) (choiceField (newer a b))
+    unfolding newer
+    newer-answered identities keys a b = go (readOf pubkeyKinds a) (readOf pubkeyKinds b) (keys a) (keys b)
+      where
+        go : (p q : Outcome) → Of p → Of q → P (choiceNo (byRecords p q)) (choiceField (byRecords p q))
+        go (accepted j fs) (accepted k gs) g h =
+            subjects-answered (readIdentity (subject fs)) (readIdentity (subject gs)) (identities (subject fs)) (identities (subject gs))
+        go (accepted j fs) (refused n i) g h = h
+        go (refused n i) q g h = g
