@@ -1,18 +1,20 @@
 -- What meets the conditions of the promises, computed from 003's records.
 -- Assumes nothing.
-use Prim.Native.Nat.{ℕ, zero, suc}
+use Prim.Native.Nat.{ℕ, zero, suc, _+_, _≤_, _<_}
 use Prim.Native.Char.{code}
-use mathlib.Core.Path.{_≡_, refl, ap, _∙_}
+use mathlib.Core.Path.{_≡_, refl, sym, ap, _∙_}
 use mathlib.Core.List.{List, [], _∷_, _++_}
 use native.Mathlib.Omega.{arith}
-use lib.ListN.{length, getD, replicate, length-replicate}
-use denote.Ref.{RefT, now}
+use lib.ListN.{length, drop, getD, replicate, length-drop, length-replicate}
+use lib.Seq.{drop-cons}
+use borrow.Author.Tests.{le-leb, lt-leb}
+use denote.Ref.{RefT, ptr, now}
 use lib.Dec.{T, eqb}
 use mir.Facts.{yes-and, yes-eqb}
 use Rattle.text.specs.Text.{Bytes, ascii, every, hexadecimal, TextType, Ident, Timestamp, Point, Sig, Mac, Print, Hex, isOf, looks, numberFrom, isIdent, isTimestamp, isHex, isPoint}
-use Rattle.format.specs.Kinds.{KMCID, ECDH, REQ, identityKinds, recordKinds, pubkeyKinds}
+use Rattle.format.specs.Kinds.{Kind, KMCID, ECDH, REQ, identityKinds, recordKinds, pubkeyKinds}
 use Rattle.format.specs.Build.{recordOf, IsIdentity, Permitted}
-use Rattle.format.specs.Read.{readIdentity}
+use Rattle.format.specs.Read.{accepted, place, readIdentity, readRecord}
 use Rattle.format.proofs.Exactly.{identity-exact, read-exact, record-exact}
 use Rattle.format.specs.Files.{lineAt}
 use Rattle.subjects.specs.Subjects.{alike}
@@ -25,6 +27,9 @@ use Rattle.text.specs.Later.{later}
 use Rattle.newer.specs.Newer.{theFirst, theSecond, newer}
 use Rattle.newer.specs.Keys.{Key, Agreed}
 use Rattle.newer.proofs.Choosing.{newer-keys}
+use Rattle.fields.specs.Fields.{wantedPart, wantedNo, wantedStart}
+use Rattle.promises.specs.Rebuilding as asked
+use Rattle.promises.specs.Rebuilding.{Asked, IdentityField, RecordField}
 use Rattle.promises.specs.Demand3.{Called, none, more}
 use Rattle.promises.specs.Worked.{centreIdFields, centreId, centreKeyFields, centreKey, requestFields, request, fieldsOfWorked, laterIdFields, laterKeyFields, laterKey}
 use Rattle.promises.proofs.Permitted.{names-permitted, permitted, unsigned, later-permitted, built-of}
@@ -92,6 +97,64 @@ stepped (suc n) before =
     let (said, (after, s, e)) = stepped n next in
     (l ∷ said, (after, steps.more (record { its-line = refl; same-file = refl; its-place = refl }) s, ap suc e))
 
+-- ---- one field after another
+
+-- the part of the lent bytes that starts there
+part-of : RefT Bytes → ℕ → Bytes → RefT Bytes
+part-of lent start bytes = record { ptr = (ptr lent .0, start + ptr lent .1); name = 0; now = bytes }
+
+-- a number behind a pointer
+behind-it : ℕ → RefT ℕ
+behind-it n = record { ptr = (0, 0); name = 0; now = n }
+
+-- a field call that says what reading says, o, hands back any field
+module _ (lent : RefT Bytes) (n : ℕ) where
+  identity-call : let o = readIdentity (now lent) in IdentityField lent n (wantedPart o n) (wantedNo o n)
+  unfolding part-of behind-it
+  identity-call =
+      let o = readIdentity (now lent) in (
+        ([], ([], ([], tt))),
+        (
+          (lent, (n, (behind-it 0, (behind-it 0, tt)))),
+          (
+            part-of lent (wantedStart o n) (wantedPart o n),
+            (
+              (lent, (n, (behind-it (wantedNo o n), (behind-it (place o), tt)))),
+              (record { its-part = record { stands = refl; holds = refl }; its-no = refl; its-field = refl }, (refl, refl, refl, refl)),
+            ),
+          ),
+        ),
+      )
+
+  record-call : let o = readRecord (now lent) in RecordField lent n (wantedPart o n) (wantedNo o n)
+  unfolding part-of behind-it
+  record-call =
+      let o = readRecord (now lent) in (
+        ([], ([], ([], tt))),
+        (
+          (lent, (n, (behind-it 0, (behind-it 0, tt)))),
+          (
+            part-of lent (wantedStart o n) (wantedPart o n),
+            (
+              (lent, (n, (behind-it (wantedNo o n), (behind-it (place o), tt)))),
+              (record { its-part = record { stands = refl; holds = refl }; its-no = refl; its-field = refl }, (refl, refl, refl, refl)),
+            ),
+          ),
+        ),
+      )
+
+module _ (Says : ℕ → Bytes → ℕ → Type 0) (k : Kind) (fs : List Bytes) (call : (n : ℕ) → Says n (wantedPart (accepted k fs) n) (wantedNo (accepted k fs) n)) where
+  ask-all : (n : ℕ) (xs : List Bytes) → drop n fs ≡ xs → Asked Says (suc n) xs
+  unfolding wantedPart wantedNo
+  ask-all n [] e =
+      let past : length fs ≤ n = omega (arith, length-drop n fs, ap length e) in
+      asked.none (rw (le-leb 1 (suc n) (omega arith), lt-leb (suc n) (length fs) (omega arith)) at (call (suc n)))
+  ask-all n (x ∷ xs) e =
+      let inside : n < length fs = omega (arith, length-drop n fs, ap length e) in
+      let here : getD fs n [] ∷ drop (suc n) fs ≡ x ∷ xs = sym (drop-cons fs n [] inside) ∙ e in
+      let first : getD fs n [] ≡ x = cc in
+      asked.more (rw (le-leb 1 (suc n) (omega arith), le-leb (suc n) (length fs) inside, first) at (call (suc n))) (ask-all (suc n) xs (cc))
+
 pub witnesses : Witnesses
 unfolding request requestFields fieldsOfWorked
 witnesses = record {
@@ -101,6 +164,8 @@ witnesses = record {
   identity-accepted = λ k t. identity-exact (recordOf k (fieldsOfWorked k)) k (fieldsOfWorked k) .1 (built-of identityKinds k (fieldsOfWorked k) t (permitted k));
   record-accepted = λ k t. record-exact (recordOf k (fieldsOfWorked k)) k (fieldsOfWorked k) .1 (built-of recordKinds k (fieldsOfWorked k) t (permitted k));
   builds = λ k. record { named-so = refl; lengths-so = refl; bytes-so = refl; permitted-so = permitted k; room-so = omega arith };
+  identity-asked = λ lent k fs e. ask-all (IdentityField lent) k fs (λ n. rw e at (identity-call lent n)) 0 fs refl;
+  record-asked = λ lent k fs e. ask-all (RecordField lent) k fs (λ n. rw e at (record-call lent n)) 0 fs refl;
   requested = built-of (REQ ∷ []) REQ requestFields tt (permitted REQ);
   agreed = agreed;
   second-newer = choices .0;

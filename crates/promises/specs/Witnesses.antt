@@ -24,6 +24,7 @@ use Rattle.newer.specs.Keys.{Agreed}
 use Rattle.newer.specs.Newer.{theFirst, theSecond, newer}
 use Rattle.promises.specs.Calls.{Allows}
 use Rattle.promises.specs.Demand3.{Called}
+use Rattle.promises.specs.Rebuilding.{Asked, IdentityField, RecordField}
 use Rattle.promises.specs.Worked.{fieldsOfWorked, unsignedKeyFields, centreKeyFields, centreKey, laterKey, requestFields, request, soundFile, damagedFile}
 
 pub record Witnesses : Type 0 where
@@ -37,6 +38,9 @@ pub record Witnesses : Type 0 where
   pub record-accepted : (k : Kind) → T (among k recordKinds) → readRecord (recordOf k (fieldsOfWorked k)) ≡ accepted k (fieldsOfWorked k)
   -- and is built in exact room
   pub builds : (k : Kind) → Builds (name k) (run (fieldsOfWorked k)) (lengths (fieldsOfWorked k)) (length (recordOf k (fieldsOfWorked k))) k (fieldsOfWorked k)
+  -- every field of what is accepted can be asked for, one after another
+  pub identity-asked : (lent : RefT Bytes) (k : Kind) (fs : List Bytes) → readIdentity (now lent) ≡ accepted k fs → Asked (IdentityField lent) 1 fs
+  pub record-asked : (lent : RefT Bytes) (k : Kind) (fs : List Bytes) → readRecord (now lent) ≡ accepted k fs → Asked (RecordField lent) 1 fs
   -- there is a request for the texts
   pub requested : Built (REQ ∷ []) request REQ requestFields
   -- two public keys of one Subject: the second is the newer, the first is, and neither
