@@ -28,26 +28,26 @@ unfolding readRecord
 record-names s = read-names recordKinds s
 
 -- n and i are the number and the field's number of such an answer
-abbrev Named : ℕ → ℕ → Type 0
-Named n i = oneOf naming n ≡ ltb 0 i
+abbrev NamesAt : ℕ → ℕ → Type 0
+NamesAt n i = oneOf naming n ≡ ltb 0 i
 
 pub field-numbers : FieldNumbers
 unfolding sharedInfo moduleText centreText
 field-numbers = record {
-  read-identity = λ κs a r s p. rw p (answered Named refl (readIdentity (now (a .0))) (identity-names (now (a .0))));
-  read-record = λ κs a r s p. rw p (answered Named refl (readRecord (now (a .0))) (record-names (now (a .0))));
-  read-of = λ κs a r s p. rw p (answered Named refl (readOf (kindsFrom (a .0) (a .1 .0)) (now (a .1 .1 .0))) (read-names (kindsFrom (a .0) (a .1 .0)) (now (a .1 .1 .0))));
-  judge = λ κs a r s p. rw p (judge-answered Named refl (judged-names readIdentity) refl (a .0) (now (a .1 .0)) (now (a .1 .1 .0)) (now (a .1 .1 .1 .0)));
-  identity-place = λ κs a r s p. rw (p .said) (wanted-answered Named refl (readIdentity (now (a .0))) (a .1 .0) (identity-names (now (a .0))) refl);
-  record-place = λ κs a r s p. rw (p .said) (wanted-answered Named refl (readRecord (now (a .0))) (a .1 .0) (record-names (now (a .0))) refl);
-  identity-field = λ κs a r s p. rw (p .its-no, p .its-field) (wanted-answered Named refl (readIdentity (now (a .0))) (a .1 .0) (identity-names (now (a .0))) refl);
-  record-field = λ κs a r s p. rw (p .its-no, p .its-field) (wanted-answered Named refl (readRecord (now (a .0))) (a .1 .0) (record-names (now (a .0))) refl);
-  build = λ κs a r s p. rw (p .said) (build-answered Named refl (judged-names readIdentity) refl refl refl (now (a .0)) (now (a .1 .0)) (now (a .1 .1 .0)) (length (now (a .1 .1 .1 .0))));
-  shared-info = λ κs a r s p. rw (p .said) (text-answered Named refl sharedItems (length (now (a .1 .0))) (readOf (REQ ∷ []) (now (a .0))) (read-names (REQ ∷ []) (now (a .0))) refl);
-  module-text = λ κs a r s p. rw (p .said) (text-answered Named refl moduleItems (length (now (a .1 .0))) (readOf (REQ ∷ []) (now (a .0))) (read-names (REQ ∷ []) (now (a .0))) refl);
-  centre-text = λ κs a r s p. rw (p .said) (text-answered Named refl centreItems (length (now (a .1 .0))) (readOf (REQ ∷ []) (now (a .0))) (read-names (REQ ∷ []) (now (a .0))) refl);
-  line-at = λ κs a r s p. rw p (line-answered Named refl record-names refl (now (a .0)) (a .1 .0));
-  step-from = λ κs a r s p. rw p (line-answered Named refl record-names refl (now (a .0)) (a .1 .0));
-  newer-of = λ κs a r s p. rw p (newer-answered Named refl refl identity-names (read-names pubkeyKinds) (now (a .0)) (now (a .1 .0)));
-  newer = λ κs a r s p. rw (p .number-so, p .field-so) (newer-answered Named refl refl identity-names (read-names pubkeyKinds) (now (a .0)) (now (a .1 .0)));
+  read-identity = λ κs a r s p. rw p (answered NamesAt refl (readIdentity (now (a .0))) (identity-names (now (a .0))));
+  read-record = λ κs a r s p. rw p (answered NamesAt refl (readRecord (now (a .0))) (record-names (now (a .0))));
+  read-of = λ κs a r s p. rw p (answered NamesAt refl (readOf (kindsFrom (a .0) (a .1 .0)) (now (a .1 .1 .0))) (read-names (kindsFrom (a .0) (a .1 .0)) (now (a .1 .1 .0))));
+  judge = λ κs a r s p. rw p (judge-answered NamesAt refl (judged-names readIdentity) refl (a .0) (now (a .1 .0)) (now (a .1 .1 .0)) (now (a .1 .1 .1 .0)));
+  identity-place = λ κs a r s p. rw (p .said) (wanted-answered NamesAt refl (readIdentity (now (a .0))) (a .1 .0) (identity-names (now (a .0))) refl);
+  record-place = λ κs a r s p. rw (p .said) (wanted-answered NamesAt refl (readRecord (now (a .0))) (a .1 .0) (record-names (now (a .0))) refl);
+  identity-field = λ κs a r s p. rw (p .its-no, p .its-field) (wanted-answered NamesAt refl (readIdentity (now (a .0))) (a .1 .0) (identity-names (now (a .0))) refl);
+  record-field = λ κs a r s p. rw (p .its-no, p .its-field) (wanted-answered NamesAt refl (readRecord (now (a .0))) (a .1 .0) (record-names (now (a .0))) refl);
+  build = λ κs a r s p. rw (p .said) (build-answered NamesAt refl (judged-names readIdentity) refl refl refl (now (a .0)) (now (a .1 .0)) (now (a .1 .1 .0)) (length (now (a .1 .1 .1 .0))));
+  shared-info = λ κs a r s p. rw (p .said) (text-answered NamesAt refl sharedItems (length (now (a .1 .0))) (readOf (REQ ∷ []) (now (a .0))) (read-names (REQ ∷ []) (now (a .0))) refl);
+  module-text = λ κs a r s p. rw (p .said) (text-answered NamesAt refl moduleItems (length (now (a .1 .0))) (readOf (REQ ∷ []) (now (a .0))) (read-names (REQ ∷ []) (now (a .0))) refl);
+  centre-text = λ κs a r s p. rw (p .said) (text-answered NamesAt refl centreItems (length (now (a .1 .0))) (readOf (REQ ∷ []) (now (a .0))) (read-names (REQ ∷ []) (now (a .0))) refl);
+  line-at = λ κs a r s p. rw p (line-answered NamesAt refl record-names refl (now (a .0)) (a .1 .0));
+  step-from = λ κs a r s p. rw p (line-answered NamesAt refl record-names refl (now (a .0)) (a .1 .0));
+  newer-of = λ κs a r s p. rw p (newer-answered NamesAt refl refl identity-names (read-names pubkeyKinds) (now (a .0)) (now (a .1 .0)));
+  newer = λ κs a r s p. rw (p .number-so, p .field-so) (newer-answered NamesAt refl refl identity-names (read-names pubkeyKinds) (now (a .0)) (now (a .1 .0)));
 }

@@ -31,7 +31,7 @@ use Rattle.put.specs.Made.{Made, made, says, leaves}
 use Rattle.put.specs.declared.Written.{Written}
 use Rattle.building.specs.Building.{build}
 use Rattle.promises.specs.Rebuilding as asked
-use Rattle.promises.specs.Rebuilding.{Asked, IdentityField, RecordField, IdentityPlace, RecordPlace, Gives, Rebuilding}
+use Rattle.promises.specs.Rebuilding.{Asked, IdentityField, RecordField, IdentityPlace, RecordPlace, BuildsAgain, Rebuilding}
 use Rattle.promises.proofs.Building.{again}
 
 -- ---- the fields, asked for one after another
@@ -54,7 +54,7 @@ module _ (k : Kind) (fs : List Bytes) (Says : ℕ → Bytes → ℕ → Type 0)
 
 -- ---- built again
 
-gives : (ks : List Kind) (s : Bytes) (k : Kind) (fs : List Bytes) → Built ks s k fs → Gives s k fs
+gives : (ks : List Kind) (s : Bytes) (k : Kind) (fs : List Bytes) → Built ks s k fs → BuildsAgain s k fs
 gives ks s k fs b κs a r t w named bytes lens room =
     let e : build (now (a .0)) (now (a .1 .0)) (now (a .1 .1 .0)) (length (now (a .1 .1 .1 .0))) ≡ made s = rw (named, bytes, lens) (again ks s k fs b (length (now (a .1 .1 .1 .0))) room) in
     let said : r ≡ says (made s) = w .said ∙ ap says e in
@@ -71,7 +71,7 @@ module _ (lent : RefT Bytes) (k : Kind) (xs : List Bytes) where
   from-reading : (ks : List Kind) (o : Outcome) → ((j : Kind) (fs : List Bytes) → (o ≡ accepted j fs) ↔ Built ks (now lent) j fs) → Honest (Built ks (now lent)) o
       → (r : Answer) → r ≡ answerOf o → r .no ≡ 0 → r .kind ≡ rowOf k
       → (Says : ℕ → Bytes → ℕ → Type 0) → ((n : ℕ) (x : Bytes) (m : ℕ) → Says n x m → (m ≡ wantedNo o n) × (x ≡ wantedPart o n))
-      → Asked Says 1 xs → Gives (now lent) k xs
+      → Asked Says 1 xs → BuildsAgain (now lent) k xs
   from-reading ks o exact honest r e z row Says sound q =
       let (j, fs, h) = honest-zero (Built ks (now lent)) o honest (sym (told o r e .0) ∙ z) in
       let same : j ≡ k = one-row j k (sym (ap (λ (a : Answer). a .kind) (e ∙ ap answerOf h)) ∙ row) in

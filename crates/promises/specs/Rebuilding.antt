@@ -48,13 +48,13 @@ RecordPlace lent n x number = SomeCall record-place.Post (λ κs a r s. (a .0 �
 
 -- the building call, lent the kind's name and these fields, gives the bytes s in any output that has room for them, and every byte past
 -- them stays
-abbrev pub Gives : Bytes → Kind → List Bytes → Type 0
-Gives s k xs = Holds build.Post (λ κs a r t.
+abbrev pub BuildsAgain : Bytes → Kind → List Bytes → Type 0
+BuildsAgain s k xs = Holds build.Post (λ κs a r t.
     now (a .0) ≡ name k → now (a .1 .0) ≡ run xs → now (a .1 .1 .0) ≡ lengths xs → length s ≤ length (now (a .1 .1 .1 .0))
     → (r .no ≡ 0) × (r .len ≡ length s) × (now (t .1 .1 .1 .0) ≡ s ++ drop (length s) (now (a .1 .1 .1 .0))))
 
 pub record Rebuilding : Type 0 where
-  pub identity-parts : (lent : RefT Bytes) (k : Kind) (xs : List Bytes) → IdentityRead lent k → Asked (IdentityField lent) 1 xs → Gives (now lent) k xs
-  pub record-parts : (lent : RefT Bytes) (k : Kind) (xs : List Bytes) → RecordRead lent k → Asked (RecordField lent) 1 xs → Gives (now lent) k xs
-  pub identity-places : (lent : RefT Bytes) (k : Kind) (xs : List Bytes) → IdentityRead lent k → Asked (IdentityPlace lent) 1 xs → Gives (now lent) k xs
-  pub record-places : (lent : RefT Bytes) (k : Kind) (xs : List Bytes) → RecordRead lent k → Asked (RecordPlace lent) 1 xs → Gives (now lent) k xs
+  pub identity-parts : (lent : RefT Bytes) (k : Kind) (xs : List Bytes) → IdentityRead lent k → Asked (IdentityField lent) 1 xs → BuildsAgain (now lent) k xs
+  pub record-parts : (lent : RefT Bytes) (k : Kind) (xs : List Bytes) → RecordRead lent k → Asked (RecordField lent) 1 xs → BuildsAgain (now lent) k xs
+  pub identity-places : (lent : RefT Bytes) (k : Kind) (xs : List Bytes) → IdentityRead lent k → Asked (IdentityPlace lent) 1 xs → BuildsAgain (now lent) k xs
+  pub record-places : (lent : RefT Bytes) (k : Kind) (xs : List Bytes) → RecordRead lent k → Asked (RecordPlace lent) 1 xs → BuildsAgain (now lent) k xs
