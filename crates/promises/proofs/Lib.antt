@@ -19,3 +19,4 @@ pub mod Answered
 pub mod Refusals
 pub mod Rebuilding
 pub mod FieldNumbers
+pub mod Forms

@@ -19,3 +19,4 @@ pub mod Witnesses
 pub mod Refusals
 pub mod Rebuilding
 pub mod FieldNumbers
+pub mod Forms

@@ -19,10 +19,8 @@ use Rattle.files.specs.declared.Line.{Line}
 use Rattle.files.specs.declared.Reader.{Reader}
 use Rattle.files.specs.Walk.{numberOf}
 use Rattle.files.specs.Steps.{Steps}
-use Rattle.files.proofs.line_at.Reads as line-at
 use Rattle.newer.specs.Keys.{Agreed}
 use Rattle.newer.specs.Newer.{theFirst, theSecond, newer}
-use Rattle.promises.specs.Calls.{Allows}
 use Rattle.promises.specs.Demand3.{Called}
 use Rattle.promises.specs.Rebuilding.{Asked, IdentityField, RecordField}
 use Rattle.promises.specs.Worked.{fieldsOfWorked, unsignedKeyFields, centreKeyFields, centreKey, laterKey, requestFields, request, soundFile, damagedFile}
@@ -51,7 +49,8 @@ pub record Witnesses : Type 0 where
   -- the file call can be called, and a reader stepped, as often as one likes
   pub called : (lent : RefT Bytes) (n place : ℕ) → (ls : List Line) × Called lent place ls × (length ls ≡ n)
   pub stepped : (n : ℕ) (before : Reader) → (said : List Line) × ((after : Reader) × Steps before said after × (length said ≡ n))
-  -- demand 3: a file that is damaged as it says, and what the file call answers of its first line before and after
+  -- demand 3: a file that is damaged as it says, and what the file call answers of its first two lines before and after: the first as it was,
+  -- and the second, which differs, refused
   pub damaged : Damaged soundFile damagedFile
-  pub caught : (f g : RefT Bytes) → now f ≡ soundFile → now g ≡ damagedFile → (l m : Line)
-      → Allows line-at.Post (λ κs. (f, (0, tt))) (λ κs. l) → Allows line-at.Post (λ κs. (g, (0, tt))) (λ κs. m) → (numberOf l ≡ 0) × (numberOf m ≢ 0)
+  pub caught : (f g : RefT Bytes) → now f ≡ soundFile → now g ≡ damagedFile → (l l′ m m′ : Line) → Called f 0 (l ∷ l′ ∷ []) → Called g 0 (m ∷ m′ ∷ [])
+      → (numberOf l ≡ 0) × (numberOf l′ ≡ 0) × (l ≡ m) × (numberOf m′ ≢ 0)

@@ -16,10 +16,11 @@ ghost use Rattle.promises.specs.Listing.{Listing};
 ghost use Rattle.promises.specs.Demand3.{Demand3};
 ghost use Rattle.promises.specs.Newer.{Newer};
 ghost use Rattle.promises.specs.Witnesses.{Witnesses};
+ghost use Rattle.promises.specs.Forms.{Forms};
 ghost use Rattle.promises.specs.Values.{AllCome};
 ghost use Rattle.promises.specs.Starred.{starred};
 ghost use Rattle.promises.specs.Fixed.{fixed};
 
 fn promised()
-    ensures { λ _. ⌜ Total × Determined × Interface × Refusals × FieldNumbers × Check × TextTypes × Reading × Building × Rebuilding × Agreement × Files × Listing × Demand3 × Newer × Witnesses × AllCome starred × AllCome fixed ⌝ }
+    ensures { λ _. ⌜ Total × Determined × Interface × Refusals × FieldNumbers × Check × TextTypes × Reading × Building × Rebuilding × Agreement × Files × Listing × Demand3 × Newer × Witnesses × Forms × AllCome starred × AllCome fixed ⌝ }
 {}
