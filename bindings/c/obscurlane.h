@@ -62,7 +62,7 @@ enum {
     OBSCURLANE_WRONG_CHECK = 4,
     /* The number of fields is wrong. Building: or the lengths do not add up to the bytes lent. */
     OBSCURLANE_WRONG_COUNT = 5,
-    /* A field is not of its text type; its number comes too. */
+    /* A field is not of its text type; its number, from 1, comes too. */
     OBSCURLANE_WRONG_TEXT = 6,
     /* An identity field is not an accepted identity; its number comes too. */
     OBSCURLANE_WRONG_IDENTITY = 7,
