@@ -77,7 +77,7 @@ Checked m n s = (lastOr 0 (take n s) ≡ m) × (drop n s ≡ checkText (crcOf (t
 accepted-checked : (s : Bytes) → Accepted (readRecord s) → Checked (code "|") (length s - 4) s
 accepted-checked s (k, fs, e) =
     let b = record-exact s k fs .0 e in
-    let bar = all-among (λ j. mark j ≡ code "|") recordKinds (refl, (refl, (refl, (refl, tt)))) k (b .of-kind) in
+    let bar = all-among (λ j. mark j ≡ code "|") recordKinds (refl, (refl, (refl, (refl, (refl, tt))))) k (b .of-kind) in
     rw (b .built) (built-last k fs ∙ bar, built-check k fs)
 
 module _ (x y : Bytes) (bytes-x : AreBytes x) (bytes-y : AreBytes y) (long : length x ≡ length y) (i : ℕ) (near : Near i x y) where

@@ -9,7 +9,7 @@ use mathlib.Core.Bool.{Bool, true, false, cond, not, _&&_}
 use mathlib.Core.List.{List, [], _∷_}
 use native.Mathlib.Omega.{arith}
 use native.Mathlib.Nat.{le-trans}
-use lib.Dec.{T, T-not, eqb, leb, eqb→eq, le→leb}
+use lib.Dec.{T, T-not, eqb, leb, eqb→eq, leb→le}
 use lib.ListN.{length, drop, length-append}
 use mir.Facts.{and-yes, yes-and, yes-eqb}
 use Rattle.crc16.specs.Crc.{crcOf}
@@ -19,13 +19,13 @@ use Rattle.text.proofs.Tests.{T-true, same→eq, same-refl}
 use Rattle.text.proofs.Types.{hex-length, timestamp-length, point-hex}
 use Rattle.text.proofs.Hexadecimal.{check-hex}
 use Rattle.numbers.specs.Numbers.{tooLong, missingCheck, wrongCheck, wrongCount}
-use Rattle.format.specs.Kinds.{Kind, Field, name, mark, fieldsOf, identityFields, identityKinds, recordKinds, pubkeyKinds, among}
-use Rattle.format.specs.Build.{WithoutAll, recordOf, empty, Fits, FitAll, PermittedOver, BuiltOver, NeverIdentity, IsIdentity, Permitted, Built}
+use Rattle.format.specs.Kinds.{Kind, KEY, Field, name, mark, fieldsOf, identityFields, identityKinds, recordKinds, pubkeyKinds, keyKinds, among}
+use Rattle.format.specs.Build.{WithoutAll, recordOf, empty, Fits, FitAll, longestRecord, PermittedOver, BuiltOver, NeverIdentity, IsIdentity, Permitted, Built}
 use Rattle.format.specs.Read.{Outcome, accepted, answer, title, markAfter, kindIn, body, check, endsIn, checkNo, cut, fieldsIn, judged, readAs, readOver, nobody, readIdentity, readOf, readRecord}
-use Rattle.format.proofs.Table.{name-inj, All, kindIn-some, kindIn-known, longestRecord, record-room, identity-row, pubkey-row, seven-fields}
+use Rattle.format.proofs.Table.{name-inj, All, kindIn-some, kindIn-known, longestBounded, record-room, identity-row, pubkey-row, seven-fields}
 use Rattle.format.proofs.Parts.{record-length, ends-last, built-title, built-ends, built-check, built-parts, record-without, found-built}
 use Rattle.format.proofs.Outcomes.{never, provided-law, passing-law, ofKind-law, Honest, honest-map, honest-zero}
-use Rattle.format.proofs.Fields.{fit-length, Exact, fits-judged, judged-law, Tame, fields-held, record-held}
+use Rattle.format.proofs.Fields.{fit-length, Exact, fits-judged, judged-law, Tame, fields-clean, record-clean, record-short}
 
 -- ---- a check without a number
 
@@ -57,7 +57,7 @@ module _ (ask : Bytes → Outcome) (I : Kind → Bytes → Type 0) (x : Exact as
   unfolding readOver readAs
   over-says ks s =
       let P : Outcome → Type 0 = Honest (BuiltOver I ks s) in
-      provided-law P (leb (length s) 1024) tooLong _ tt
+      provided-law P (leb (length s) longestRecord) tooLong _ tt
       (λ short. ofKind-law P (kindIn ks (title s) (markAfter s)) (readAs ask s) tt
       (λ k e.
       let fs : List Bytes = fieldsIn k s in
@@ -65,14 +65,16 @@ module _ (ask : Bytes → Outcome) (I : Kind → Bytes → Type 0) (x : Exact as
       passing-law P (checkNo (mark k) s) 0 _ (λ n. tt)
       (λ right. provided-law P (eqb (length fs) (length (fieldsOf k))) wrongCount _ tt
       (λ count. judged-law ask I x P (λ n i. tt) k fs (accepted k fs) (eqb→eq (length fs) (length (fieldsOf k)) count)
-      (λ p.
+      (λ fit both attributes.
       let checked = check-right (mark k) s right in
+      let built =
+      found-built k s (known .1) (known .2) (ends-last (mark k) (body s) (checked .0))
+      (same→eq (check s) (checkText (crcOf (body s))) (checked .1)) in
       record {
         of-kind = known .0;
-        permitted = p;
-        built =
-            found-built k s (known .1) (known .2) (ends-last (mark k) (body s) (checked .0))
-            (same→eq (check s) (checkText (crcOf (body s))) (checked .1));
+        permitted =
+            record { fit = fit; both = both; attributes = attributes; short = subst (λ (x : Bytes). T (leb (length x) longestRecord)) built short };
+        built = built;
       })))))
 
   as-accepts : (k : Kind) (fs : List Bytes) → WithoutAll (mark k) fs → PermittedOver I k fs → readAs ask (recordOf k fs) k ≡ accepted k fs
@@ -89,15 +91,14 @@ module _ (ask : Bytes → Outcome) (I : Kind → Bytes → Type 0) (x : Exact as
   over-exact tame ks s k fs = (
     λ e. subst (Honest (BuiltOver I ks s)) e (over-says ks s),
     λ b.
-        let held = record-held I tame k fs (b .permitted .fit) in
         let known = built-title k fs in
         rw (
           b .built,
-          T-true (leb (length (recordOf k fs)) 1024) (le→leb (length (recordOf k fs)) 1024 (omega (arith, record-room k))),
+          T-true (leb (length (recordOf k fs)) longestRecord) (b .permitted .short),
           known .0,
           known .1,
           kindIn-known ks k (b .of-kind),
-        ) (as-accepts k fs (held .0) (b .permitted)),
+        ) (as-accepts k fs (record-clean I tame k fs (b .permitted .fit)) (b .permitted)),
   )
 
 -- ---- the identity call, which asks nobody
@@ -137,7 +138,12 @@ unfolding Fits
 built-over I J s k fs b =
     let row = identity-row k (b .of-kind) .1 in
     let fit = refit I J identityFields (λ f h. h, (λ f h. h, (λ f h. h, (λ f h. h, tt)))) fs (rw row at (b .permitted .fit)) in
-    record { of-kind = b .of-kind; permitted = record { fit = rw row fit; both = b .permitted .both }; built = b .built }
+    let p = b .permitted in
+    record {
+      of-kind = b .of-kind;
+      permitted = record { fit = rw row fit; both = p .both; attributes = p .attributes; short = p .short };
+      built = b .built;
+    }
 
 pub identity-says : (s : Bytes) → Honest (Built identityKinds s) (readIdentity s)
 unfolding readIdentity
@@ -157,8 +163,8 @@ identity-tame m u k f (fs, b) =
     let fit = b .permitted .fit in
     let row = identity-row k (b .of-kind) in
     let u′ = and-yes (not (identCharacter m)) (not (eqb (code ":") m)) u in
-    let clean = fields-held NeverIdentity never-tame m (fieldsOf k) fs (rw (row .1, T-true (not (identCharacter m)) (u′ .0)) tt) fit .0 in
-    let short = record-held NeverIdentity never-tame k fs fit .1 in
+    let clean = fields-clean NeverIdentity never-tame m (fieldsOf k) fs (rw (row .1, T-true (not (identCharacter m)) (u′ .0)) tt) fit in
+    let short = record-short NeverIdentity never-tame k fs (row .3) fit in
     rw (b .built) (record-without m (u′ .0) k fs (rw (row .0) (u′ .1)) clean, omega arith)
 
 -- whatever kinds it reads: the fields of an identity are texts
@@ -185,7 +191,7 @@ record-says s = read-says recordKinds s
 
 -- the first part of the body is the kind's name, and the fields are the others
 permitted-parts : (k : Kind) (fs : List Bytes) → Permitted k fs → cut (mark k) (body (recordOf k fs)) ≡ name k ∷ fs
-permitted-parts k fs p = built-parts k fs (record-held IsIdentity identity-tame k fs (p .fit) .0)
+permitted-parts k fs p = built-parts k fs (record-clean IsIdentity identity-tame k fs (p .fit))
 
 module _ {ks : List Kind} {s : Bytes} {k : Kind} {fs : List Bytes} (b : Built ks s k fs) where
   pub its-parts : cut (mark k) (body s) ≡ name k ∷ fs
@@ -209,7 +215,16 @@ built-unique s j k fs gs p q d e =
 -- ---- lengths
 
 pub built-length : (k : Kind) (fs : List Bytes) → Permitted k fs → length (recordOf k fs) ≤ longestRecord
-built-length k fs p = le-trans (record-held IsIdentity identity-tame k fs (p .fit) .1) (record-room k)
+built-length k fs p = leb→le (length (recordOf k fs)) longestRecord (p .short)
+
+-- every kind but the wrapped key
+pub built-shorter : (k : Kind) (fs : List Bytes) → T (not (among k keyKinds)) → Permitted k fs → length (recordOf k fs) ≤ longestBounded
+built-shorter k fs other p = le-trans (record-short IsIdentity identity-tame k fs other (p .fit)) (record-room k other)
+
+-- a wrapped key has 37 bytes beside its Attributes and its ProtectedKey
+pub key-length : (n a p : Bytes) → Permitted KEY (n ∷ a ∷ p ∷ []) → length (recordOf KEY (n ∷ a ∷ p ∷ [])) ≡ 37 + length a + length p
+unfolding FitAll Fits
+key-length n a p h = record-length KEY (n ∷ a ∷ p ∷ []) ∙ simp length-append (omega (arith, hex-length 24 n (h .fit .0)))
 
 pub identity-length : (k : Kind) (a b c d : Bytes) → T (among k identityKinds) → Permitted k (a ∷ b ∷ c ∷ d ∷ [])
     → length (recordOf k (a ∷ b ∷ c ∷ d ∷ [])) ≡ length (name k) + length a + length b + 41

@@ -4,20 +4,20 @@
 use Prim.Native.Nat.{ℕ, zero, suc, _+_, _≤_, _<_}
 use mathlib.Core.Path.{_≡_, refl, sym, ap, _∙_}
 use mathlib.Core.Logic.{inl, inr}
-use mathlib.Core.Bool.{Bool, true, false, cond}
+use mathlib.Core.Bool.{Bool, true, false, cond, not}
 use mathlib.Core.List.{List, [], _∷_, map}
 use native.Mathlib.Omega.{arith}
 use lib.Dec.{T}
 use lib.ListN.{length, getD, length-append}
 use mir.Facts.{and-yes}
-use Rattle.text.specs.Text.{Bytes, Ident, without, allOf, isOf, shortest, longest}
+use Rattle.text.specs.Text.{Bytes, Ident, without, allOf, printable, isPrintable, isOf, shortest, longest}
 use Rattle.text.proofs.Tests.{by-test, cond-yes, cond-no, between-high}
-use Rattle.text.proofs.Types.{plain, plain-without, lengths}
-use Rattle.numbers.specs.Numbers.{wrongText, wrongIdentity, wrongKind, unpaired}
-use Rattle.format.specs.Kinds.{Kind, Field, Text, Identity, OrEmpty, name, mark, fieldsOf, among}
-use Rattle.format.specs.Build.{joined, WithoutAll, recordOf, empty, Fits, FitAll, paired, PermittedOver}
+use Rattle.text.proofs.Types.{plain, plain-without, every-without, printable-characters, lengths}
+use Rattle.numbers.specs.Numbers.{wrongText, wrongIdentity, wrongKind, unpaired, wrongAttributes}
+use Rattle.format.specs.Kinds.{Kind, Field, Text, Printable, Identity, OrEmpty, name, mark, fieldsOf, keyKinds, among}
+use Rattle.format.specs.Build.{joined, WithoutAll, recordOf, empty, Fits, FitAll, paired, attributed, PermittedOver}
 use Rattle.format.specs.Read.{Outcome, accepted, refused, passing, identityAnswer, fieldAnswer, each, wholeAnswer, judged}
-use Rattle.format.proofs.Table.{alien, absent, longestIdentity, longestOf, fieldRoom, mark-absent}
+use Rattle.format.proofs.Table.{alien, absent, bounded, bounded-fields, longestIdentity, longestOf, fieldRoom, mark-absent}
 use Rattle.format.proofs.Parts.{record-length}
 use Rattle.format.proofs.Outcomes.{passing-law}
 
@@ -50,10 +50,15 @@ zero-yes : (b : Bool) (n : ℕ) → cond b 0 (suc n) ≡ 0 → T b
 zero-yes true n e = tt
 zero-yes false n e = absurd (omega arith)
 
+whole-zero : (a b : Bool) → cond a (cond b 0 wrongAttributes) unpaired ≡ 0 → T a × T b
+whole-zero true b e = (tt, zero-yes b _ e)
+whole-zero false b e = absurd (omega arith)
+
 module _ (ask : Bytes → Outcome) (I : Kind → Bytes → Type 0) (x : Exact ask I) where
   field-fits : (t : Field) (f : Bytes) → fieldAnswer ask t f ≡ 0 → Fits I t f
   unfolding fieldAnswer identityAnswer Fits
   field-fits (Text t) f e = zero-yes (isOf t f) _ e
+  field-fits Printable f e = zero-yes (isPrintable f) _ e
   field-fits (Identity ks) f e = go (ask f) refl
     where
       go : (o : Outcome) → ask f ≡ o → (k : Kind) × T (among k ks) × I k f
@@ -65,6 +70,7 @@ module _ (ask : Bytes → Outcome) (I : Kind → Bytes → Type 0) (x : Exact as
   fits-field : (t : Field) (f : Bytes) → Fits I t f → fieldAnswer ask t f ≡ 0
   unfolding fieldAnswer identityAnswer Fits
   fits-field (Text t) f h = cond-yes (isOf t f) 0 wrongText h
+  fits-field Printable f h = cond-yes (isPrintable f) 0 wrongText h
   fits-field (Identity ks) f h = ap (identityAnswer ks) (x .complete (h .0) f (h .2) .1) ∙ cond-yes (among (h .0) ks) 0 wrongKind (h .1)
   fits-field (OrEmpty t) f (inl h) = cond-yes (empty f) 0 (fieldAnswer ask t f) h
   fits-field (OrEmpty t) f (inr h) = rw (fits-field t f h) (by-test (empty f) (cond-yes (empty f) 0 0) (cond-no (empty f) 0 0))
@@ -79,7 +85,7 @@ module _ (ask : Bytes → Outcome) (I : Kind → Bytes → Type 0) (x : Exact as
   unfolding judged wholeAnswer
   fits-judged k fs o p =
       fits-each 1 (fieldsOf k) fs (passing (wholeAnswer k fs) 0 o) (p .fit)
-      ∙ ap (λ (n : ℕ). passing n 0 o) (cond-yes (paired k fs) 0 unpaired (p .both))
+      ∙ ap (λ (n : ℕ). passing n 0 o) (cond-yes (paired k fs) _ unpaired (p .both) ∙ cond-yes (attributed k fs) 0 wrongAttributes (p .attributes))
 
   -- what holds of refusals, and of o if the fields fit, holds of the call
   module _ (S : Outcome → Type 0) (r : (n i : ℕ) → S (refused (suc n) i)) where
@@ -93,12 +99,13 @@ module _ (ask : Bytes → Outcome) (I : Kind → Bytes → Type 0) (x : Exact as
         passing-law S (fieldAnswer ask t f) i (each ask (suc i) ts fs o) (λ n. r n i)
         (λ z. each-law (suc i) ts fs o (omega arith) (λ h. g (field-fits t f z, h)))
 
-    pub judged-law : (k : Kind) (fs : List Bytes) (o : Outcome) → length fs ≡ length (fieldsOf k) → (PermittedOver I k fs → S o)
-        → S (judged ask k fs o)
+    -- all but the length of the record, which a reader asks first and a builder last
+    pub judged-law : (k : Kind) (fs : List Bytes) (o : Outcome) → length fs ≡ length (fieldsOf k)
+        → (FitAll I (fieldsOf k) fs → T (paired k fs) → T (attributed k fs) → S o) → S (judged ask k fs o)
     unfolding judged wholeAnswer
     judged-law k fs o l g =
         each-law 1 (fieldsOf k) fs (passing (wholeAnswer k fs) 0 o) l
-        (λ h. passing-law S (wholeAnswer k fs) 0 o (λ n. r n 0) (λ z. g (record { fit = h; both = zero-yes (paired k fs) _ z })))
+        (λ h. passing-law S (wholeAnswer k fs) 0 o (λ n. r n 0) (λ z. let w = whole-zero (paired k fs) (attributed k fs) z in g h (w .0) (w .1)))
 
 -- ---- no mark in a field, and its length
 
@@ -107,28 +114,46 @@ abbrev pub Tame : (Kind → Bytes → Type 0) → Type 0
 Tame I = (m : ℕ) → T (alien m) → (k : Kind) (f : Bytes) → I k f → T (without m f) × (length f ≤ longestIdentity)
 
 module _ (I : Kind → Bytes → Type 0) (tame : Tame I) where
-  pub field-held : (m : ℕ) (t : Field) (f : Bytes) → T (absent m t) → Fits I t f → T (without m f) × (length f ≤ longestOf t)
+  field-clean : (m : ℕ) (t : Field) (f : Bytes) → T (absent m t) → Fits I t f → T (without m f)
   unfolding Fits
-  field-held m (Text t) f u h = (plain-without m u f (plain t f h), between-high (shortest t) (longest t) (length f) (lengths t f h))
-  field-held m (Identity ks) f u h = tame m u (h .0) f (h .2)
-  field-held m (OrEmpty t) [] u h = (tt, omega arith)
-  field-held m (OrEmpty t) (c ∷ f) u (inl h) = absurd h
-  field-held m (OrEmpty t) (c ∷ f) u (inr h) = field-held m t (c ∷ f) u h
+  field-clean m (Text t) f u h = plain-without m u f (plain t f h)
+  field-clean m Printable f u h = every-without printable m u f (printable-characters f h)
+  field-clean m (Identity ks) f u h = tame m u (h .0) f (h .2) .0
+  field-clean m (OrEmpty t) [] u h = tt
+  field-clean m (OrEmpty t) (c ∷ f) u (inl h) = absurd h
+  field-clean m (OrEmpty t) (c ∷ f) u (inr h) = field-clean m t (c ∷ f) u h
 
-  pub fields-held : (m : ℕ) (ts : List Field) (fs : List Bytes) → T (allOf (map (absent m) ts)) → FitAll I ts fs
-      → WithoutAll m fs × (length (joined m fs) ≤ fieldRoom ts)
+  pub field-short : (t : Field) (f : Bytes) → T (bounded t) → Fits I t f → length f ≤ longestOf t
+  unfolding Fits
+  field-short (Text t) f u h = between-high (shortest t) (longest t) (length f) (lengths t f h)
+  field-short Printable f u h = absurd u
+  field-short (Identity ks) f u h = tame 0 tt (h .0) f (h .2) .1
+  field-short (OrEmpty t) [] u h = omega arith
+  field-short (OrEmpty t) (c ∷ f) u (inl h) = absurd h
+  field-short (OrEmpty t) (c ∷ f) u (inr h) = field-short t (c ∷ f) u h
+
+  pub fields-clean : (m : ℕ) (ts : List Field) (fs : List Bytes) → T (allOf (map (absent m) ts)) → FitAll I ts fs → WithoutAll m fs
   unfolding FitAll
-  fields-held m [] [] u h = (tt, omega arith)
-  fields-held m [] (f ∷ fs) u h = absurd h
-  fields-held m (t ∷ ts) [] u h = absurd h
-  fields-held m (t ∷ ts) (f ∷ fs) u h =
+  fields-clean m [] [] u h = tt
+  fields-clean m [] (f ∷ fs) u h = absurd h
+  fields-clean m (t ∷ ts) [] u h = absurd h
+  fields-clean m (t ∷ ts) (f ∷ fs) u h =
       let u′ = and-yes (absent m t) (allOf (map (absent m) ts)) u in
-      let a = field-held m t f (u′ .0) (h .0) in
-      let b = fields-held m ts fs (u′ .1) (h .1) in
-      ((a .0, b .0), omega (arith, length-append f (m ∷ joined m fs)))
+      (field-clean m t f (u′ .0) (h .0), fields-clean m ts fs (u′ .1) (h .1))
 
-  pub record-held : (k : Kind) (fs : List Bytes) → FitAll I (fieldsOf k) fs
-      → WithoutAll (mark k) fs × (length (recordOf k fs) ≤ length (name k) + fieldRoom (fieldsOf k) + 5)
-  record-held k fs h =
-      let held = fields-held (mark k) (fieldsOf k) fs (mark-absent k) h in
-      (held .0, omega (arith, record-length k fs))
+  fields-short : (m : ℕ) (ts : List Field) (fs : List Bytes) → T (allOf (map bounded ts)) → FitAll I ts fs → length (joined m fs) ≤ fieldRoom ts
+  unfolding FitAll
+  fields-short m [] [] u h = omega arith
+  fields-short m [] (f ∷ fs) u h = absurd h
+  fields-short m (t ∷ ts) [] u h = absurd h
+  fields-short m (t ∷ ts) (f ∷ fs) u h =
+      let u′ = and-yes (bounded t) (allOf (map bounded ts)) u in
+      omega (arith, field-short t f (u′ .0) (h .0), fields-short m ts fs (u′ .1) (h .1), length-append f (m ∷ joined m fs))
+
+  pub record-clean : (k : Kind) (fs : List Bytes) → FitAll I (fieldsOf k) fs → WithoutAll (mark k) fs
+  record-clean k fs h = fields-clean (mark k) (fieldsOf k) fs (mark-absent k) h
+
+  -- every kind but the wrapped key, whose Attributes have no longest text
+  pub record-short : (k : Kind) (fs : List Bytes) → T (not (among k keyKinds)) → FitAll I (fieldsOf k) fs
+      → length (recordOf k fs) ≤ length (name k) + fieldRoom (fieldsOf k) + 5
+  record-short k fs other h = omega (arith, record-length k fs, fields-short (mark k) (fieldsOf k) fs (bounded-fields k other) h)

@@ -1,5 +1,6 @@
 pub mod Table
 pub mod Parts
+pub mod Attributes
 pub mod Outcomes
 pub mod Fields
 pub mod Exactly

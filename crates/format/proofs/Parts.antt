@@ -34,7 +34,7 @@ pub ends-last : (m : ℕ) (s : Bytes) → T (endsIn m s) → lastOr 0 s ≡ m
 ends-last m [] h = absurd h
 ends-last m (c ∷ s) h = eqb→eq (lastOr c s) m h
 
-last-ends : (m : ℕ) (s : Bytes) → 0 < length s → lastOr 0 s ≡ m → T (endsIn m s)
+pub last-ends : (m : ℕ) (s : Bytes) → 0 < length s → lastOr 0 s ≡ m → T (endsIn m s)
 last-ends m [] h e = absurd (omega arith)
 last-ends m (c ∷ s) h e = yes-eqb e
 
@@ -46,7 +46,7 @@ on-first m c d true ps qs = refl
 on-first m c d false ps [] = refl
 on-first m c d false ps (q ∷ qs) = refl
 
-joined-cut : (b m : ℕ) (s : Bytes) → lastOr b s ≡ m → joined m (cut m s) ≡ s
+pub joined-cut : (b m : ℕ) (s : Bytes) → lastOr b s ≡ m → joined m (cut m s) ≡ s
 joined-cut b m [] e = refl
 joined-cut b m (c ∷ []) e = rw (T-true (eqb c m) (yes-eqb e), e)
 joined-cut b m (c ∷ d ∷ s) e =
@@ -74,11 +74,11 @@ cut-through m (c ∷ f) r h =
     let h′ = and-yes (not (eqb c m)) (without m f) h in
     rw (T-false (eqb c m) (h′ .0), cut-through m f r (h′ .1))
 
-cut-joined : (m : ℕ) (fs : List Bytes) → WithoutAll m fs → cut m (joined m fs) ≡ fs
+pub cut-joined : (m : ℕ) (fs : List Bytes) → WithoutAll m fs → cut m (joined m fs) ≡ fs
 cut-joined m [] h = refl
 cut-joined m (f ∷ fs) h = cut-through m f (joined m fs) (h .0) ∙ rw (cut-joined m fs (h .1))
 
-last-joined : (c m : ℕ) (fs : List Bytes) (f : Bytes) → lastOr c (joined m (f ∷ fs)) ≡ m
+pub last-joined : (c m : ℕ) (fs : List Bytes) (f : Bytes) → lastOr c (joined m (f ∷ fs)) ≡ m
 last-joined c m [] [] = refl
 last-joined c m (g ∷ fs) [] = last-joined m m fs g
 last-joined c m [] (d ∷ f) = last-joined d m [] f

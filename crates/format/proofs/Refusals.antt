@@ -1,5 +1,5 @@
--- Which numbers a call can give: those of the form, those that the types of a kind's fields can be refused with, and 8 where the kind has
--- Issuer and Signature. And that a field is named exactly with 6, 7 and 9.
+-- Which numbers a call can give: those of the form, those that the types of a kind's fields can be refused with, 8 where the kind has
+-- Issuer and Signature, and 14 where it has Attributes. And that a field is named exactly with 6, 7 and 9.
 -- Assumes nothing.
 use Prim.Native.Nat.{ℕ, zero, suc}
 use mathlib.Core.Path.{_≡_, refl}
@@ -10,14 +10,14 @@ use native.Mathlib.Omega.{arith}
 use borrow.Author.Tests.{lt-ltb}
 use lib.Dec.{T, leb, ltb, eqb, eqb→eq}
 use lib.ListN.{length}
-use mir.Facts.{and-yes, or-yes}
+use mir.Facts.{and-yes, yes-and, or-yes}
 use Rattle.crc16.specs.Crc.{crcOf}
-use Rattle.text.specs.Text.{Bytes, allOf, oneOf, every, same, isHex, isOf}
+use Rattle.text.specs.Text.{Bytes, allOf, oneOf, every, same, isHex, isOf, isPrintable}
 use Rattle.text.specs.Base16.{checkText}
-use Rattle.text.proofs.Tests.{T-true, or-left, or-right, one-of}
-use Rattle.numbers.specs.Numbers.{tooLong, unknownKind, missingCheck, wrongCheck, wrongCount, wrongText, wrongIdentity, unpaired, wrongKind}
-use Rattle.format.specs.Kinds.{Kind, Field, Text, Identity, OrEmpty, mark, fieldsOf, pubkeyKinds, among}
-use Rattle.format.specs.Build.{empty, paired}
+use Rattle.text.proofs.Tests.{or-right, one-of}
+use Rattle.numbers.specs.Numbers.{tooLong, unknownKind, missingCheck, wrongCheck, wrongCount, wrongText, wrongIdentity, unpaired, wrongKind, wrongAttributes}
+use Rattle.format.specs.Kinds.{Kind, Field, Text, Printable, Identity, OrEmpty, mark, fieldsOf, pubkeyKinds, keyKinds, among}
+use Rattle.format.specs.Build.{empty, paired, attributed, longestRecord}
 use Rattle.format.specs.Read.{Outcome, accepted, refused, answer, place, provided, passing, title, markAfter, kindIn, body, check, endsIn, checkNo, fieldsIn, identityAnswer, fieldAnswer, each, wholeAnswer, judged, readAs, readOver}
 use Rattle.format.proofs.Table.{All, all-among, kindIn-some}
 use Rattle.format.proofs.Outcomes.{provided-law, ofKind-law}
@@ -28,12 +28,17 @@ Gives ns o = T (oneOf ns (answer o))
 -- the numbers that a field of this type can be refused with are among ns
 abbrev covered : List ℕ → Field → Bool
 covered ns (Text t) = oneOf ns wrongText
+covered ns Printable = oneOf ns wrongText
 covered ns (Identity ks) = oneOf ns wrongIdentity && oneOf ns wrongKind
 covered ns (OrEmpty t) = covered ns t
 
--- and those of the fields of this kind, each and together
+-- those of the fields of this kind together
+abbrev coversWhole : List ℕ → Kind → Bool
+coversWhole ns k = (not (among k pubkeyKinds) || oneOf ns unpaired) && (not (among k keyKinds) || oneOf ns wrongAttributes)
+
+-- and each and together
 abbrev pub covers : List ℕ → Kind → Bool
-covers ns k = allOf (map (covered ns) (fieldsOf k)) && (not (among k pubkeyKinds) || oneOf ns unpaired)
+covers ns k = allOf (map (covered ns) (fieldsOf k)) && coversWhole ns k
 
 module _ (ns : List ℕ) (z : T (oneOf ns 0)) where
   pub either-given : (b : Bool) (n m : ℕ) → T (oneOf ns n) → T (oneOf ns m) → T (oneOf ns (cond b n m))
@@ -65,6 +70,7 @@ module _ (ns : List ℕ) (z : T (oneOf ns 0)) where
     field-given : (t : Field) (f : Bytes) → T (covered ns t) → T (oneOf ns (fieldAnswer ask t f))
     unfolding fieldAnswer
     field-given (Text t) f h = either-given (isOf t f) 0 wrongText z h
+    field-given Printable f h = either-given (isPrintable f) 0 wrongText z h
     field-given (Identity ks) f h =
         let both = and-yes (oneOf ns wrongIdentity) (oneOf ns wrongKind) h in
         identity-given ks (ask f) (both .0) (both .1)
@@ -77,13 +83,16 @@ module _ (ns : List ℕ) (z : T (oneOf ns 0)) where
         let both = and-yes (covered ns t) (allOf (map (covered ns) ts)) h in
         passing-given (fieldAnswer ask t f) i (each ask (suc i) ts fs o) (field-given t f (both .0)) (each-given (suc i) ts fs o (both .1) g)
 
-    whole-given : (k : Kind) (fs : List Bytes) → T (not (among k pubkeyKinds) || oneOf ns unpaired) → T (oneOf ns (wholeAnswer k fs))
+    -- a test of some kinds only: the others pass it, and for those its number is among ns
+    test-given : (other test : Bool) (n m : ℕ) → T (other || oneOf ns m) → T (oneOf ns n) → T (oneOf ns (cond (other || test) n m))
+    test-given true test n m h k = k
+    test-given false test n m h k = either-given test n m k h
+
+    whole-given : (k : Kind) (fs : List Bytes) → T (coversWhole ns k) → T (oneOf ns (wholeAnswer k fs))
     unfolding wholeAnswer
     whole-given k fs h =
-        ⊎-elim
-        (λ no-key. rw (T-true (paired k fs) (or-left (not (among k pubkeyKinds)) _ no-key)) z)
-        (λ there. either-given (paired k fs) 0 unpaired z there)
-        (or-yes (not (among k pubkeyKinds)) (oneOf ns unpaired) h)
+        let both = and-yes (not (among k pubkeyKinds) || oneOf ns unpaired) (not (among k keyKinds) || oneOf ns wrongAttributes) h in
+        test-given (not (among k pubkeyKinds)) _ _ unpaired (both .0) (test-given (not (among k keyKinds)) _ 0 wrongAttributes (both .1) z)
 
     pub judged-given : (k : Kind) (fs : List Bytes) (o : Outcome) → T (covers ns k) → Gives ns o → Gives ns (judged ask k fs o)
     unfolding judged
@@ -100,7 +109,7 @@ module _ (ns : List ℕ) (z : T (oneOf ns 0)) where
     pub over-given : Form → (ks : List Kind) → All (λ k. T (covers ns k)) ks → (s : Bytes) → Gives ns (readOver ask ks s)
     unfolding readOver readAs
     over-given (long, kind, missing, wrong, count) ks h s =
-        provided-given (leb (length s) 1024) tooLong _ long
+        provided-given (leb (length s) longestRecord) tooLong _ long
         (ofKind-law (Gives ns) (kindIn ks (title s) (markAfter s)) (readAs ask s) kind
         (λ k e.
         let fs : List Bytes = fieldsIn k s in
@@ -135,8 +144,18 @@ ofFields = 0 ∷ 6 ∷ 7 ∷ 9 ∷ []
 -- what any field can be answered
 any-covered : (t : Field) → T (covered ofFields t)
 any-covered (Text t) = tt
+any-covered Printable = tt
 any-covered (Identity ks) = tt
 any-covered (OrEmpty t) = any-covered t
+
+-- what all fields together can be answered
+abbrev ofWhole : List ℕ
+ofWhole = 0 ∷ 8 ∷ 14 ∷ []
+
+any-whole : (k : Kind) → T (coversWhole ofWhole k)
+any-whole k =
+    yes-and (not (among k pubkeyKinds) || true) (not (among k keyKinds) || true) (or-right (not (among k pubkeyKinds)) true tt)
+    (or-right (not (among k keyKinds)) true tt)
 
 module _ (ask : Bytes → Outcome) where
   each-names : (i : ℕ) (ts : List Field) (fs : List Bytes) (o : Outcome) → Names o → Names (each ask (suc i) ts fs o)
@@ -149,12 +168,12 @@ module _ (ask : Bytes → Outcome) where
   unfolding judged
   judged-names k fs o s =
       each-names 0 (fieldsOf k) fs (passing (wholeAnswer k fs) 0 o)
-      (passing-names (0 ∷ 8 ∷ []) (wholeAnswer k fs) 0 o (whole-given (0 ∷ 8 ∷ []) tt ask k fs (or-right (not (among k pubkeyKinds)) _ tt)) tt s)
+      (passing-names ofWhole (wholeAnswer k fs) 0 o (whole-given ofWhole tt ask k fs (any-whole k)) tt s)
 
   pub over-names : (ks : List Kind) (s : Bytes) → Names (readOver ask ks s)
   unfolding readOver readAs
   over-names ks s =
-      provided-law Names (leb (length s) 1024) tooLong _ refl
+      provided-law Names (leb (length s) longestRecord) tooLong _ refl
       (λ _. ofKind-law Names (kindIn ks (title s) (markAfter s)) (readAs ask s) refl
       (λ k e.
       let fs : List Bytes = fieldsIn k s in

@@ -5,14 +5,14 @@ use Prim.Native.Char.{code}
 use mathlib.Core.Path.{_≡_, refl, sym, ap, _∙_, subst}
 use mathlib.Core.Logic.{⊎-elim}
 use mathlib.Core.Option.{Option, some, Option·none-ne-some, Option·some-injective}
-use mathlib.Core.Bool.{Bool, not, cond, _&&_}
+use mathlib.Core.Bool.{Bool, true, false, not, cond, _&&_, _||_}
 use mathlib.Core.List.{List, [], _∷_, map}
-use lib.Dec.{T, eqb, leb, lit≤, eqb→eq, leb→le}
+use lib.Dec.{T, T-not, eqb, leb, lit≤, eqb→eq, leb→le}
 use lib.ListN.{length, getD}
 use mir.Facts.{and-yes, or-yes, yes-eqb}
-use Rattle.text.specs.Text.{Bytes, same, every, allOf, identCharacter, longest}
+use Rattle.text.specs.Text.{Bytes, same, every, allOf, identCharacter, printable, longest}
 use Rattle.text.proofs.Tests.{by-test, T-true, T-false, or-left, or-right, same→eq, same-refl, at-every}
-use Rattle.format.specs.Kinds.{Kind, SMMAN, SMID, KMCID, ECDSA, ECDH, REQ, RESP, Field, Text, Identity, OrEmpty, name, mark, fieldsOf, identityFields, pubkeyFields, identityKinds, pubkeyKinds, allKinds, among}
+use Rattle.format.specs.Kinds.{Kind, SMMAN, SMID, KMCID, ECDSA, ECDH, REQ, RESP, KEY, Field, Text, Printable, Identity, OrEmpty, name, mark, fieldsOf, identityFields, pubkeyFields, identityKinds, pubkeyKinds, keyKinds, allKinds, among}
 use Rattle.format.specs.Read.{isMark, kindIn}
 
 -- ---- a kind is known by its name
@@ -30,6 +30,7 @@ at-index ECDSA = refl
 at-index ECDH = refl
 at-index REQ = refl
 at-index RESP = refl
+at-index KEY = refl
 
 pub name-inj : (j k : Kind) → name j ≡ name k → j ≡ k
 name-inj j k e = sym (at-index j) ∙ ap (λ (t : Bytes). getD allKinds (index allKinds t) SMMAN) e ∙ at-index k
@@ -104,6 +105,7 @@ alien m = not (identCharacter m) && not (eqb (code ":") m)
 -- m stands in no such field
 abbrev pub absent : ℕ → Field → Bool
 absent m (Text t) = not (identCharacter m)
+absent m Printable = not (printable m)
 absent m (Identity ks) = alien m
 absent m (OrEmpty t) = absent m t
 
@@ -112,8 +114,16 @@ mark-absent = every-kind (λ k. allOf (map (absent (mark k)) (fieldsOf k))) tt
 
 -- ---- lengths, which the checker computes from the table: n is the length of the longest identity
 
+-- whether a field has a longest text of its own
+abbrev pub bounded : Field → Bool
+bounded (Text t) = true
+bounded Printable = false
+bounded (Identity ks) = true
+bounded (OrEmpty t) = bounded t
+
 abbrev longestOver : ℕ → Field → ℕ
 longestOver n (Text t) = longest t
+longestOver n Printable = 0
 longestOver n (Identity ks) = n
 longestOver n (OrEmpty t) = longestOver n t
 
@@ -122,17 +132,18 @@ abbrev roomOver : ℕ → List Field → ℕ
 roomOver n [] = 0
 roomOver n (t ∷ ts) = longestOver n t + 1 + roomOver n ts
 
--- the longest record of the kinds ks: its name and its mark, its fields, its check
+-- the longest record of the kinds ks whose fields are bounded: its name and its mark, its fields, its check
 abbrev longestIn : ℕ → List Kind → ℕ
 longestIn n [] = 0
-longestIn n (k ∷ ks) = max (length (name k) + roomOver n (fieldsOf k) + 5) (longestIn n ks)
+longestIn n (k ∷ ks) =
+    cond (allOf (map bounded (fieldsOf k))) (max (length (name k) + roomOver n (fieldsOf k) + 5) (longestIn n ks)) (longestIn n ks)
 
 -- an identity has no identity in it
 abbrev pub longestIdentity : ℕ
 longestIdentity = longestIn 0 identityKinds
 
-abbrev pub longestRecord : ℕ
-longestRecord = longestIn longestIdentity allKinds
+abbrev pub longestBounded : ℕ
+longestBounded = longestIn longestIdentity allKinds
 
 abbrev pub longestOf : Field → ℕ
 longestOf t = longestOver longestIdentity t
@@ -140,16 +151,24 @@ longestOf t = longestOver longestIdentity t
 abbrev pub fieldRoom : List Field → ℕ
 fieldRoom ts = roomOver longestIdentity ts
 
-pub record-room : (k : Kind) → length (name k) + fieldRoom (fieldsOf k) + 5 ≤ longestRecord
-record-room k =
-    leb→le (length (name k) + fieldRoom (fieldsOf k) + 5) longestRecord
-    (every-kind (λ j. leb (length (name j) + fieldRoom (fieldsOf j) + 5) longestRecord) tt k)
+-- all fields of every kind but the wrapped key have a longest text
+pub bounded-fields : (k : Kind) → T (not (among k keyKinds)) → T (allOf (map bounded (fieldsOf k)))
+bounded-fields k other =
+    ⊎-elim (λ key. absurd (T-not (among k keyKinds) other key)) (λ b. b)
+    (or-yes (among k keyKinds) _ (every-kind (λ j. among j keyKinds || allOf (map bounded (fieldsOf j))) tt k))
+
+pub record-room : (k : Kind) → T (not (among k keyKinds)) → length (name k) + fieldRoom (fieldsOf k) + 5 ≤ longestBounded
+record-room k other =
+    leb→le (length (name k) + fieldRoom (fieldsOf k) + 5) longestBounded
+    (⊎-elim (λ key. absurd (T-not (among k keyKinds) other key)) (λ b. b)
+    (or-yes (among k keyKinds) _ (every-kind (λ j. among j keyKinds || leb (length (name j) + fieldRoom (fieldsOf j) + 5) longestBounded) tt k)))
 
 -- ---- the rows of identities and of public keys
 
 pub identity-row : (k : Kind) → T (among k identityKinds)
     → (mark k ≡ code ":") × (fieldsOf k ≡ identityFields) × (length (name k) + fieldRoom (fieldsOf k) + 5 ≤ longestIdentity)
-identity-row = all-among _ identityKinds ((refl, refl, lit≤ tt), ((refl, refl, lit≤ tt), ((refl, refl, lit≤ tt), tt)))
+    × T (not (among k keyKinds))
+identity-row = all-among _ identityKinds ((refl, refl, lit≤ tt, tt), ((refl, refl, lit≤ tt, tt), ((refl, refl, lit≤ tt, tt), tt)))
 
 pub pubkey-row : (k : Kind) → T (among k pubkeyKinds) → (ks : List Kind) × (fieldsOf k ≡ pubkeyFields ks)
 pubkey-row = all-among _ pubkeyKinds ((SMMAN ∷ [], refl), ((SMID ∷ KMCID ∷ [], refl), tt))

@@ -1,29 +1,21 @@
--- How a record is built, and what may be built: document 01, "Seven kinds of record"; STS 600-4-2, clauses 5.7.1 (DFCONCAT)
--- and 5.8.1 (BUILD-RECORD).
+-- How a record is built, and what may be built: document 01, "Seven kinds of record", and document 02, E1; STS 600-4-2, clause 5.8.1
+-- (BUILD-RECORD).
 -- Assumes nothing.
 use Prim.Native.Nat.{ℕ}
 use mathlib.Core.Path.{_≡_}
 use mathlib.Core.Logic.{_⊎_}
 use mathlib.Core.Bool.{Bool, true, false, not, _||_, Bool·beq}
 use mathlib.Core.List.{List, [], _∷_, _++_}
-use lib.ListN.{getD}
-use lib.Dec.{T}
+use lib.ListN.{length, getD}
+use lib.Dec.{T, leb}
 use Rattle.crc16.specs.Crc.{crcOf}
-use Rattle.text.specs.Text.{Bytes, without, isOf}
+use Rattle.text.specs.Text.{Bytes, isOf, isPrintable}
 use Rattle.text.specs.Base16.{checkText}
-use Rattle.format.specs.Kinds.{Kind, Field, Text, Identity, OrEmpty, name, mark, fieldsOf, identityKinds, pubkeyKinds, among}
+pub use Rattle.format.specs.Parts.{joined, WithoutAll}
+use Rattle.format.specs.Kinds.{Kind, Field, Text, Printable, Identity, OrEmpty, name, mark, fieldsOf, identityKinds, pubkeyKinds, keyKinds, among}
+use Rattle.format.specs.Attributes.{areAttributes}
 
 -- ---- the build rules
-
--- DFCONCAT: each part, and the mark after it
-abbrev pub joined : ℕ → List Bytes → Bytes
-joined m [] = []
-joined m (f ∷ fs) = f ++ m ∷ joined m fs
-
--- no part has the byte m in it, so that what is joined can be cut again
-abbrev pub WithoutAll : ℕ → List Bytes → Type 0
-WithoutAll m [] = Unit {0}
-WithoutAll m (f ∷ fs) = T (without m f) × WithoutAll m fs
 
 -- R and then BASE16 of its check
 unfoldable pub withCheck : Bytes → Bytes
@@ -42,6 +34,7 @@ empty (c ∷ s) = false
 -- the field f holds what t says, where I k says what the identities of kind k are
 unfoldable pub Fits : (Kind → Bytes → Type 0) → Field → Bytes → Type 0
 Fits I (Text t) f = T (isOf t f)
+Fits I Printable f = T (isPrintable f)
 Fits I (Identity ks) f = (k : Kind) × T (among k ks) × I k f
 Fits I (OrEmpty t) f = T (empty f) ⊎ Fits I t f
 
@@ -56,9 +49,19 @@ FitAll I (t ∷ ts) (f ∷ fs) = Fits I t f × FitAll I ts fs
 abbrev pub paired : Kind → List Bytes → Bool
 paired k fs = not (among k pubkeyKinds) || Bool·beq (empty (getD fs 3 [])) (empty (getD fs 4 []))
 
+-- the Attributes, field 2 of a wrapped key, are a list that is permitted
+abbrev pub attributed : Kind → List Bytes → Bool
+attributed k fs = not (among k keyKinds) || areAttributes (getD fs 1 [])
+
+-- document 01's limit of what is read, and document 02's of a wrapped key that is built; every other kind's own is lower
+abbrev pub longestRecord : ℕ
+longestRecord = 1024
+
 pub record PermittedOver (I : Kind → Bytes → Type 0) (k : Kind) (fs : List Bytes) : Type 0 where
   pub fit : FitAll I (fieldsOf k) fs
   pub both : T (paired k fs)
+  pub attributes : T (attributed k fs)
+  pub short : T (leb (length (recordOf k fs)) longestRecord)
 
 -- s is the record of the fields fs, which are permitted for the kind k, which is one of ks
 pub record BuiltOver (I : Kind → Bytes → Type 0) (ks : List Kind) (s : Bytes) (k : Kind) (fs : List Bytes) : Type 0 where

@@ -1,4 +1,6 @@
+pub mod Parts
 pub mod Kinds
+pub mod Attributes
 pub mod Build
 pub mod Read
 pub mod Files

@@ -1,5 +1,5 @@
 -- How a record is read: document 01, "Numbers given back", order when reading: 1, 2, 3, 4, 5, then fields left to right (6, or 7
--- before 9), then 8; STS 600-4-2, clause 5.8.2 (PARSE-RECORD).
+-- before 9), then 8; document 02, E1: then 14; STS 600-4-2, clause 5.8.2 (PARSE-RECORD).
 -- Assumes nothing.
 use Prim.Native.Nat.{ℕ, zero, suc, _-_}
 use Prim.Native.Char.{code}
@@ -9,11 +9,12 @@ use mathlib.Core.List.{List, [], _∷_}
 use lib.ListN.{length, take, drop}
 use lib.Dec.{leb, eqb}
 use Rattle.crc16.specs.Crc.{crcOf}
-use Rattle.text.specs.Text.{Bytes, same, oneOf, ascii, isHex, isOf}
+use Rattle.text.specs.Text.{Bytes, same, oneOf, ascii, isHex, isOf, isPrintable}
 use Rattle.text.specs.Base16.{checkText}
-use Rattle.numbers.specs.Numbers.{tooLong, unknownKind, missingCheck, wrongCheck, wrongCount, wrongText, wrongIdentity, unpaired, wrongKind}
-use Rattle.format.specs.Kinds.{Kind, Field, Text, Identity, OrEmpty, name, mark, fieldsOf, identityKinds, recordKinds, among}
-use Rattle.format.specs.Build.{empty, paired}
+use Rattle.numbers.specs.Numbers.{tooLong, unknownKind, missingCheck, wrongCheck, wrongCount, wrongText, wrongIdentity, unpaired, wrongKind, wrongAttributes}
+pub use Rattle.format.specs.Parts.{lastOr, endsIn, onFirst, cut}
+use Rattle.format.specs.Kinds.{Kind, Field, Text, Printable, Identity, OrEmpty, name, mark, fieldsOf, identityKinds, recordKinds, among}
+use Rattle.format.specs.Build.{empty, paired, attributed, longestRecord}
 
 -- ---- what a call says: the kind and the fields, or the number of the refusal and of the field
 
@@ -72,16 +73,6 @@ body s = take (length s - 4) s
 abbrev pub check : Bytes → Bytes
 check s = drop (length s - 4) s
 
--- the last byte of s, or c if there is none
-abbrev pub lastOr : ℕ → Bytes → ℕ
-lastOr c [] = c
-lastOr c (d ∷ s) = lastOr d s
-
--- m is the last byte of s; no bytes have no last one
-abbrev pub endsIn : ℕ → Bytes → Bool
-endsIn m [] = false
-endsIn m (c ∷ s) = eqb (lastOr c s) m
-
 -- the number that the check of s is answered, where the mark is m: 3 where the last four bytes are not HEX(4) or the byte before them is not
 -- there or not the mark, 4 where the check differs
 unfoldable pub checkNo : ℕ → Bytes → ℕ
@@ -90,20 +81,11 @@ checkNo m s =
     (cond (same (check s) (checkText (crcOf (body s)))) 0 wrongCheck)
     missingCheck
 
--- the parts that the mark m ends; what no mark ends is a part too
-abbrev pub onFirst : ℕ → List Bytes → List Bytes
-onFirst c [] = (c ∷ []) ∷ []
-onFirst c (f ∷ fs) = (c ∷ f) ∷ fs
-
-abbrev pub cut : ℕ → Bytes → List Bytes
-cut m [] = []
-cut m (c ∷ s) = cond (eqb c m) ([] ∷ cut m s) (onFirst c (cut m s))
-
 -- the fields: the parts of the body but for the first, which is the kind's name
 abbrev pub fieldsIn : Kind → Bytes → List Bytes
 fieldsIn k s = drop 1 (cut (mark k) (body s))
 
--- ---- numbers 6, 7 and 9: one field, and 8: the fields together
+-- ---- numbers 6, 7 and 9: one field, and 8 and 14: the fields together
 
 -- an identity to which the identity call says o, where the kinds ks are permitted
 unfoldable pub identityAnswer : List Kind → Outcome → ℕ
@@ -113,6 +95,7 @@ identityAnswer ks (accepted k fs) = cond (among k ks) 0 wrongKind
 -- what a field is answered, 0 if nothing is wrong; `ask` is the identity call
 unfoldable pub fieldAnswer : (Bytes → Outcome) → Field → Bytes → ℕ
 fieldAnswer ask (Text t) f = cond (isOf t f) 0 wrongText
+fieldAnswer ask Printable f = cond (isPrintable f) 0 wrongText
 fieldAnswer ask (Identity ks) f = identityAnswer ks (ask f)
 fieldAnswer ask (OrEmpty t) f = cond (empty f) 0 (fieldAnswer ask t f)
 
@@ -124,7 +107,7 @@ each ask i (t ∷ ts) (f ∷ fs) o = passing (fieldAnswer ask t f) i (each ask (
 
 -- what the fields together are answered
 unfoldable pub wholeAnswer : Kind → List Bytes → ℕ
-wholeAnswer k fs = cond (paired k fs) 0 unpaired
+wholeAnswer k fs = cond (paired k fs) (cond (attributed k fs) 0 wrongAttributes) unpaired
 
 -- the fields fs of a record of kind k: each of them, and then all together
 unfoldable pub judged : (Bytes → Outcome) → Kind → List Bytes → Outcome → Outcome
@@ -143,7 +126,7 @@ readAs ask s k =
 -- a call that reads the kinds ks
 unfoldable pub readOver : (Bytes → Outcome) → List Kind → Bytes → Outcome
 readOver ask ks s =
-    provided (leb (length s) 1024) tooLong
+    provided (leb (length s) longestRecord) tooLong
     (ofKind (kindIn ks (title s) (markAfter s)) (readAs ask s))
 
 -- whom the identity call asks: an identity has no identity in it

@@ -1,4 +1,4 @@
--- The numbers given back: document 01, "Numbers given back". 0 is accepted.
+-- The numbers given back: document 01, "Numbers given back", and document 02. 0 is accepted.
 -- Assumes nothing.
 use Prim.Native.Nat.{ℕ}
 
@@ -40,3 +40,6 @@ missingItem = 12
 
 abbrev pub notAlike : ℕ
 notAlike = 13
+
+abbrev pub wrongAttributes : ℕ
+wrongAttributes = 14

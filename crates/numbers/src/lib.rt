@@ -1,4 +1,4 @@
-// The numbers given back: document 01, "Numbers given back". specs/Numbers.antt has them for definitions.
+// The numbers given back: document 01, "Numbers given back", and document 02. specs/Numbers.antt has them for definitions.
 
 pub const ACCEPTED: u8 = 0;
 
@@ -27,3 +27,5 @@ pub const UNFINISHED: u8 = 11;
 pub const MISSING_ITEM: u8 = 12;
 
 pub const NOT_ALIKE: u8 = 13;
+
+pub const WRONG_ATTRIBUTES: u8 = 14;

@@ -10,11 +10,11 @@ use lib.ListN.{length, take, drop, take-append-drop}
 use lib.Seq.{drop-drop}
 use lib.Dec.{T, eqb, eqb→eq}
 use mir.Facts.{and-yes, yes-and}
-use Rattle.text.specs.Text.{Bytes, ascii, oneOf, every, part, decimal, fits, looks, numberFrom, number, isTimestamp}
+use Rattle.text.specs.Text.{Bytes, ascii, after, oneOf, every, part, decimal, fits, looks, numberFrom, number, isTimestamp}
 use Rattle.text.proofs.Tests.{cond-yes, cond-no, between-low, between-high}
 use Rattle.text.proofs.Loops.{looks-pairwise, pairwise-length}
 use Rattle.text.proofs.Types.{stamp, timestamp-looks}
-use Rattle.text.specs.Later.{instant, after, later}
+use Rattle.text.specs.Later.{instant, later}
 use Rattle.text.proofs.Order.{by-order, after-less, after-equal, after-more, after-itself, after-one-way, after-neither}
 
 -- ---- digits: two numbers of as many digits compare as their digits do

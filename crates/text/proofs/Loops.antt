@@ -81,3 +81,11 @@ year-twice (a ∷ []) h = absurd (omega arith)
 year-twice (a ∷ b ∷ []) h = absurd (omega arith)
 year-twice (a ∷ b ∷ c ∷ []) h = absurd (omega arith)
 year-twice (a ∷ b ∷ c ∷ d ∷ s) h = omega arith
+
+pub number-three : (s : Bytes) → length s ≡ 3 → number s ≡ 10 * number (part 0 2 s) + (getD s 2 0 - 48)
+unfolding numberFrom
+number-three [] h = absurd (omega arith)
+number-three (a ∷ []) h = absurd (omega arith)
+number-three (a ∷ b ∷ []) h = absurd (omega arith)
+number-three (a ∷ b ∷ c ∷ []) h = omega arith
+number-three (a ∷ b ∷ c ∷ d ∷ s) h = absurd (omega arith)

@@ -11,9 +11,8 @@ use lib.ListN.{length, drop, getD, drop-of-length-le}
 use lib.Seq.{drop-cons}
 use lib.Dec.{ltb}
 use borrow.Author.Tests.{lt-ltb, le-ltb, eq-eqb, ne-eqb}
-use Rattle.text.specs.Text.{Bytes}
+use Rattle.text.specs.Text.{Bytes, after}
 use Rattle.text.proofs.Tests.{less-or}
-use Rattle.text.specs.Later.{after}
 
 pub by-order {ℓ} : {X : Type ℓ} (x y : ℕ) → (x < y → X) → (x ≡ y → X) → (y < x → X) → X
 by-order x y f g h = less-or x y f (λ l. less-or y x h (λ k. g (omega arith)))

@@ -1,16 +1,16 @@
 -- What holds of every text type: its characters are all ident characters, so that it has no mark and no line feed in it, and
 -- its length is one that the type admits.
 -- Assumes nothing.
-use Prim.Native.Nat.{ℕ}
+use Prim.Native.Nat.{ℕ, _%_, _<_}
 use mathlib.Core.Path.{_≡_, sym, subst}
 use mathlib.Core.Logic.{_⊎_, inl, inr}
-use mathlib.Core.Bool.{true, not, _&&_, _||_}
+use mathlib.Core.Bool.{Bool, true, not, _&&_, _||_}
 use mathlib.Core.List.{[], _∷_}
 use native.Mathlib.Omega.{arith}
-use lib.Dec.{T, T-not, leb, eqb, eqb→eq, le→leb}
+use lib.Dec.{T, T-not, leb, eqb, eqb→eq, leb→le, le→leb}
 use lib.ListN.{length, take, drop, getD}
 use mir.Facts.{and-yes, yes-and, or-yes}
-use Rattle.text.specs.Text.{Bytes, ascii, between, oneOf, every, without, same, decimal, hexadecimal, alphanumeric, identCharacter, longestIdent, isIdent, fits, looks, isTimestamp, isHex, isPoint, TextType, Ident, Timestamp, Point, Sig, Mac, Print, Hex, isOf, shortest, longest}
+use Rattle.text.specs.Text.{Bytes, ascii, between, oneOf, every, without, same, decimal, hexadecimal, alphanumeric, identCharacter, longestIdent, isIdent, fits, looks, isTimestamp, sized, isDigits, isAlphanumeric, printable, isPrintable, isProtected, isHex, isPoint, TextType, Ident, Timestamp, Point, Sig, Mac, Print, Protected, Hex, isOf, shortest, longest}
 use Rattle.text.proofs.Tests.{one-of, or-left, or-right, by-test, cond-yes, cond-no, between-low, between-high, every-mono}
 use Rattle.text.proofs.Loops.{looks-pairwise, pairwise-length}
 
@@ -35,13 +35,32 @@ hexadecimal-ident c t = go (or-yes (decimal c) (between 65 70 c) t)
 
 -- ---- each type is a text of ident characters
 
+sized-length : (n : ℕ) (p : ℕ → Bool) (s : Bytes) → T (sized n p s) → length s ≡ n
+sized-length n p s t = eqb→eq (length s) n (and-yes (eqb (length s) n) (every p s) t .0)
+
+pub digits-length : (n : ℕ) (s : Bytes) → T (isDigits n s) → length s ≡ n
+unfolding isDigits
+digits-length n s t = sized-length n decimal s t
+
+pub alphanumeric-length : (n : ℕ) (s : Bytes) → T (isAlphanumeric n s) → length s ≡ n
+unfolding isAlphanumeric
+alphanumeric-length n s t = sized-length n alphanumeric s t
+
 pub hex-length : (n : ℕ) (s : Bytes) → T (isHex n s) → length s ≡ n
 unfolding isHex
-hex-length n s t = eqb→eq (length s) n (and-yes (eqb (length s) n) (every hexadecimal s) t .0)
+hex-length n s t = sized-length n hexadecimal s t
 
 pub hex-characters : (n : ℕ) (s : Bytes) → T (isHex n s) → T (every hexadecimal s)
 unfolding isHex
 hex-characters n s t = and-yes (eqb (length s) n) (every hexadecimal s) t .1
+
+pub printable-characters : (s : Bytes) → T (isPrintable s) → T (every printable s)
+unfolding isPrintable
+printable-characters s t = and-yes (leb 1 (length s)) (every printable s) t .1
+
+pub printable-some : (s : Bytes) → T (isPrintable s) → 0 < length s
+unfolding isPrintable
+printable-some s t = leb→le 1 (length s) (and-yes (leb 1 (length s)) (every printable s) t .0)
 
 hex-plain : (n : ℕ) (s : Bytes) → T (isHex n s) → T (every identCharacter s)
 hex-plain n s t = every-mono hexadecimal identCharacter hexadecimal-ident s (hex-characters n s t)
@@ -49,6 +68,17 @@ hex-plain n s t = every-mono hexadecimal identCharacter hexadecimal-ident s (hex
 pub point-hex : (s : Bytes) → T (isPoint s) → T (isHex 194 s)
 unfolding isPoint
 point-hex s t = and-yes (isHex 194 s) (same (take 2 s) (ascii "04")) t .0
+
+protected-plain : (s : Bytes) → T (isProtected s) → T (every identCharacter s)
+unfolding isProtected
+protected-plain s t =
+    let t₁ = and-yes (between 32 72 (length s)) (eqb (length s % 2) 0 && (every hexadecimal s && true)) t .1 in
+    let t₂ = and-yes (eqb (length s % 2) 0) (every hexadecimal s && true) t₁ .1 in
+    every-mono hexadecimal identCharacter hexadecimal-ident s (and-yes (every hexadecimal s) true t₂ .0)
+
+protected-length : (s : Bytes) → T (isProtected s) → T (between 32 72 (length s))
+unfolding isProtected
+protected-length s t = and-yes (between 32 72 (length s)) (eqb (length s % 2) 0 && (every hexadecimal s && true)) t .0
 
 ident-plain : (s : Bytes) → T (isIdent s) → T (every identCharacter s)
 unfolding isIdent
@@ -96,16 +126,19 @@ plain Point s h = hex-plain 194 s (point-hex s h)
 plain Sig s h = hex-plain 192 s h
 plain Mac s h = hex-plain 48 s h
 plain Print s h = hex-plain 16 s h
+plain Protected s h = protected-plain s h
 plain (Hex n) s h = hex-plain n s h
 
--- ---- so no byte m that is no ident character stands in it
+-- ---- so no byte m that is no such character stands in it
+
+pub every-without : (p : ℕ → Bool) (m : ℕ) → T (not (p m)) → (s : Bytes) → T (every p s) → T (without m s)
+every-without p m h s k = every-mono p (λ c. not (eqb c m)) other s k
+  where
+    other : (c : ℕ) → T (p c) → T (not (eqb c m))
+    other c t = by-test (eqb c m) (λ e. absurd (T-not (p m) h (subst (λ (x : ℕ). T (p x)) (eqb→eq c m e) t))) (λ e. e)
 
 pub plain-without : (m : ℕ) → T (not (identCharacter m)) → (s : Bytes) → T (every identCharacter s) → T (without m s)
-plain-without m h s k = every-mono identCharacter (λ c. not (eqb c m)) other s k
-  where
-    other : (c : ℕ) → T (identCharacter c) → T (not (eqb c m))
-    other c t =
-        by-test (eqb c m) (λ e. absurd (T-not (identCharacter m) h (subst (λ (x : ℕ). T (identCharacter x)) (eqb→eq c m e) t))) (λ e. e)
+plain-without = every-without identCharacter
 
 -- ---- lengths
 
@@ -119,4 +152,5 @@ lengths Point s h = exactly 194 s (hex-length 194 s (point-hex s h))
 lengths Sig s h = exactly 192 s (hex-length 192 s h)
 lengths Mac s h = exactly 48 s (hex-length 48 s h)
 lengths Print s h = exactly 16 s (hex-length 16 s h)
+lengths Protected s h = protected-length s h
 lengths (Hex n) s h = exactly n s (hex-length n s h)

@@ -1,13 +1,13 @@
--- The text types: document 01, "Text types"; STS 600-4-2, clauses 5.1.1, 5.1.3 and 5.1.4.
+-- The text types: document 01, "Text types", and document 02, E1; STS 600-4-2, clauses 5.1.1 to 5.1.4, 7.5 and Appendix B.
 -- A text is a list of bytes, and a type is a test of texts.
 -- Assumes nothing.
-use Prim.Native.Nat.{ℕ, _+_, _-_, _*_}
+use Prim.Native.Nat.{ℕ, _+_, _-_, _*_, _%_}
 use Prim.Native.String.{String}
 use Prim.Native.Char.{code}
 use mathlib.Core.Bool.{Bool, true, false, cond, not, _&&_, _||_}
 use mathlib.Core.List.{List, [], _∷_}
 use lib.ListN.{length, take, drop, getD}
-use lib.Dec.{leb, eqb}
+use lib.Dec.{leb, ltb, eqb}
 
 abbrev pub Bytes : Type 0
 Bytes = List ℕ
@@ -44,6 +44,12 @@ same [] (d ∷ t) = false
 same (c ∷ s) [] = false
 same (c ∷ s) (d ∷ t) = eqb c d && same s t
 
+-- the order in which the first part that differs decides: the first list stands behind the second
+abbrev pub after : List ℕ → List ℕ → Bool
+after [] ys = false
+after (x ∷ xs) [] = true
+after (x ∷ xs) (y ∷ ys) = ltb y x || (eqb x y && after xs ys)
+
 -- the n bytes from place i on
 abbrev pub part : ℕ → ℕ → Bytes → Bytes
 part i n s = take n (drop i s)
@@ -58,6 +64,23 @@ hexadecimal c = decimal c || between (code "A") (code "F") c
 
 abbrev pub alphanumeric : ℕ → Bool
 alphanumeric c = decimal c || (between (code "A") (code "Z") c || between (code "a") (code "z") c)
+
+-- x20 to x7E, but not the mark of the records that have printable fields: no field has its record's mark in it (clause 5.7.1)
+abbrev pub printable : ℕ → Bool
+printable c = between 0x20 0x7E c && not (eqb c (code "|"))
+
+-- ---- sizes (clause 5.1.2): n characters of an alphabet
+
+abbrev pub sized : ℕ → (ℕ → Bool) → Bytes → Bool
+sized n p s = eqb (length s) n && every p s
+
+-- nD
+unfoldable pub isDigits : ℕ → Bytes → Bool
+isDigits n s = sized n decimal s
+
+-- nAN
+unfoldable pub isAlphanumeric : ℕ → Bytes → Bool
+isAlphanumeric n s = sized n alphanumeric s
 
 -- ---- IDENT (clause 5.1.3)
 
@@ -128,7 +151,7 @@ isTimestamp s = allOf (timestampTests s)
 -- ---- HEX(n) and what is made of it
 
 unfoldable pub isHex : ℕ → Bytes → Bool
-isHex n s = eqb (length s) n && every hexadecimal s
+isHex n s = sized n hexadecimal s
 
 unfoldable pub isPoint : Bytes → Bool
 isPoint s = isHex 194 s && same (take 2 s) (ascii "04")
@@ -142,10 +165,24 @@ isMac s = isHex 48 s
 abbrev pub isPrint : Bytes → Bool
 isPrint s = isHex 16 s
 
--- ---- the seven types by name, for what is said of all of them
+-- ---- what a wrapped key has beside them (clause 7.5, Appendix B)
+
+-- P: at least one character
+unfoldable pub isPrintable : Bytes → Bool
+isPrintable s = leb 1 (length s) && every printable s
+
+-- a protected key: a key of at most 160 bits and a tag of 128, two characters for eight bits
+unfoldable pub isProtected : Bytes → Bool
+isProtected s = allOf (between 32 72 (length s) ∷ eqb (length s % 2) 0 ∷ every hexadecimal s ∷ [])
+
+-- 3D, in the range 0-255
+unfoldable pub isOctet : Bytes → Bool
+isOctet s = isDigits 3 s && leb (number s) 255
+
+-- ---- the types of ident characters by name, for what is said of all of them
 
 pub data TextType : Type 0 where
-  Ident Timestamp Point Sig Mac Print : TextType
+  Ident Timestamp Point Sig Mac Print Protected : TextType
   Hex : ℕ → TextType
 
 abbrev pub isOf : TextType → Bytes → Bool
@@ -155,6 +192,7 @@ isOf Point s = isPoint s
 isOf Sig s = isSig s
 isOf Mac s = isMac s
 isOf Print s = isPrint s
+isOf Protected s = isProtected s
 isOf (Hex n) s = isHex n s
 
 -- the lengths that a type admits
@@ -165,6 +203,7 @@ shortest Point = 194
 shortest Sig = 192
 shortest Mac = 48
 shortest Print = 16
+shortest Protected = 32
 shortest (Hex n) = n
 
 abbrev pub longest : TextType → ℕ
@@ -174,4 +213,5 @@ longest Point = 194
 longest Sig = 192
 longest Mac = 48
 longest Print = 16
+longest Protected = 72
 longest (Hex n) = n

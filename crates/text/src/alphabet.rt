@@ -1,12 +1,15 @@
-// The alphabets of STS 600-4-2, clauses 5.1.1 and 5.1.3.
+// The alphabets of STS 600-4-2, clauses 5.1.1 and 5.1.3, and texts of n characters (clause 5.1.2).
 ghost use mathlib.Core.Path.{_≡_};
-ghost use Rattle.text.specs.Text.{between, decimal, hexadecimal, alphanumeric, identCharacter, every};
+ghost use Rattle.text.specs.Text.{between, decimal, hexadecimal, alphanumeric, identCharacter, printable, every, sized};
 ghost use Rattle.text.specs.Steps.{belongs};
 
 // The alphabets that a whole text is held to.
 pub(crate) enum Alphabet {
     Hexadecimal,
     Ident,
+    Decimal,
+    Alphanumeric,
+    Printable,
 }
 
 // low to high, both included.
@@ -70,12 +73,25 @@ fn is_ident_character(c: u8) -> bool
     c == b','
 }
 
+// x20 to x7E without '|'.
+fn is_printable(c: u8) -> bool
+    ensures { λ r. ⌜ r ≡ printable c ⌝ }
+{
+    if !is_from_to(0x20, 0x7E, c) {
+        return false;
+    }
+    c != b'|'
+}
+
 fn does_belong(alphabet: Alphabet, c: u8) -> bool
     ensures { λ r. ⌜ r ≡ belongs alphabet c ⌝ }
 {
     match alphabet {
         Alphabet::Hexadecimal => is_hexadecimal(c),
         Alphabet::Ident => is_ident_character(c),
+        Alphabet::Decimal => is_decimal(c),
+        Alphabet::Alphanumeric => is_alphanumeric(c),
+        Alphabet::Printable => is_printable(c),
     }
 }
 
@@ -90,4 +106,14 @@ pub(crate) fn all_belong(alphabet: Alphabet, s: &[u8]) -> bool
         i += 1;
     }
     all
+}
+
+// Exactly n characters, all of them of the alphabet.
+pub(crate) fn is_sized(n: usize, alphabet: Alphabet, s: &[u8]) -> bool
+    ensures { λ r. ⌜ r ≡ sized n (belongs alphabet) (now (s .entry)) ⌝ }
+{
+    if s.len() != n {
+        return false;
+    }
+    all_belong(alphabet, s)
 }

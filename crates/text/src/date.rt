@@ -2,8 +2,7 @@
 ghost use mathlib.Core.Path.{_≡_};
 ghost use Prim.Native.Nat.{_+_, _-_, _≤_, _<_};
 ghost use lib.ListN.{length};
-ghost use Rattle.text.specs.Text.{between, fits, looks, number, part, year, isTimestamp};
-ghost use Rattle.text.specs.Later.{after};
+ghost use Rattle.text.specs.Text.{after, between, fits, looks, number, part, year, isTimestamp};
 
 // The byte c stands where a pattern has p: T and Z for themselves, any other letter for a digit.
 fn does_fit(p: u8, c: u8) -> bool
@@ -35,7 +34,7 @@ fn looks_like(pattern: &[u8], s: &[u8]) -> bool
 }
 
 // What a digit stands for; 0 for a byte below '0'.
-fn digit(c: u8) -> usize
+pub(crate) fn digit(c: u8) -> usize
     ensures { λ r. ⌜ (r ≡ c - 48) × (r < 256) ⌝ }
 {
     if c < b'0' {
@@ -45,7 +44,7 @@ fn digit(c: u8) -> usize
 }
 
 // The number in two digits from place i on.
-fn two(s: &[u8], i: usize) -> usize
+pub(crate) fn two(s: &[u8], i: usize) -> usize
     requires { ⌜ i + 2 ≤ length (now s) ⌝ }
     ensures { λ r. ⌜ (r ≡ number (part i 2 (now (s .entry)))) × (r < 2816) ⌝ }
 {

@@ -1,14 +1,20 @@
-// The text types of document 01 and the conversions between hexadecimal characters and values. Each call takes any
+// The text types of documents 01 and 02 and the conversions between hexadecimal characters and values. Each call takes any
 // slice and answers; none has a `requires`. There is no table of digits.
 mod alphabet;
 mod base16;
 mod date;
+mod wrapped;
 
 pub use base16::check_text;
 pub use base16::hex_digit;
 pub use base16::hex_value;
 pub use date::is_later;
 pub use date::is_timestamp;
+pub use wrapped::is_alphanumeric;
+pub use wrapped::is_digits;
+pub use wrapped::is_octet;
+pub use wrapped::is_printable;
+pub use wrapped::is_protected;
 ghost use mathlib.Core.Path.{_≡_};
 ghost use Rattle.text.specs.Text.{same, isIdent, isHex, isPoint, isSig, isMac, isPrint};
 
@@ -49,10 +55,7 @@ pub fn is_ident(s: &[u8]) -> bool
 pub fn is_hex(n: usize, s: &[u8]) -> bool
     ensures { λ r. ⌜ r ≡ isHex n (now (s .entry)) ⌝ }
 {
-    if s.len() != n {
-        return false;
-    }
-    alphabet::all_belong(alphabet::Alphabet::Hexadecimal, s)
+    alphabet::is_sized(n, alphabet::Alphabet::Hexadecimal, s)
 }
 
 // POINT: HEX(194) that begins with "04".

@@ -3,7 +3,7 @@
 use Prim.Native.Nat.{_-_}
 use mathlib.Core.Path.{_≡_, refl, sym, _∙_}
 use lib.ListN.{length, drop}
-use Rattle.text.specs.Later.{after}
+use Rattle.text.specs.Text.{after}
 use Rattle.text.proofs.Order.{turn-longer, turn-apart, turn-on, turn-end}
 use borrow.Author.Needs.{needs}
 use Rattle.text.proofs.date.is_later.Statement.{statement}
