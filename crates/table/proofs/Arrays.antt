@@ -68,7 +68,7 @@ module _ (row j : ℕ) (h : j < countOf row) where
   unfolding ofRow
   types = rw (getD-take rowCount (places 0 (map fieldsOf allKinds)) row 0 row-there) (piece (map fieldsOf allKinds) row row-there)
 
-  pub type-within : getD firsts row 0 + j < 33
+  pub type-within : getD firsts row 0 + j < 36
   unfolding flatten
   type-within = omega (arith, piece-length types, count-fields row, types .from-to, types .to-end)
 

@@ -8,9 +8,9 @@ use native.Mathlib.Omega.{arith}
 use lib.ListN.{length, List·getD-eq-default}
 use lib.Dec.{T, leb, eqb, eqb→eq}
 use borrow.Author.Tests.{ne-eqb, lt-leb}
-use Rattle.text.specs.Text.{between, TextType, Ident, Timestamp, Point, Sig, Mac, Print, Hex}
+use Rattle.text.specs.Text.{between, TextType, Ident, Timestamp, Point, Sig, Mac, Print, Protected, Hex}
 use Rattle.text.proofs.Tests.{less-or, allBelow, below}
-use Rattle.format.specs.Kinds.{Kind, Field, Text, Identity, OrEmpty}
+use Rattle.format.specs.Kinds.{Kind, Field, Text, Printable, Identity, OrEmpty}
 use Rattle.table.specs.Table.{rowOf, fieldTypes, fieldType, isIdentity, mayBeEmpty, permitted}
 use Rattle.table.proofs.Rows.{same-bools}
 
@@ -33,7 +33,7 @@ by-code p q t r c =
 
 pub identity-codes : (code : ℕ) → between 6 10 code ≡ isIdentity (fieldType code)
 unfolding allBelow fieldType
-identity-codes code = by-code isIdentity (between 6 10) tt (λ c h. rw (lt-leb c 10 h) (and-false (leb 6 c))) code
+identity-codes code = by-code isIdentity (between 6 10) tt (λ c h. rw (lt-leb c 10 (omega arith)) (and-false (leb 6 c))) code
 
 pub empty-codes : (code : ℕ) → (eqb code 5 || eqb code 10) ≡ mayBeEmpty (fieldType code)
 unfolding allBelow fieldType
@@ -41,6 +41,7 @@ empty-codes code = by-code mayBeEmpty (λ c. eqb c 5 || eqb c 10) tt (λ c h. rw
 
 no-kinds : (t : Field) → isIdentity t ≡ false → permitted t ≡ []
 no-kinds (Text t) e = refl
+no-kinds Printable e = refl
 no-kinds (Identity ks) e = absurd (let z : _≡_ {A = ℕ} 0 1 = cc in omega arith)
 no-kinds (OrEmpty t) e = no-kinds t e
 
@@ -62,7 +63,8 @@ text-code Print = 2
 text-code Point = 3
 text-code Mac = 4
 text-code Sig = 5
-text-code (Hex n) = codeCount
+text-code (Hex n) = 11
+text-code Protected = 13
 
 abbrev pub kinds-code : List Kind → ℕ
 kinds-code [] = 6
@@ -71,6 +73,7 @@ kinds-code (k ∷ ks) = rowOf k + kinds-code ks
 -- the other way round, for the types that have a code
 unfoldable pub codeOf : Field → ℕ
 codeOf (Text t) = text-code t
+codeOf Printable = 12
 codeOf (Identity ks) = kinds-code ks
 codeOf (OrEmpty t) = cond (isIdentity t) 10 (codeOf t)
 

@@ -1,4 +1,4 @@
--- The table of kinds by numbers: document 01, "Seven kinds of record". A kind is the number of its row, from 0, and a field type
+-- The table of kinds by numbers: document 01, "Seven kinds of record", and document 02, E1. A kind is the number of its row, from 0, and a field type
 -- the number of its code.
 -- Assumes nothing.
 use Prim.Native.Nat.{ℕ, _-_, _<_}
@@ -8,8 +8,8 @@ use mathlib.Core.Option.{Option, none, some}
 use mathlib.Core.List.{List, [], _∷_, map}
 use lib.ListN.{length, take, drop, getD}
 use lib.Dec.{eqb}
-use Rattle.text.specs.Text.{Bytes, same, Ident, Timestamp, Point, Sig, Mac, Print}
-use Rattle.format.specs.Kinds.{Kind, SMMAN, SMID, KMCID, ECDSA, ECDH, REQ, RESP, Field, Text, Identity, OrEmpty, name, mark, fieldsOf, recordKinds, pubkeyKinds, allKinds, among}
+use Rattle.text.specs.Text.{Bytes, same, Ident, Timestamp, Point, Sig, Mac, Print, Protected, Hex}
+use Rattle.format.specs.Kinds.{Kind, SMMAN, SMID, KMCID, ECDSA, ECDH, REQ, RESP, KEY, Field, Text, Printable, Identity, OrEmpty, name, mark, fieldsOf, recordKinds, pubkeyKinds, allKinds, among}
 
 -- ---- rows
 
@@ -21,6 +21,7 @@ rowOf ECDSA = 3
 rowOf ECDH = 4
 rowOf REQ = 5
 rowOf RESP = 6
+rowOf KEY = 7
 
 abbrev pub rowCount : ℕ
 rowCount = length allKinds
@@ -81,6 +82,9 @@ fieldTypes =
     ∷ Identity (KMCID ∷ [])
     ∷ Identity (SMID ∷ KMCID ∷ [])
     ∷ OrEmpty (Identity (SMMAN ∷ []))
+    ∷ Text (Hex 24)
+    ∷ Printable
+    ∷ Text Protected
     ∷ []
 
 -- the type of a code; IDENT for a number that is no code
@@ -97,17 +101,20 @@ pub record TypeOf (row j code : ℕ) : Type 0 where
 -- it is an identity, or may be one
 abbrev pub isIdentity : Field → Bool
 isIdentity (Text t) = false
+isIdentity Printable = false
 isIdentity (Identity ks) = true
 isIdentity (OrEmpty t) = isIdentity t
 
 abbrev pub mayBeEmpty : Field → Bool
 mayBeEmpty (Text t) = false
+mayBeEmpty Printable = false
 mayBeEmpty (Identity ks) = false
 mayBeEmpty (OrEmpty t) = true
 
 -- the kinds of identity that it permits
 abbrev pub permitted : Field → List Kind
 permitted (Text t) = []
+permitted Printable = []
 permitted (Identity ks) = ks
 permitted (OrEmpty t) = permitted t
 

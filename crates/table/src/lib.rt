@@ -1,4 +1,4 @@
-// The one table of kinds (document 01, "Seven kinds of record"): names, marks, field counts and field types, which reader
+// The one table of kinds (document 01, "Seven kinds of record", and document 02, E1): names, marks, field counts and field types, which reader
 // and builder both consult. A kind is the number of its row. Every look-up takes any number and says what it answers for
 // a row, a field or a code that is not there.
 ghost use mathlib.Core.Path.{_≡_};
@@ -26,12 +26,14 @@ pub const REQ: usize = 5;
 
 pub const RESP: usize = 6;
 
-pub const ROWS: usize = 7;
+pub const KEY: usize = 7;
+
+pub const ROWS: usize = 8;
 
 // Where there is no kind: a number that no row will ever take.
 pub const NONE: usize = 255;
 
-// ---- the fields by their numbers, from 1: an identity's, a public key's, a request's, a response's
+// ---- the fields by their numbers, from 1: an identity's, a public key's, a request's, a response's, a wrapped key's
 
 pub const IDENTITY_MANUFACTURER: usize = 1;
 
@@ -73,16 +75,22 @@ pub const RESP_TVP: usize = 3;
 
 pub const RESP_MAC_TAG: usize = 4;
 
+pub const KEY_NONCE: usize = 1;
+
+pub const KEY_ATTRIBUTES: usize = 2;
+
+pub const KEY_PROTECTED_KEY: usize = 3;
+
 // ---- the columns
 
 // The names one after another, where each starts, and where the last ends.
-const NAMES: [u8; 64] = *b"SMMAN.1SMID.1KMCID.1PK.ECDSA.1PK.ECDH.1VKLOAD.REQ.1VKLOAD.RESP.1";
+const NAMES: [u8; 69] = *b"SMMAN.1SMID.1KMCID.1PK.ECDSA.1PK.ECDH.1VKLOAD.REQ.1VKLOAD.RESP.1KEY.1";
 
-const STARTS: [usize; 8] = [0, 7, 13, 20, 30, 39, 51, 64];
+const STARTS: [usize; 9] = [0, 7, 13, 20, 30, 39, 51, 64, 69];
 
-const MARKS: [u8; 7] = [b':', b':', b':', b'|', b'|', b'|', b'|'];
+const MARKS: [u8; 8] = [b':', b':', b':', b'|', b'|', b'|', b'|', b'|'];
 
-const COUNTS: [usize; 7] = [4, 4, 4, 5, 5, 7, 4];
+const COUNTS: [usize; 8] = [4, 4, 4, 5, 5, 7, 4, 3];
 
 // ---- the field types by their codes
 
@@ -108,10 +116,16 @@ pub const ID_SMID_OR_KMCID: u8 = 9;
 
 pub const ID_SMMAN_OR_EMPTY: u8 = 10;
 
-// Where each kind's field types start.
-const FIRSTS: [usize; 7] = [0, 4, 8, 12, 17, 22, 29];
+pub const NONCE: u8 = 11;
 
-const TYPES: [u8; 33] = [
+pub const PRINTABLE: u8 = 12;
+
+pub const PROTECTED: u8 = 13;
+
+// Where each kind's field types start.
+const FIRSTS: [usize; 8] = [0, 4, 8, 12, 17, 22, 29, 33];
+
+const TYPES: [u8; 36] = [
     // SMMAN.1
     IDENT, // 1 Manufacturer
     IDENT, // 2 MID
@@ -152,6 +166,10 @@ const TYPES: [u8; 33] = [
     ID_SMID, // 2 ID_SM
     TIMESTAMP, // 3 TVP
     MAC, // 4 MacTag
+    // KEY.1
+    NONCE, // 1 Nonce
+    PRINTABLE, // 2 Attributes
+    PROTECTED, // 3 ProtectedKey
 ];
 
 // ---- what a row has
