@@ -8,7 +8,7 @@ use lib.ListN.{length}
 use borrow.Author.Tests.{le-leb, lt-leb}
 use Rattle.text.specs.Text.{Bytes}
 use Rattle.format.specs.Kinds.{Kind, name, mark, allKinds}
-use Rattle.format.specs.Build.{joined, withCheck, recordOf}
+use Rattle.format.specs.Build.{joined, withCheck, recordOf, longestRecord}
 use Rattle.format.specs.Read.{accepted, refused, passing, ofKind, judged, readIdentity}
 use Rattle.format.proofs.Parts.{record-length}
 use Rattle.table.specs.Table.{rowFor, markOf, countOf, named}
@@ -31,7 +31,7 @@ use Rattle.building.specs.Building.{sum, pieces, buildOf, build}
 use Rattle.building.specs.Steps.{countNo, placesBy, Lie}
 use Rattle.building.proofs.Pieces.{pieces-count, lie}
 use Rattle.building.proofs.Names.{named-some, name-short}
-use Rattle.building.proofs.Form.{form-found, form-counted, fromRoom, fromFields, of-form}
+use Rattle.building.proofs.Form.{form-found, form-counted, fromRoom, fromLength, fromFields, of-form}
 use Rattle.building.proofs.Writing.{joined-length}
 
 -- ---- what an outcome writes
@@ -104,16 +104,23 @@ module _ {t bytes : Bytes} {ns : List ℕ} {row no : ℕ} (b : Begun t bytes ns 
     to-fields room = to-form b room ∙ passing-on no 0 _ z ∙ ap (λ o. ofKind o (fromFields bytes ns room)) (call-kind .is)
 
     pub call-fields : (room : ℕ) → (j .no ≡ 0 → ⊥) → buildOf t bytes ns room ≡ refused (j .no) (j .field)
-    call-fields room u = to-fields room ∙ denied (call-kind .kind) (pieces ns bytes) j said u (fromRoom bytes ns room (call-kind .kind))
+    call-fields room u = to-fields room ∙ denied (call-kind .kind) (pieces ns bytes) j said u (fromLength bytes ns room (call-kind .kind))
 
-    -- ---- the room
+    -- ---- the length and the room
 
     module _ (u : j .no ≡ 0) (room : ℕ) where
-      to-room : buildOf t bytes ns room ≡ fromRoom bytes ns room (call-kind .kind)
-      to-room = to-fields room ∙ agreed (call-kind .kind) (pieces ns bytes) j said u (fromRoom bytes ns room (call-kind .kind))
+      to-length : buildOf t bytes ns room ≡ fromLength bytes ns room (call-kind .kind)
+      to-length = to-fields room ∙ agreed (call-kind .kind) (pieces ns bytes) j said u (fromLength bytes ns room (call-kind .kind))
 
-      pub call-narrow : room < length t + 1 + length bytes + length ns + 4 → buildOf t bytes ns room ≡ refused 10 0
-      call-narrow h = to-room ∙ rw (lt-leb (length (recordOf (call-kind .kind) (pieces ns bytes))) room (omega (arith, needed)))
+      pub call-long : longestRecord < length t + 1 + length bytes + length ns + 4 → buildOf t bytes ns room ≡ refused 1 0
+      call-long h = to-length ∙ rw (lt-leb (length (recordOf (call-kind .kind) (pieces ns bytes))) longestRecord (omega (arith, needed)))
 
-      pub call-fits : length t + 1 + length bytes + length ns + 4 ≤ room → buildOf t bytes ns room ≡ accepted (call-kind .kind) (pieces ns bytes)
-      call-fits h = to-room ∙ rw (le-leb (length (recordOf (call-kind .kind) (pieces ns bytes))) room (omega (arith, needed)))
+      module _ (short : length t + 1 + length bytes + length ns + 4 ≤ longestRecord) where
+        to-room : buildOf t bytes ns room ≡ fromRoom bytes ns room (call-kind .kind)
+        to-room = to-length ∙ rw (le-leb (length (recordOf (call-kind .kind) (pieces ns bytes))) longestRecord (omega (arith, needed)))
+
+        pub call-narrow : room < length t + 1 + length bytes + length ns + 4 → buildOf t bytes ns room ≡ refused 10 0
+        call-narrow h = to-room ∙ rw (lt-leb (length (recordOf (call-kind .kind) (pieces ns bytes))) room (omega (arith, needed)))
+
+        pub call-fits : length t + 1 + length bytes + length ns + 4 ≤ room → buildOf t bytes ns room ≡ accepted (call-kind .kind) (pieces ns bytes)
+        call-fits h = to-room ∙ rw (le-leb (length (recordOf (call-kind .kind) (pieces ns bytes))) room (omega (arith, needed)))

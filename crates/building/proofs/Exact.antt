@@ -11,9 +11,9 @@ use lib.Dec.{leb, eqb, eqb→eq, leb→le, le→leb}
 use mir.Facts.{and-yes, yes-and, yes-eqb}
 use Rattle.text.specs.Text.{Bytes}
 use Rattle.text.proofs.Tests.{T-true}
-use Rattle.numbers.specs.Numbers.{wrongCount, shortOutput}
+use Rattle.numbers.specs.Numbers.{tooLong, wrongCount, shortOutput}
 use Rattle.format.specs.Kinds.{Kind, name, fieldsOf, allKinds}
-use Rattle.format.specs.Build.{recordOf, IsIdentity, Permitted}
+use Rattle.format.specs.Build.{recordOf, longestRecord, IsIdentity, Permitted}
 use Rattle.format.specs.Read.{Outcome, accepted, answer, provided, readIdentity}
 use Rattle.format.proofs.Outcomes.{provided-law, ofKind-law, Honest, honest-zero}
 use Rattle.format.proofs.Fields.{fit-length, judged-law}
@@ -38,14 +38,15 @@ build-says t bytes ns room =
     let total : sum ns ≡ length bytes = eqb→eq (sum ns) (length bytes) (both .1) in
     let count : length fs ≡ length (fieldsOf k) = pieces-count ns bytes ∙ eqb→eq (length ns) (length (fieldsOf k)) (both .0) in
     judged-law readIdentity IsIdentity ask-exact P (λ n i. tt) k fs _ count
-    (λ p. provided-law P (leb (length (recordOf k fs)) room) shortOutput (accepted k fs) tt
+    (λ fit both attributes. provided-law P (leb (length (recordOf k fs)) longestRecord) tooLong _ tt
+    (λ short. provided-law P (leb (length (recordOf k fs)) room) shortOutput (accepted k fs) tt
     (λ fits. record {
       named-so = named-some allKinds t k e;
       lengths-so = sym (pieces-lengths ns bytes total);
       bytes-so = sym (pieces-run ns bytes total);
-      permitted-so = p;
+      permitted-so = record { fit = fit; both = both; attributes = attributes; short = short };
       room-so = leb→le (length (recordOf k fs)) room fits;
-    }))))
+    })))))
 
 as-permitted : (k : Kind) (fs : List Bytes) (room : ℕ) → Permitted k fs
     → buildAs (run fs) (lengths fs) room k ≡ provided (leb (length (recordOf k fs)) room) shortOutput (accepted k fs)
@@ -57,6 +58,7 @@ as-permitted k fs room p =
       T-true (eqb (length (lengths fs)) (length (fieldsOf k)) && eqb (sum (lengths fs)) (length (run fs))) counts,
       pieces-back fs,
       permitted-judged k fs _ p,
+      T-true (leb (length (recordOf k fs)) longestRecord) (p .short),
     )
 
 -- of permitted fields only the room is still asked

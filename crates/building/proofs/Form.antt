@@ -11,9 +11,9 @@ use lib.Dec.{T, leb, eqb, eqb→eq}
 use mir.Facts.{and-yes}
 use borrow.Author.Tests.{eq-eqb, ne-eqb}
 use Rattle.text.specs.Text.{Bytes}
-use Rattle.numbers.specs.Numbers.{shortOutput}
+use Rattle.numbers.specs.Numbers.{tooLong, shortOutput}
 use Rattle.format.specs.Kinds.{Kind, fieldsOf}
-use Rattle.format.specs.Build.{recordOf}
+use Rattle.format.specs.Build.{recordOf, longestRecord}
 use Rattle.format.specs.Read.{Outcome, accepted, provided, passing, ofKind, judged, readIdentity}
 use Rattle.table.specs.Table.{rowOf, missingRow, rowFor, countOf}
 use Rattle.table.proofs.Rows.{row-small, of-kind}
@@ -56,14 +56,17 @@ module _ (row : ℕ) (bytes : Bytes) (ns : List ℕ) where
         let t = and-yes a b (two-tests (eqb row missingRow) (a && b) z) in
         (eqb→eq (length ns) (countOf row) (t .0), eqb→eq (sum ns) (length bytes) (t .1))
 
--- ---- what is left is the fields and the room
+-- ---- what is left is the fields, the length and the room
 
 module _ (bytes : Bytes) (ns : List ℕ) (room : ℕ) where
   abbrev pub fromRoom : Kind → Outcome
   fromRoom k = provided (leb (length (recordOf k (pieces ns bytes))) room) shortOutput (accepted k (pieces ns bytes))
 
+  abbrev pub fromLength : Kind → Outcome
+  fromLength k = provided (leb (length (recordOf k (pieces ns bytes))) longestRecord) tooLong (fromRoom k)
+
   abbrev pub fromFields : Kind → Outcome
-  fromFields k = judged readIdentity k (pieces ns bytes) (fromRoom k)
+  fromFields k = judged readIdentity k (pieces ns bytes) (fromLength k)
 
   as-form : (k : Kind) → buildAs bytes ns room k ≡ passing (countNo (rowOf k) bytes ns) 0 (fromFields k)
   unfolding buildAs countNo

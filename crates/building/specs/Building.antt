@@ -1,5 +1,5 @@
 -- The building call: document 01, "Seven kinds of record" (last paragraphs) and "Numbers given back", order when building: 2 for a
--- kind outside the table, 5, fields left to right, 8, 10; STS 600-4-2, clause 5.8.1.
+-- kind outside the table, 5, fields left to right, 8, 10; document 02, E1: 14 after 8, and 1 just before 10; STS 600-4-2, clause 5.8.1.
 -- Assumes nothing.
 use Prim.Native.Nat.{ℕ, _+_, _≤_}
 use mathlib.Core.Path.{_≡_}
@@ -8,9 +8,9 @@ use mathlib.Core.List.{List, [], _∷_, _++_}
 use lib.ListN.{length, take, drop}
 use lib.Dec.{leb, eqb}
 use Rattle.text.specs.Text.{Bytes}
-use Rattle.numbers.specs.Numbers.{wrongCount, shortOutput}
+use Rattle.numbers.specs.Numbers.{tooLong, wrongCount, shortOutput}
 use Rattle.format.specs.Kinds.{Kind, name, fieldsOf, allKinds}
-use Rattle.format.specs.Build.{recordOf, Permitted}
+use Rattle.format.specs.Build.{recordOf, longestRecord, Permitted}
 use Rattle.format.specs.Read.{Outcome, accepted, refused, provided, ofKind, judged, readIdentity}
 use Rattle.table.specs.Table.{named}
 use Rattle.places.specs.Places.{lengths}
@@ -34,13 +34,14 @@ run (f ∷ fs) = f ++ run fs
 
 -- ---- the call
 
--- a record of kind k: number 5, the fields, 8, 10
+-- a record of kind k: number 5, the fields, 8 and 14, 1, 10
 unfoldable pub buildAs : Bytes → List ℕ → ℕ → Kind → Outcome
 buildAs bytes ns room k =
     provided (eqb (length ns) (length (fieldsOf k)) && eqb (sum ns) (length bytes)) wrongCount
     (judged readIdentity k (pieces ns bytes)
+    (provided (leb (length (recordOf k (pieces ns bytes))) longestRecord) tooLong
     (provided (leb (length (recordOf k (pieces ns bytes))) room) shortOutput
-    (accepted k (pieces ns bytes))))
+    (accepted k (pieces ns bytes)))))
 
 -- the kind name t, the bytes of the fields, their lengths, and the length of the lent output
 unfoldable pub buildOf : Bytes → Bytes → List ℕ → ℕ → Outcome

@@ -1,6 +1,6 @@
-// The building call: document 01, "Seven kinds of record" and "Numbers given back". It takes any bytes and lengths and has
-// no `requires`. The order is 2, 5, then the fields from left to right (6, or 7 before 9), then 8, then 10; nothing is
-// written before all of them are asked. The table and the tests of a field are the reader's.
+// The building call: document 01, "Seven kinds of record" and "Numbers given back", and document 02, E1. It takes any bytes
+// and lengths and has no `requires`. The order is 2, 5, then the fields from left to right (6, or 7 before 9), then 8, 14, 1
+// and 10; nothing is written before all of them are asked. The table and the tests of a field are the reader's.
 ghost use mathlib.Core.Path.{_≡_};
 ghost use mathlib.Core.List.{_∷_};
 ghost use Prim.Native.Nat.{_+_, _≤_};
@@ -134,7 +134,11 @@ pub fn build(kind: &[u8], bytes: &[u8], lens: &[usize], out: &mut [u8]) -> put::
     if judged.no != numbers::ACCEPTED {
         return put::refuse(judged.no, judged.field);
     }
-    if out.len() < kind.len() + 1 + bytes.len() + lens.len() + CHECK_LENGTH {
+    let needed = kind.len() + 1 + bytes.len() + lens.len() + CHECK_LENGTH;
+    if reading::LONGEST < needed {
+        return put::refuse(numbers::TOO_LONG, 0);
+    }
+    if out.len() < needed {
         return put::refuse(numbers::SHORT_OUTPUT, 0);
     }
     let len = put_record(out, kind, table::mark_of(row), bytes, lens, &starts, &sizes);

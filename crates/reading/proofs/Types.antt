@@ -10,9 +10,9 @@ use lib.ListN.{length, getD}
 use lib.Dec.{T, eqb, eqb·suc-zero}
 use mir.Facts.{and-yes}
 use borrow.Author.Tests.{le-leb}
-use Rattle.text.specs.Text.{Bytes, Ident, isOf}
+use Rattle.text.specs.Text.{Bytes, Ident, isIdent}
 use Rattle.text.proofs.Tests.{and-stop, cond-yes, less-or, T-false, at-every, allBelow, below}
-use Rattle.format.specs.Kinds.{Kind, Field, Text, Identity, OrEmpty, fieldsOf, identityFields, identityKinds, among}
+use Rattle.format.specs.Kinds.{Kind, Field, Text, Printable, Identity, OrEmpty, fieldsOf, identityFields, identityKinds, among}
 use Rattle.format.specs.Build.{empty}
 use Rattle.format.specs.Read.{Outcome, accepted, refused, fieldAnswer, identityAnswer, readOver, readIdentity}
 use Rattle.format.proofs.Table.{identity-row, seven-fields}
@@ -22,7 +22,7 @@ use Rattle.table.proofs.Rows.{kindAt, in-row, among-row}
 use Rattle.table.proofs.Codes.{codeCount, past-codes, identity-codes}
 use Rattle.places.proofs.Seven.{seven-at}
 use Rattle.reading.specs.Reading.{kindSaid, kindWithin, kindsWithin, kindsOf, answerOf}
-use Rattle.reading.specs.Steps.{textIn}
+use Rattle.reading.specs.Steps.{isText}
 use Rattle.reading.specs.declared.Answer.{Answer}
 use Rattle.reading.proofs.Answers.{taken, untaken}
 
@@ -38,18 +38,21 @@ module _ (ask : Bytes → Outcome) (f : Bytes) where
   pub answer-empty : (t : Field) → T (empty f) → T (mayBeEmpty t) → fieldAnswer ask t f ≡ 0
   unfolding fieldAnswer
   answer-empty (Text t) h m = absurd m
+  answer-empty Printable h m = absurd m
   answer-empty (Identity ks) h m = absurd m
   answer-empty (OrEmpty t) h m = cond-yes (empty f) 0 (fieldAnswer ask t f) h
 
   pub answer-identity : (t : Field) → (empty f && mayBeEmpty t) ≡ false → isIdentity t ≡ true → fieldAnswer ask t f ≡ identityAnswer (permitted t) (ask f)
   unfolding fieldAnswer
   answer-identity (Text t) h e = absurd (false≢true e)
+  answer-identity Printable h e = absurd (false≢true e)
   answer-identity (Identity ks) h e = refl
   answer-identity (OrEmpty t) h e = let n = sym (and-true (empty f)) ∙ h in rw n (answer-identity t (and-stop (empty f) (mayBeEmpty t) n) e)
 
-  pub answer-text : (t : Field) → (empty f && mayBeEmpty t) ≡ false → isIdentity t ≡ false → fieldAnswer ask t f ≡ cond (isOf (textIn t) f) 0 6
+  pub answer-text : (t : Field) → (empty f && mayBeEmpty t) ≡ false → isIdentity t ≡ false → fieldAnswer ask t f ≡ cond (isText t f) 0 6
   unfolding fieldAnswer
   answer-text (Text t) h e = refl
+  answer-text Printable h e = refl
   answer-text (Identity ks) h e = absurd (true≢false e)
   answer-text (OrEmpty t) h e = let n = sym (and-true (empty f)) ∙ h in rw n (answer-text t (and-stop (empty f) (mayBeEmpty t) n) e)
 
@@ -58,6 +61,7 @@ module _ (ask : Bytes → Outcome) (f : Bytes) where
 pub kind-empty : (t : Field) (f : Bytes) → T (empty f) → kindWithin t f ≡ missingRow
 unfolding kindWithin readIdentity readOver
 kind-empty (Text t) f h = refl
+kind-empty Printable f h = refl
 kind-empty (Identity ks) [] h = refl
 kind-empty (Identity ks) (c ∷ f) h = absurd h
 kind-empty (OrEmpty t) f h = kind-empty t f h
@@ -66,12 +70,14 @@ module _ (f : Bytes) where
   pub kind-identity : (t : Field) → isIdentity t ≡ true → kindWithin t f ≡ kindSaid (readIdentity f)
   unfolding kindWithin
   kind-identity (Text t) e = absurd (false≢true e)
+  kind-identity Printable e = absurd (false≢true e)
   kind-identity (Identity ks) e = refl
   kind-identity (OrEmpty t) e = kind-identity t e
 
   pub kind-text : (t : Field) → isIdentity t ≡ false → kindWithin t f ≡ missingRow
   unfolding kindWithin
   kind-text (Text t) e = refl
+  kind-text Printable e = refl
   kind-text (Identity ks) e = absurd (true≢false e)
   kind-text (OrEmpty t) e = kind-text t e
 
@@ -98,32 +104,35 @@ fields-below : (row : ℕ) → row < 3 → fieldsAt row ≡ identityFields
 unfolding allBelow
 fields-below row h = in-row fieldsOf [] row (omega arith) ∙ identity-row (kindAt row) (below 3 (λ n. among (kindAt n) identityKinds) tt row h) .1
 
-pub plain-answer : (ask : Bytes → Outcome) (row j code : ℕ) (f : Bytes) → row < 3 → TypeOf row j code → fieldAnswer ask (fieldType code) f ≡ cond (isOf (textIn (fieldType code)) f) 0 6
+pub plain-answer : (ask : Bytes → Outcome) (row j code : ℕ) (f : Bytes) → row < 3 → TypeOf row j code → fieldAnswer ask (fieldType code) f ≡ cond (isText (fieldType code) f) 0 6
 plain-answer ask row j code f h t =
     let e : fieldType code ≡ getD identityFields j (Text Ident) = t .means ∙ ap (λ (l : List Field). getD l j (Text Ident)) (fields-below row h) in
     let u = and-yes (not (isIdentity (fieldType code))) (not (mayBeEmpty (fieldType code)))
     (rw e (at-every (λ s. not (isIdentity s) && not (mayBeEmpty s)) (Text Ident) tt identityFields tt j)) in
     answer-text ask f (fieldType code) (rw (T-false (mayBeEmpty (fieldType code)) (u .1)) (and-false (empty f))) (T-false (isIdentity (fieldType code)) (u .0))
 
--- ---- a code that is none of TIMESTAMP to SIG_OR_EMPTY is as IDENT where a text is asked for
+-- ---- a code that is none of TIMESTAMP to SIG_OR_EMPTY and NONCE to PROTECTED is as IDENT where a text is asked for
 
-identity-text : (t : Field) → isIdentity t ≡ true → textIn t ≡ Ident
-identity-text (Text t) e = absurd (false≢true e)
-identity-text (Identity ks) e = refl
-identity-text (OrEmpty t) e = identity-text t e
+module _ (f : Bytes) where
+  identity-text : (t : Field) → isIdentity t ≡ true → isText t f ≡ isIdent f
+  identity-text (Text t) e = absurd (false≢true e)
+  identity-text Printable e = absurd (false≢true e)
+  identity-text (Identity ks) e = refl
+  identity-text (OrEmpty t) e = identity-text t e
 
-pub ident-code : (code : ℕ) → (code ≡ 1 → ⊥) → (code ≡ 2 → ⊥) → (code ≡ 3 → ⊥) → (code ≡ 4 → ⊥) → (code ≡ 5 → ⊥) → textIn (fieldType code) ≡ Ident
-unfolding fieldType
-ident-code code n₁ n₂ n₃ n₄ n₅ = less-or code 6 first (λ h. less-or code codeCount (identity h) past)
-  where
-    first : code < 6 → textIn (fieldType code) ≡ Ident
-    first h = let z : code ≡ 0 = omega arith in rw z
+  -- the numbers that are no such code, in three: few `≢` at a time are within `omega`'s reach
+  below-six : (code : ℕ) → (code ≡ 1 → ⊥) → (code ≡ 2 → ⊥) → (code ≡ 3 → ⊥) → (code ≡ 4 → ⊥) → (code ≡ 5 → ⊥) → code < 6 → isText (fieldType code) f ≡ isIdent f
+  unfolding fieldType
+  below-six code n₁ n₂ n₃ n₄ n₅ h = let z : code ≡ 0 = omega arith in rw z
 
-    identity : 6 ≤ code → code < codeCount → textIn (fieldType code) ≡ Ident
-    identity l h = identity-text (fieldType code) (sym (identity-codes code) ∙ rw (le-leb 6 code l, le-leb code 10 (omega arith)))
+  from-six : (code : ℕ) → (code ≡ 11 → ⊥) → (code ≡ 12 → ⊥) → (code ≡ 13 → ⊥) → 6 ≤ code → code < codeCount → isText (fieldType code) f ≡ isIdent f
+  from-six code n₁₁ n₁₂ n₁₃ l h = identity-text (fieldType code) (sym (identity-codes code) ∙ rw (le-leb 6 code l, le-leb code 10 (omega arith)))
 
-    past : codeCount ≤ code → textIn (fieldType code) ≡ Ident
-    past h = ap textIn (past-codes code h)
+  pub ident-code : (code : ℕ) → (code ≡ 1 → ⊥) → (code ≡ 2 → ⊥) → (code ≡ 3 → ⊥) → (code ≡ 4 → ⊥) → (code ≡ 5 → ⊥)
+      → (code ≡ 11 → ⊥) → (code ≡ 12 → ⊥) → (code ≡ 13 → ⊥) → isText (fieldType code) f ≡ isIdent f
+  ident-code code n₁ n₂ n₃ n₄ n₅ n₁₁ n₁₂ n₁₃ =
+      less-or code 6 (below-six code n₁ n₂ n₃ n₄ n₅)
+      (λ l. less-or code codeCount (from-six code n₁₁ n₁₂ n₁₃ l) (λ h. ap (λ (t : Field). isText t f) (past-codes code h)))
 
 -- ---- an identity by the answer of the identity call
 

@@ -1,19 +1,24 @@
--- The fields together: number 8, by the row of the kind; and the fields each and together.
+-- The fields together: numbers 8 and 14, by the row of the kind; and the fields each and together.
 -- Assumes nothing.
 use Prim.Native.Nat.{ℕ, _≤_, _<_}
 use mathlib.Core.Path.{_≡_, ap, sym, _∙_}
-use mathlib.Core.Bool.{Bool, true, false, true≢false, cond, not, _||_, Bool·beq}
+use mathlib.Core.Logic.{⊎-elim}
+use mathlib.Core.Bool.{Bool, true, false, cond, _||_, Bool·beq}
 use mathlib.Core.Option.{none, some}
 use mathlib.Core.List.{List, []}
 use native.Mathlib.Omega.{arith}
 use lib.ListN.{length, getD}
 use lib.Dec.{eqb, eqb→eq}
+use mir.Facts.{or-yes}
+use borrow.Author.Tests.{ne-eqb}
 use Rattle.text.specs.Text.{Bytes}
-use Rattle.text.proofs.Tests.{less-or, allBelow, below}
-use Rattle.format.specs.Kinds.{Kind, Field, fieldsOf, pubkeyKinds, among}
+use Rattle.text.proofs.Tests.{less-or, true-T, allBelow, below}
+use Rattle.format.specs.Kinds.{Kind, Field, fieldsOf}
+use Rattle.format.specs.Attributes.{areAttributes}
+use Rattle.format.specs.Build.{empty}
 use Rattle.format.specs.Read.{accepted, refused, wholeAnswer, judged, readIdentity}
 use Rattle.table.specs.Table.{rowOf, rowCount, missingRow, ofRow, fieldsAt, countOf, isPubkey}
-use Rattle.table.proofs.Rows.{kindAt, row-at, in-row, of-kind, past-rows}
+use Rattle.table.proofs.Rows.{kindAt, row-at, in-row, of-kind, past-rows, pubkey-rows}
 use Rattle.places.specs.Places.{seven, fieldAt}
 use Rattle.places.proofs.Stands.{parts-at}
 use Rattle.reading.specs.Reading.{kindsWithin, kindsOf, judgedBy, judgedSaid}
@@ -23,39 +28,55 @@ use Rattle.reading.proofs.Types.{empty-is}
 use Rattle.reading.proofs.Fields.{judged-first}
 use Rattle.reading.proofs.Outcomes.{passing-stop, passing-on}
 
--- ---- number 8
+-- ---- numbers 8 and 14, by the row: what is said of each row is computed
 
 module _ (row : ℕ) (fs : List Bytes) where
-  -- by the kind of a row that is there
-  by-kind : row < rowCount → (b : Bool) → isPubkey row ≡ b → wholeNo row fs ≡ cond (not b || Bool·beq (eqb (length (getD fs 3 [])) 0) (eqb (length (getD fs 4 [])) 0)) 0 8
-  unfolding wholeNo wholeAnswer
-  by-kind h b e =
-      in-row (λ k. wholeAnswer k fs) 0 row h
-      ∙ rw (← empty-is (getD fs 3 []), ← empty-is (getD fs 4 []), ← e, in-row (λ k. among k pubkeyKinds) false row h)
+  pub whole-pubkey : isPubkey row ≡ true → wholeNo row fs ≡ cond (Bool·beq (empty (getD fs 3 [])) (empty (getD fs 4 []))) 0 8
+  unfolding wholeNo wholeAnswer ofRow
+  whole-pubkey e =
+      ⊎-elim (λ t. let z : row ≡ 3 = eqb→eq row 3 t in rw z) (λ t. let z : row ≡ 4 = eqb→eq row 4 t in rw z)
+      (or-yes (eqb row 3) (eqb row 4) (true-T _ (pubkey-rows row ∙ e)))
 
-  pub whole-other : isPubkey row ≡ false → wholeNo row fs ≡ 0
-  unfolding wholeNo
-  whole-other e = less-or row rowCount (λ h. by-kind h false e) (λ h. past-rows (λ k. wholeAnswer k fs) 0 row h)
+  pub whole-key : row ≡ 7 → wholeNo row fs ≡ cond (areAttributes (getD fs 1 [])) 0 14
+  unfolding wholeNo wholeAnswer ofRow
+  whole-key e = rw e
 
-  pub whole-pubkey : isPubkey row ≡ true → wholeNo row fs ≡ cond (Bool·beq (eqb (length (getD fs 3 [])) 0) (eqb (length (getD fs 4 [])) 0)) 0 8
-  whole-pubkey e = less-or row rowCount (λ h. by-kind h true e) (λ h. absurd (true≢false (sym e ∙ past-rows (λ k. among k pubkeyKinds) false row h)))
+  pub whole-other : isPubkey row ≡ false → (row ≡ 7 → ⊥) → wholeNo row fs ≡ 0
+  unfolding wholeNo wholeAnswer allBelow ofRow
+  whole-other e n =
+      less-or row rowCount
+      (λ h. eqb→eq (wholeNo row fs) 0 (rw (e, ne-eqb row 7 n) at (below rowCount (λ r. isPubkey r || (eqb r 7 || eqb (wholeNo r fs) 0)) tt row h)))
+      (λ h. past-rows (λ k. wholeAnswer k fs) 0 row h)
 
-pubkey-there : (row : ℕ) → isPubkey row ≡ true → row < rowCount
-pubkey-there row e = less-or row rowCount (λ h. h) (λ h. absurd (true≢false (sym e ∙ past-rows (λ k. among k pubkeyKinds) false row h)))
+-- empty or not, by the lengths
+pub pair-is : (x y : Bytes) (b : Bool) → Bool·beq (eqb (length x) 0) (eqb (length y) 0) ≡ b → _≡_ {A = ℕ} (cond b 0 8) (cond (Bool·beq (empty x) (empty y)) 0 8)
+pair-is x y b e = rw (empty-is x, empty-is y, e)
 
 -- a public key has five fields
 pubkey-five : (row : ℕ) → isPubkey row ≡ true → countOf row ≡ 5
-unfolding allBelow ofRow
-pubkey-five row e = eqb→eq (countOf row) 5 (rw e at (below rowCount (λ n. not (isPubkey n) || eqb (countOf n) 5) tt row (pubkey-there row e)))
+unfolding ofRow
+pubkey-five row e =
+    ⊎-elim (λ t. let z : row ≡ 3 = eqb→eq row 3 t in rw z) (λ t. let z : row ≡ 4 = eqb→eq row 4 t in rw z)
+    (or-yes (eqb row 3) (eqb row 4) (true-T _ (pubkey-rows row ∙ e)))
 
--- Issuer and Signature x and y, as the code has them
-pub whole-fields : (row : ℕ) (s : Bytes) (starts lens : List ℕ) (x y : Bytes) → isPubkey row ≡ true → x ≡ fieldAt s starts lens 4 → y ≡ fieldAt s starts lens 5
-    → wholeNo row (partsBy row s starts lens) ≡ cond (Bool·beq (eqb (length x) 0) (eqb (length y) 0)) 0 8
-unfolding fieldAt
-whole-fields row s starts lens x y e ex ey =
-    let n = pubkey-five row e in
-    whole-pubkey row (partsBy row s starts lens) e
-    ∙ rw (ex, ey, parts-at s starts lens (countOf row) 3 (omega (arith, n)), parts-at s starts lens (countOf row) 4 (omega (arith, n)))
+-- the same of the parts at places, with the fields as the code has them
+module _ (row : ℕ) (s : Bytes) (starts lens : List ℕ) where
+  -- Issuer and Signature
+  pub pair-fields : (x y : Bytes) → isPubkey row ≡ true → x ≡ fieldAt s starts lens 4 → y ≡ fieldAt s starts lens 5
+      → wholeNo row (partsBy row s starts lens) ≡ cond (Bool·beq (empty x) (empty y)) 0 8
+  unfolding fieldAt
+  pair-fields x y e ex ey =
+      let n = pubkey-five row e in
+      whole-pubkey row (partsBy row s starts lens) e
+      ∙ rw (ex, ey, parts-at s starts lens (countOf row) 3 (omega (arith, n)), parts-at s starts lens (countOf row) 4 (omega (arith, n)))
+
+  -- Attributes
+  pub list-field : (x : Bytes) → row ≡ 7 → x ≡ fieldAt s starts lens 2
+      → wholeNo row (partsBy row s starts lens) ≡ cond (areAttributes x) 0 14
+  unfolding fieldAt ofRow
+  list-field x e ex =
+      let n : countOf row ≡ 3 = rw e in
+      whole-key row (partsBy row s starts lens) e ∙ rw (ex, parts-at s starts lens (countOf row) 1 (omega (arith, n)))
 
 -- ---- the fields each and together, by the row
 

@@ -1,11 +1,11 @@
--- What the reading calls answer: document 01, "Numbers given back". `readIdentity`, `readOf` and `readRecord` of format say the
+-- What the reading calls answer: document 01, "Numbers given back", and document 02, E1. `readIdentity`, `readOf` and `readRecord` of format say the
 -- outcome; here it is put into the words of an answer.
 -- Assumes nothing.
 use Prim.Native.Nat.{ℕ, suc}
 use mathlib.Core.List.{List, [], _∷_}
 use lib.ListN.{getD}
 use Rattle.text.specs.Text.{Bytes}
-use Rattle.format.specs.Kinds.{Kind, Field, Text, Identity, OrEmpty, fieldsOf}
+use Rattle.format.specs.Kinds.{Kind, Field, Text, Printable, Identity, OrEmpty, fieldsOf}
 use Rattle.format.specs.Read.{Outcome, accepted, refused, ofKind, judged, readIdentity}
 use Rattle.table.specs.Table.{rowOf, missingRow, kindOf, countOf}
 use Rattle.places.specs.Places.{seven, startsOf, lensOf, partsFrom}
@@ -22,6 +22,7 @@ kindSaid (refused n i) = missingRow
 -- the kind of the identity in a field f of type t; none where f is a text, or empty
 unfoldable pub kindWithin : Field → Bytes → ℕ
 kindWithin (Text t) f = missingRow
+kindWithin Printable f = missingRow
 kindWithin (Identity ks) f = kindSaid (readIdentity f)
 kindWithin (OrEmpty t) f = kindWithin t f
 

@@ -2,12 +2,12 @@
 -- Assumes nothing.
 use Prim.Native.Nat.{ℕ}
 use mathlib.Core.Path.{_≡_}
-use mathlib.Core.Bool.{cond}
+use mathlib.Core.Bool.{Bool, cond}
 use mathlib.Core.List.{List}
 use lib.Dec.{eqb}
-use Rattle.text.specs.Text.{Bytes, TextType, Ident}
+use Rattle.text.specs.Text.{Bytes, isOf, isIdent, isPrintable}
 use Rattle.numbers.specs.Numbers.{unknownKind}
-use Rattle.format.specs.Kinds.{Field, Text, Identity, OrEmpty}
+use Rattle.format.specs.Kinds.{Field, Text, Printable, Identity, OrEmpty}
 use Rattle.format.specs.Read.{Outcome, passing, checkNo, each, fieldAnswer, wholeAnswer, readIdentity}
 use Rattle.table.specs.Table.{missingRow, ofRow, markOf, countOf, fieldsAt}
 use Rattle.places.specs.Places.{seven, partsFrom}
@@ -18,11 +18,12 @@ use Rattle.reading.specs.declared.FieldSaid.{FieldSaid}
 unfoldable pub formNo : ℕ → Bytes → ℕ
 formNo row s = cond (eqb row missingRow) unknownKind (checkNo (markOf row) s)
 
--- the text type in a field type; IDENT in that of an identity
-abbrev pub textIn : Field → TextType
-textIn (Text t) = t
-textIn (Identity ks) = Ident
-textIn (OrEmpty t) = textIn t
+-- the test of a text that a field type asks for; IDENT where it asks for an identity
+abbrev pub isText : Field → Bytes → Bool
+isText (Text t) f = isOf t f
+isText Printable f = isPrintable f
+isText (Identity ks) f = isIdent f
+isText (OrEmpty t) f = isText t f
 
 -- a field f of type t: its number, and the kind of the identity in it
 abbrev pub fieldSaid : Field → Bytes → FieldSaid

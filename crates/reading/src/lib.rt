@@ -1,18 +1,20 @@
-// The reading calls: document 01, "Numbers given back". Each takes any bytes; no public one has a `requires`. The order
-// is 1, 2, 3, 4, 5, then the fields from left to right (6, or 7 before 9), then 8: `form_no` has 2 to 4, `judge` the fields.
+// The reading calls: document 01, "Numbers given back", and document 02, E1. Each takes any bytes; no public one has a
+// `requires`. The order is 1, 2, 3, 4, 5, then the fields from left to right (6, or 7 before 9), then 8, then 14: `form_no`
+// has 2 to 4, `judge` the fields.
 // A record is walked over once for its fields' places: every test of a field, and every later use of one, goes by them.
 ghost use mathlib.Core.Path.{_≡_};
-ghost use mathlib.Core.Bool.{cond, _&&_};
+ghost use mathlib.Core.Bool.{cond, _&&_, Bool·beq};
 ghost use Prim.Native.Nat.{_<_};
-ghost use Rattle.text.specs.Text.{isOf};
-ghost use Rattle.numbers.specs.Numbers.{wrongText};
+ghost use Rattle.numbers.specs.Numbers.{wrongText, unpaired, wrongAttributes};
+ghost use Rattle.format.specs.Attributes.{areAttributes};
 ghost use Rattle.format.specs.Build.{empty};
 ghost use Rattle.format.specs.Read.{refused, identityAnswer, nobody, readIdentity, readOf, readRecord};
 ghost use Rattle.table.specs.Table.{fieldType, mayBeEmpty, permitted, kindsFrom};
 ghost use Rattle.reading.specs.Reading.{kindSaid, answerOf, judgedSaid, judge};
-ghost use Rattle.reading.specs.Steps.{formNo, textIn, fieldSaid, partsBy, FirstRefused, Walked, wholeNo};
+ghost use Rattle.reading.specs.Steps.{formNo, isText, fieldSaid, partsBy, FirstRefused, Walked, wholeNo};
 
-const LONGEST: usize = 1024;
+// No record that is read or built is longer.
+pub const LONGEST: usize = 1024;
 
 // What a reading call answers: its number, the field's number (0 where none is named), the kind's row in the table, and of
 // each field, from left to right, where it starts in the bytes read, its length, and the row of the identity in it
@@ -75,7 +77,7 @@ fn form_no(row: usize, s: &[u8]) -> u8
 
 // Of the text type of this code; a code that names none is taken for IDENT's.
 fn is_text(code: u8, field: &[u8]) -> bool
-    ensures { λ r. ⌜ r ≡ isOf (textIn (fieldType code)) (now (field .entry)) ⌝ }
+    ensures { λ r. ⌜ r ≡ isText (fieldType code) (now (field .entry)) ⌝ }
 {
     if code == table::TIMESTAMP {
         return text::is_timestamp(field);
@@ -92,11 +94,20 @@ fn is_text(code: u8, field: &[u8]) -> bool
     if code == table::SIG_OR_EMPTY {
         return text::is_sig(field);
     }
+    if code == table::NONCE {
+        return text::is_hex(24, field);
+    }
+    if code == table::PRINTABLE {
+        return text::is_printable(field);
+    }
+    if code == table::PROTECTED {
+        return text::is_protected(field);
+    }
     text::is_ident(field)
 }
 
 fn text_no(code: u8, field: &[u8]) -> u8
-    ensures { λ r. ⌜ r ≡ cond (isOf (textIn (fieldType code)) (now (field .entry))) 0 wrongText ⌝ }
+    ensures { λ r. ⌜ r ≡ cond (isText (fieldType code) (now (field .entry))) 0 wrongText ⌝ }
 {
     if is_text(code, field) {
         return numbers::ACCEPTED;
@@ -241,19 +252,39 @@ fn record_fields(row: usize, s: &[u8], starts: &[usize; 7], lens: &[usize; 7]) -
     }
 }
 
-// The number of the fields together, after each of them: 8 for a public key with only one of Issuer and Signature, or 0.
-fn whole_no(row: usize, s: &[u8], starts: &[usize; 7], lens: &[usize; 7]) -> u8
-    ensures { λ r. ⌜ r ≡ wholeNo row (partsBy row (now (s .entry)) (now (starts .entry)) (now (lens .entry))) ⌝ }
+// ---- the fields together, after each of them: numbers 8 and 14
+
+fn pair_no(issuer: &[u8], signature: &[u8]) -> u8
+    ensures { λ r. ⌜ r ≡ cond (Bool·beq (empty (now (issuer .entry))) (empty (now (signature .entry)))) 0 unpaired ⌝ }
 {
-    if !table::is_pubkey(row) {
-        return numbers::ACCEPTED;
-    }
-    let issuer = places::field_at(s, starts, lens, table::PUBKEY_ISSUER);
-    let signature = places::field_at(s, starts, lens, table::PUBKEY_SIGNATURE);
     if (issuer.len() == 0) == (signature.len() == 0) {
         return numbers::ACCEPTED;
     }
     numbers::UNPAIRED
+}
+
+fn attributes_no(attributes: &[u8]) -> u8
+    ensures { λ r. ⌜ r ≡ cond (areAttributes (now (attributes .entry))) 0 wrongAttributes ⌝ }
+{
+    if cards::are_attributes(attributes) {
+        return numbers::ACCEPTED;
+    }
+    numbers::WRONG_ATTRIBUTES
+}
+
+// 8 for a public key with only one of Issuer and Signature, 14 for a wrapped key whose attribute list is not permitted, or 0.
+fn whole_no(row: usize, s: &[u8], starts: &[usize; 7], lens: &[usize; 7]) -> u8
+    ensures { λ r. ⌜ r ≡ wholeNo row (partsBy row (now (s .entry)) (now (starts .entry)) (now (lens .entry))) ⌝ }
+{
+    if table::is_pubkey(row) {
+        let issuer = places::field_at(s, starts, lens, table::PUBKEY_ISSUER);
+        let signature = places::field_at(s, starts, lens, table::PUBKEY_SIGNATURE);
+        return pair_no(issuer, signature);
+    }
+    if row == table::KEY {
+        return attributes_no(places::field_at(s, starts, lens, table::KEY_ATTRIBUTES));
+    }
+    numbers::ACCEPTED
 }
 
 // The answer that refuses a record's fields.
@@ -328,7 +359,7 @@ pub fn read_of(from: usize, to: usize, record: &[u8]) -> Answer
     }
 }
 
-// Reads a record of any of the four record kinds.
+// Reads a record of any of the five record kinds.
 pub fn read_record(record: &[u8]) -> Answer
     ensures { λ r. ⌜ r ≡ answerOf (readRecord (now («record» .entry))) ⌝ }
 {
