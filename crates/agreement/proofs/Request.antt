@@ -13,8 +13,8 @@ use Rattle.text.proofs.Types.{point-hex}
 use Rattle.format.specs.Kinds.{REQ, Field, Text, fieldsOf}
 use Rattle.format.specs.Build.{Fits, IsIdentity, Permitted, Built}
 use Rattle.format.specs.Read.{Outcome, accepted, fieldsIn, readOf}
-use Rattle.format.proofs.Table.{among-one, absent, longestOf}
-use Rattle.format.proofs.Fields.{fit-length, fit-at, field-held}
+use Rattle.format.proofs.Table.{among-one, bounded, longestOf}
+use Rattle.format.proofs.Fields.{fit-length, fit-at, field-short}
 use Rattle.format.proofs.Exactly.{identity-tame, read-exact, read-says, its-fields, its-parts, its-few}
 use Rattle.places.specs.Places.{fieldAt}
 use Rattle.places.proofs.Stands.{record-field}
@@ -44,7 +44,7 @@ permitted-suited fs p =
         let t : ℕ → Field = λ m. getD (fieldsOf REQ) m (Text Ident) in
         less-or n 7
         (λ h.
-        le-trans (field-held IsIdentity identity-tame 0 (t n) (getD fs n []) (below 7 (λ m. absent 0 (t m)) tt n h) (fit-at IsIdentity (fieldsOf REQ) fs (p .fit) n h) .1)
+        le-trans (field-short IsIdentity identity-tame (t n) (getD fs n []) (below 7 (λ m. bounded (t m)) tt n h) (fit-at IsIdentity (fieldsOf REQ) fs (p .fit) n h))
         (leb→le (longestOf (t n)) 255 (below 7 (λ m. leb (longestOf (t m)) 255) tt n h)))
         (λ h. rw (List·getD-eq-default fs [] {n = n} (omega (arith, fit-length IsIdentity (fieldsOf REQ) fs (p .fit)))) (omega arith))
 

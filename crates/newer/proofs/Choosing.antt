@@ -6,10 +6,10 @@ use mathlib.Core.List.{List}
 use native.Mathlib.Omega.{arith}
 use lib.Dec.{T}
 use denote.Ref.{RefT, now}
-use Rattle.text.specs.Text.{Bytes}
+use Rattle.text.specs.Text.{Bytes, after}
 use Rattle.text.specs.Part.{NoPart}
 use Rattle.text.proofs.Tests.{by-test, cond-yes, cond-no}
-use Rattle.text.specs.Later.{after, later}
+use Rattle.text.specs.Later.{later}
 use Rattle.text.proofs.Types.{timestamp-looks}
 use Rattle.text.proofs.Later.{later-by-bytes}
 use Rattle.numbers.specs.Numbers.{notAlike}

@@ -3,7 +3,7 @@
 use mathlib.Core.Path.{sym, ap₂, _∙_}
 use mathlib.Core.Bool.{true, false}
 use borrow.Author.Tests.{not-true, not-false}
-use Rattle.text.specs.Later.{after}
+use Rattle.text.specs.Text.{after}
 use Rattle.newer.proofs.Choosing.{said-unlike, said-alike}
 use borrow.Author.Needs.{needs}
 use Rattle.newer.proofs.by_subjects.Statement.{statement}
