@@ -1,1 +1,2 @@
 pub mod Wanted
+pub mod Cards

@@ -1,5 +1,12 @@
-// One field of a record, by its number from 1: document 01, "Numbers given back". Each call reads the record first, as the
-// reading calls do; 12 for a field that the kind hasn't comes after every other number. No public call has a `requires`.
+// One field of a record, by its number from 1: document 01, "Numbers given back"; and one attribute of a wrapped key. Each
+// call reads the record first, as the reading calls do; 12 for a field that the kind hasn't, or an attribute that the list
+// hasn't, comes after every other number. No public call has a `requires`.
+mod attributes;
+
+pub use attributes::attribute;
+pub use attributes::attribute_named;
+pub use attributes::attribute_named_place;
+pub use attributes::attribute_place;
 ghost use mathlib.Core.Path.{_≡_};
 ghost use Prim.Native.Nat.{_+_, _≤_};
 ghost use lib.ListN.{length};
@@ -11,7 +18,7 @@ ghost use Rattle.reading.specs.Reading.{answerOf};
 ghost use Rattle.fields.specs.Fields.{wantedNo, FieldSaid, Placed};
 ghost use Rattle.fields.specs.Steps.{Reads, Handed};
 
-// Where a field stands in the caller's bytes: its start and its length, both 0 with a refusal.
+// Where a field or an attribute stands in the caller's bytes: its start and its length, both 0 with a refusal.
 #[repr(C)]
 pub struct Place {
     pub no: u8,
@@ -73,7 +80,7 @@ fn place_of(from: usize, to: usize, record: &[u8], wanted: usize) -> Place
     place_from(reading::read_of(from, to, record), wanted)
 }
 
-// The same of a record of any of the four record kinds.
+// The same of a record of any of the five record kinds.
 pub fn record_place(record: &[u8], wanted: usize) -> Place
     ensures { λ r. ⌜ Placed (readRecord (now («record» .entry))) wanted (now («record» .entry)) r ⌝ }
 {
@@ -81,7 +88,7 @@ pub fn record_place(record: &[u8], wanted: usize) -> Place
 }
 
 // The part of s at this place, and the place's numbers.
-fn part_at<'a>(place: Place, s: &'a [u8], no: &mut u8, field: &mut u8) -> &'a [u8]
+pub(crate) fn part_at<'a>(place: Place, s: &'a [u8], no: &mut u8, field: &mut u8) -> &'a [u8]
     requires { ⌜ place .start + place .len ≤ length (now s) ⌝ }
     ensures { λ r. ⌜ Handed place (s .entry) r (now (no .exit)) (now (field .exit)) ⌝ }
 {
@@ -118,7 +125,7 @@ fn field_of<'a>(
     part_at(place_of(from, to, record, wanted), record, no, field)
 }
 
-// The same of a record of any of the four record kinds.
+// The same of a record of any of the five record kinds.
 pub fn record_field<'a>(record: &'a [u8], wanted: usize, no: &mut u8, field: &mut u8) -> &'a [u8]
     ensures { λ r. ⌜ FieldSaid (readRecord (now («record» .entry))) wanted («record» .entry) r (now (no .exit)) (now (field .exit)) ⌝ }
 {

@@ -157,10 +157,10 @@ module _ (m : ℕ) (s : Bytes) where
 
   -- i is the start of part n as the code has it
   module _ (n i : ℕ) (q : i ≡ partStart m s n) where
-    is-there : i < length s → n < length (cut m s)
+    pub is-there : i < length s → n < length (cut m s)
     is-there h = less-or n (length (cut m s)) (λ l. l) (λ l. absurd (omega (arith, q, walk-past n l)))
 
-    is-not : length s ≤ i → length (cut m s) ≤ n
+    pub is-not : length s ≤ i → length (cut m s) ≤ n
     is-not h = less-or n (length (cut m s)) (λ l. absurd (omega (arith, q, start-within n l))) (λ l. l)
 
     pub part-there : i < length s → (e : ℕ) → e ≡ nextMark m s i → take (e - i) (drop i s) ≡ partOf m s n

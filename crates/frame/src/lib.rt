@@ -71,7 +71,7 @@ pub fn next_mark(mark: u8, s: &[u8], from: usize) -> usize
 
 // Where part n, from 0, begins: behind the parts before it, each with its mark. Where there are not so many, behind the
 // last.
-fn part_start(mark: u8, s: &[u8], n: usize) -> usize
+pub fn part_start(mark: u8, s: &[u8], n: usize) -> usize
     ensures { λ r. ⌜ r ≡ partStart mark (now (s .entry)) n ⌝ }
 {
     let mut k: usize = 0;
