@@ -9,7 +9,7 @@ ghost use Rattle.cards.specs.Steps.{holdsAt, keyIn, neededAfter};
 
 // ---- the names of Appendix B by their keys
 
-// A name as one number, so that names ascend where their keys do.
+// A name as one number: names are the same where their keys are, and ascend where their keys do.
 const ACT: u32 = 65536 * (b'A' as u32) + 256 * (b'C' as u32) + (b'T' as u32);
 
 const BDT: u32 = 65536 * (b'B' as u32) + 256 * (b'D' as u32) + (b'T' as u32);
@@ -109,7 +109,8 @@ fn card_key(card: &[u8]) -> u32
 
 // ---- a list
 
-// The required name that is to be looked for behind the card `key`, where `needed` was looked for so far; NONE behind the last.
+// The required name to look for behind a card, where `needed` was looked for so far: the next where this is its card, and NONE behind
+// the last.
 fn needed_after(needed: u32, key: u32) -> u32
     ensures { λ r. ⌜ r ≡ neededAfter needed key ⌝ }
 {
@@ -147,6 +148,7 @@ fn are_cards(list: &[u8]) -> bool
     while i < list.len() {
         let end = frame::next_mark(b';', list, i);
         let key = card_key(&list[i..end]);
+        // what is no card has a key that stands behind none
         if key <= before {
             return false;
         }
