@@ -1,8 +1,10 @@
-// Reading a record or an identity, and where one field of it stands in the caller's bytes.
+// Reading a record or an identity, and where one field or one attribute of it stands in the caller's bytes.
 ghost use mathlib.Core.Path.{_≡_};
-ghost use Rattle.format.specs.Read.{readIdentity, readRecord};
+ghost use Rattle.format.specs.Kinds.{keyKinds};
+ghost use Rattle.format.specs.Read.{readIdentity, readOf, readRecord};
 ghost use Rattle.reading.specs.Reading.{answerOf};
 ghost use Rattle.fields.specs.Fields.{Placed};
+ghost use Rattle.fields.specs.Attributes.{cardsSaid, numberNamed, AttributePlaced};
 
 // Reads an identity.
 #[no_mangle]
@@ -12,7 +14,7 @@ pub extern "C" fn obscurlane_read_identity(identity: &[u8]) -> reading::Answer
     reading::read_identity(identity)
 }
 
-// Reads a record of any of the four record kinds.
+// Reads a record of any of the five record kinds.
 #[no_mangle]
 pub extern "C" fn obscurlane_read_record(record: &[u8]) -> reading::Answer
     ensures { λ r. ⌜ r ≡ answerOf (readRecord (now («record» .entry))) ⌝ }
@@ -34,4 +36,20 @@ pub extern "C" fn obscurlane_record_field(record: &[u8], wanted: usize) -> field
     ensures { λ r. ⌜ Placed (readRecord (now («record» .entry))) wanted (now («record» .entry)) r ⌝ }
 {
     fields::record_place(record, wanted)
+}
+
+// An attribute of a wrapped key, counted from 1.
+#[no_mangle]
+pub extern "C" fn obscurlane_attribute(record: &[u8], wanted: usize) -> fields::Place
+    ensures { λ r. ⌜ AttributePlaced (readOf keyKinds (now («record» .entry))) wanted (now («record» .entry)) r ⌝ }
+{
+    fields::attribute_place(record, wanted)
+}
+
+// An attribute of a wrapped key by its name of three characters.
+#[no_mangle]
+pub extern "C" fn obscurlane_attribute_named(record: &[u8], name: &[u8]) -> fields::Place
+    ensures { λ r. ⌜ AttributePlaced (readOf keyKinds (now («record» .entry))) (numberNamed (now (name .entry)) (cardsSaid (readOf keyKinds (now («record» .entry))))) (now («record» .entry)) r ⌝ }
+{
+    fields::attribute_named_place(record, name)
 }
