@@ -9,7 +9,7 @@ mod cases;
 mod plan;
 
 use calls::CALLS;
-use case_file::CaseFile;
+use case_file::case_file;
 use cases::Case;
 use std::process::ExitCode;
 
@@ -33,12 +33,10 @@ struct Written {
 ///
 /// When a call or a number occurs too seldom, or there are too few or too many cases.
 fn write(plan: &[Case]) -> Written {
-    let mut cases = CaseFile::default();
     let mut answers = Vec::new();
     let mut calls = [0; CALLS.len()];
     let mut numbers = [0; NUMBERS];
     for case in plan {
-        cases.add(case);
         let answer = case.answer();
         assert!(!answer.line.contains(&b'\n'), "an answer is one line");
         answers.extend_from_slice(&answer.line);
@@ -59,7 +57,7 @@ fn write(plan: &[Case]) -> Written {
         counts += &format!("number {number} {count}\n");
     }
 
-    let cases = cases.bytes();
+    let cases = case_file(plan);
     assert!((3000..=10_000).contains(&plan.len()), "{} cases", plan.len());
     assert!(cases.len() <= LONGEST_CASE_FILE, "a case file of {} bytes", cases.len());
     Written { cases, answers, counts }
