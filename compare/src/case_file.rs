@@ -7,9 +7,9 @@ use std::collections::{BTreeSet, HashMap};
 /// The call, n, and where label, a, b and c each begin and end.
 const HEAD_LENGTH: usize = 1 + 8 + 4 * 2 * 4;
 
-/// From this length on a string is looked for where its first bytes, so many, were first written:
-/// a record stands in files, and what is left of it around a place stands in the record.
-const WINDOW: usize = 32;
+/// From this length on a string is looked for where its first or its last bytes, so many, were first
+/// written: a record stands in files, and what is left of it around a place stands in the record.
+const WINDOW: usize = 24;
 
 /// From this length on a string is looked for everywhere: the long ones are parts of one another that
 /// begin with the same digits.
@@ -71,9 +71,11 @@ impl<'a> Strings<'a> {
         if string.len() >= LONG {
             return self.bytes.windows(string.len()).rposition(|part| part == string);
         }
-        let first = string.first_chunk()?;
-        let place = *self.windows.get(first)?;
-        self.bytes[place..].starts_with(string).then_some(place)
+        let first = self.windows.get(string.first_chunk()?);
+        let last = self.windows.get(string.last_chunk()?);
+        let ending = last.and_then(|place| (place + WINDOW).checked_sub(string.len()));
+        let mut places = first.copied().into_iter().chain(ending);
+        places.find(|&place| self.bytes[place..].starts_with(string))
     }
 
     fn append(&mut self, string: &[u8]) -> usize {
@@ -92,6 +94,23 @@ mod tests {
     use super::*;
     use crate::calls::Op;
     use crate::cases::Form;
+    use crate::plan;
+
+    #[test]
+    fn every_case_is_found_again() {
+        let cases = plan::all();
+        let file = case_file(&cases);
+        let number =
+            |bytes: &[u8]| bytes.iter().fold(0, |number, &byte| number << 8 | usize::from(byte));
+        let mut heads = file[1032..].chunks(HEAD_LENGTH);
+        for case in &cases {
+            let (op, rest) = heads.next().and_then(<[u8]>::split_first).expect("a head");
+            let (n, places) = rest.split_at(8);
+            assert_eq!((*op, n), (case.number(), &case.n.to_be_bytes()[..]));
+            let places = places.chunks(8).map(|ends| number(&ends[..4])..number(&ends[4..]));
+            assert!(places.map(|place| &file[place]).eq(strings_of(case, &case.label())));
+        }
+    }
 
     #[test]
     fn heads_name_the_places_of_strings_that_stand_there_once() {

@@ -15,8 +15,8 @@ use std::process::ExitCode;
 
 /// How often each call and each number must occur at least.
 const LEAST: usize = 20;
-/// The numbers given back: 0 to 13.
-const NUMBERS: usize = 14;
+/// The numbers given back: 0 to 14.
+const NUMBERS: usize = 15;
 /// What `crates/cases` has room for.
 const LONGEST_CASE_FILE: usize = 1_572_864;
 
@@ -135,7 +135,8 @@ mod tests {
     #[test]
     fn every_text_type_and_reading_call_is_given_every_byte_value() {
         for (call, cases) in by_call(&plan::all()) {
-            if call.starts_with("is_") || call.starts_with("read_") {
+            let is_swept = |start| call.starts_with(start);
+            if ["is_", "read_", "attribute_place"].into_iter().any(is_swept) {
                 assert!(cases.iter().any(|case| case.form == Form::EveryByte), "{call}");
             }
         }
