@@ -2,7 +2,7 @@
 
 use crate::crc::crc16;
 use crate::kind::Kind;
-use crate::record::check_fields;
+use crate::record::{check_fields, LONGEST_READ};
 use crate::refusal::Refusal;
 use crate::text::check_text;
 
@@ -30,6 +30,10 @@ pub fn build(
     let check = check_text(crc16(&record));
     record.extend_from_slice(check.as_bytes());
 
+    // What would not be read again is not built, whatever the room.
+    if record.len() > LONGEST_READ {
+        return Err(Refusal::TooLong);
+    }
     put(&record, output)
 }
 

@@ -2,7 +2,7 @@
 
 use crate::cases::{Answer, Case};
 use compare::crc::crc16;
-use compare::{agreement, build, file, newer, record, text};
+use compare::{agreement, attributes, build, file, newer, record, text};
 
 /// One call of the library.
 pub struct Call {
@@ -71,6 +71,14 @@ calls! {
     };
     Build "build " |case| {
         case.built(|output| build::build(&case.a, &case.b, &case.numbers(), output))
+    };
+    Attribute "attribute " |case| case.text(attributes::attribute(&case.a, case.n));
+    AttributePlace "attribute_place" |case| case.place(attributes::attribute(&case.a, case.n));
+    AttributeNamed "attribute_named " |case| {
+        case.text(attributes::attribute_named(&case.a, &case.b))
+    };
+    AttributeNamedPlace "attribute_named_place" |case| {
+        case.place(attributes::attribute_named(&case.a, &case.b))
     };
 }
 

@@ -237,6 +237,7 @@ pub fn lent_before() -> [u8; 1024] {
 mod tests {
     use super::*;
     use compare::text::check_text;
+    use compare::worked::worked;
 
     fn line(op: Op, n: u64, parts: [&[u8]; 3]) -> String {
         let [a, b, c] = parts.map(<[u8]>::to_vec);
@@ -249,6 +250,8 @@ mod tests {
         assert_eq!(Op::Ident.number(), 1);
         assert_eq!(Op::Build.number(), 27);
         assert_eq!(Op::Build.call().name(), "build");
+        assert_eq!(Op::Attribute.number(), 28);
+        assert_eq!(Op::AttributeNamedPlace.number(), 31);
     }
 
     #[test]
@@ -268,6 +271,24 @@ mod tests {
         assert_eq!(line(Op::NewerOf, 0, [b"x", b"y", no]), "newer_of 2 0 1");
         assert_eq!(line(Op::SharedInfo, 0, [b"x", no, no]), "shared_info 2 0 0 65535");
         assert_eq!(line(Op::Build, 0, [b"x", no, no]), "build  2 0 0 65535");
+    }
+
+    #[test]
+    fn an_attribute_stands_before_its_numbers() {
+        let key = worked("KEY1_1");
+        let no: &[u8] = &[];
+        let card = format!("KEN255 0 0 6 {}", crc16(b"KEN255"));
+        assert_eq!(line(Op::Attribute, 4, [&key, no, no]), format!("attribute {card}"));
+        let named = line(Op::AttributeNamed, 0, [&key, b"KEN", no]);
+        assert_eq!(named, format!("attribute_named {card}"));
+        let start = 6 + 24 + 1 + 20 + 20 + 6;
+        let place = format!("0 0 {start} 6");
+        assert_eq!(line(Op::AttributePlace, 4, [&key, no, no]), format!("attribute_place {place}"));
+        let named = line(Op::AttributeNamedPlace, 0, [&key, b"KEN", no]);
+        assert_eq!(named, format!("attribute_named_place {place}"));
+        assert_eq!(line(Op::Attribute, 8, [&key, no, no]), "attribute  12 0 0 65535");
+        let absent = line(Op::AttributeNamedPlace, 0, [&key, b"KE", no]);
+        assert_eq!(absent, "attribute_named_place 12 0 0 0");
     }
 
     #[test]

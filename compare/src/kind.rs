@@ -1,8 +1,11 @@
-//! The table of the seven kinds: names, marks, and fields in order.
+//! The table of the eight kinds: names, marks, and fields in order.
 
-use self::FieldType::{Ident, Identity, Mac, Point, Print, Sig, Timestamp};
-use self::Kind::{Kmcid, PkEcdh, PkEcdsa, Smid, Smman, VkloadReq, VkloadResp};
+use self::FieldType::{
+    Attributes, Ident, Identity, Mac, Nonce, Point, Print, Protected, Sig, Timestamp,
+};
+use self::Kind::{Kmcid, PkEcdh, PkEcdsa, Smid, Smman, VkloadReq, VkloadResp, WrappedKey};
 use crate::frame::CHECK_LENGTH;
+use crate::record::LONGEST_READ;
 use crate::text;
 
 /// A kind of record.
@@ -22,9 +25,12 @@ pub enum Kind {
     VkloadReq,
     /// `VKLOAD.RESP.1`, a load response.
     VkloadResp,
+    /// `KEY.1`, a wrapped vending key.
+    WrappedKey,
 }
 
-/// The number of no kind. A kind's own is the place of its row in document 01's table, from 0.
+/// The number of no kind. A kind's own is the place of its row in document 01's table, from 0; request
+/// E1's row is behind them.
 pub const NONE: u64 = 255;
 
 /// No kind has more fields.
@@ -39,6 +45,10 @@ pub enum FieldType {
     Point,
     Sig,
     Mac,
+    Nonce,
+    /// An attribute list: by itself a printable text, and then one that is permitted.
+    Attributes,
+    Protected,
     /// A finished identity of one of these kinds.
     Identity(&'static [Kind]),
 }
@@ -99,28 +109,35 @@ const VKLOAD_RESP_FIELDS: &[Field] = &[
     full("MacTag", Mac),
 ];
 
+const WRAPPED_KEY_FIELDS: &[Field] =
+    &[full("Nonce", Nonce), full("Attributes", Attributes), full("ProtectedKey", Protected)];
+
 impl FieldType {
-    /// The most bytes of a field of this type.
-    pub fn longest(self) -> usize {
+    /// The most bytes of a field of this type; none where only the record's own length is limited.
+    pub fn longest(self) -> Option<usize> {
         match self {
-            Ident => text::LONGEST_IDENT,
-            Timestamp => text::TIMESTAMP_LENGTH,
-            Print => text::PRINT_DIGITS,
-            Point => text::POINT_DIGITS,
-            Sig => text::SIG_DIGITS,
-            Mac => text::MAC_DIGITS,
-            Identity(kinds) => Kind::longest_of(kinds),
+            Ident => Some(text::LONGEST_IDENT),
+            Timestamp => Some(text::TIMESTAMP_LENGTH),
+            Print => Some(text::PRINT_DIGITS),
+            Point => Some(text::POINT_DIGITS),
+            Sig => Some(text::SIG_DIGITS),
+            Mac => Some(text::MAC_DIGITS),
+            Nonce => Some(text::NONCE_DIGITS),
+            Attributes => None,
+            Protected => Some(text::LONGEST_PROTECTED),
+            Identity(kinds) => Some(Kind::longest_of(kinds)),
         }
     }
 }
 
 impl Kind {
     /// All kinds, in the order of their numbers.
-    pub const ALL: [Kind; 7] = [Smman, Smid, Kmcid, PkEcdsa, PkEcdh, VkloadReq, VkloadResp];
+    pub const ALL: [Kind; 8] =
+        [Smman, Smid, Kmcid, PkEcdsa, PkEcdh, VkloadReq, VkloadResp, WrappedKey];
     /// The kinds that the identity call reads.
     pub const IDENTITIES: [Kind; 3] = [Smman, Smid, Kmcid];
     /// The kinds that the record call reads.
-    pub const RECORDS: [Kind; 4] = [PkEcdsa, PkEcdh, VkloadReq, VkloadResp];
+    pub const RECORDS: [Kind; 5] = [PkEcdsa, PkEcdh, VkloadReq, VkloadResp, WrappedKey];
     /// The kinds that the chooser reads.
     pub const PUBLIC_KEYS: [Kind; 2] = [PkEcdsa, PkEcdh];
 
@@ -139,6 +156,7 @@ impl Kind {
             PkEcdh => "PK.ECDH.1",
             VkloadReq => "VKLOAD.REQ.1",
             VkloadResp => "VKLOAD.RESP.1",
+            WrappedKey => "KEY.1",
         }
     }
 
@@ -146,7 +164,7 @@ impl Kind {
     pub fn mark(self) -> u8 {
         match self {
             Smman | Smid | Kmcid => b':',
-            PkEcdsa | PkEcdh | VkloadReq | VkloadResp => b'|',
+            PkEcdsa | PkEcdh | VkloadReq | VkloadResp | WrappedKey => b'|',
         }
     }
 
@@ -158,13 +176,17 @@ impl Kind {
             PkEcdh => PK_ECDH_FIELDS,
             VkloadReq => VKLOAD_REQ_FIELDS,
             VkloadResp => VKLOAD_RESP_FIELDS,
+            WrappedKey => WRAPPED_KEY_FIELDS,
         }
     }
+
     /// The most bytes of a record of this kind: its name and its longest fields, each with its mark,
-    /// and the check.
+    /// and the check; where a field has no limit of its own, as many as are read and built.
     pub fn longest(self) -> usize {
-        let fields = self.fields().iter().map(|entry| entry.field_type.longest());
-        fields.fold(self.name().len() + 1, |length, field| length + field + 1) + CHECK_LENGTH
+        let fields = self.fields();
+        let bytes: Option<usize> = fields.iter().map(|entry| entry.field_type.longest()).sum();
+        let around = self.name().len() + 1 + fields.len() + CHECK_LENGTH;
+        bytes.map_or(LONGEST_READ, |bytes| around + bytes)
     }
 
     /// The most bytes of a record of one of these kinds.

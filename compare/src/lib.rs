@@ -1,9 +1,10 @@
 //! A second implementation of the record format, made from its documents alone.
 //!
-//! It covers identities, public keys, load requests and load responses: reading, checking and
-//! building them, the three key agreement texts of a load request, the walk over a file of
-//! records and its list, and the choice of the newer of two public keys. What it takes inside is its
-//! own: only the library's calls for users and its lister are answered.
+//! It covers identities, public keys, load requests, load responses and wrapped keys: reading,
+//! checking and building them, the attributes of a wrapped key, the three key agreement texts of a
+//! load request, the walk over a file of records and its list, and the choice of the newer of two
+//! public keys. What it takes inside is its own: only the library's calls for users and its lister
+//! are answered.
 //!
 //! It shares no line with the library that it is held against, and it is written for plain
 //! reading rather than for proof: slices, iterators, `Result`. Two implementations that come from
@@ -13,9 +14,10 @@
 //! |---|---|
 //! | [`text`] | the text types and Base 16 |
 //! | [`crc`] | CRC16-MODBUS |
-//! | [`kind`] | the table of the seven kinds |
+//! | [`kind`] | the table of the eight kinds |
 //! | [`refusal`] | the numbers given back |
 //! | [`record`] | reading of identities and records, and of single fields |
+//! | [`attributes`] | attribute lists of wrapped keys, and single attributes |
 //! | [`build`] | building |
 //! | [`agreement`] | key agreement texts |
 //! | [`mod@file`] | files of records |
@@ -28,6 +30,7 @@
 mod frame;
 
 pub mod agreement;
+pub mod attributes;
 pub mod build;
 pub mod crc;
 pub mod file;

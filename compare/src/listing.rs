@@ -3,7 +3,8 @@
 use crate::file::{count, lines};
 use crate::kind::Kind;
 use crate::random::Random;
-use crate::sample::{of_kind, short_fields, Signed};
+use crate::record::LONGEST_READ;
+use crate::sample::{of_kind, resealed, short_fields, wrapped_key_fields, Signed};
 use crate::worked::worked;
 
 /// The longest file that is listed.
@@ -23,23 +24,25 @@ pub fn list(file: &[u8]) -> String {
     list + &format!("end {lines} {accepted}\n")
 }
 
-/// The seed of the short responses.
+/// The seed of the records that are drawn.
 const SEED: u64 = 65_536;
-/// So many of them stand in the file that it has more than 256 accepted lines.
-const SHORT_RESPONSES: usize = 257;
+/// So many short records stand in the file that it has more than 256 accepted lines.
+const SHORT_RECORDS: usize = 257;
 
 /// A file of exactly [`LONGEST_FILE`] bytes: the records of the worked example, whole and damaged,
-/// and lines on each side of the limits; then short accepted responses, empty lines up to the
-/// length, and a response without its line feed.
+/// and lines on each side of the limits; then short accepted responses and wrapped keys, empty lines
+/// up to the length, and a response without its line feed.
 pub fn longest_file() -> Vec<u8> {
     let mut random = Random::with_seed(SEED);
-    let mut file = joined(&worked_lines());
-    for _ in 0..SHORT_RESPONSES {
-        let fields = short_fields(&mut random, Kind::VkloadResp, Signed::No);
-        file.extend(of_kind(Kind::VkloadResp, &fields));
-        file.push(b'\n');
+    let mut lines = worked_lines();
+    lines.extend(wrapped_keys(&mut random));
+    for index in 0..SHORT_RECORDS {
+        let kind = if index % 4 == 0 { Kind::VkloadResp } else { Kind::WrappedKey };
+        lines.push(of_kind(kind, &short_fields(&mut random, kind, Signed::No)));
     }
+    let mut file = joined(&lines);
     let last = worked("VKLOADRESP");
+    assert!(file.len() + last.len() <= LONGEST_FILE, "the lines have room");
     file.resize(LONGEST_FILE - last.len(), b'\n');
     file.extend(last);
     file
@@ -57,12 +60,38 @@ fn worked_lines() -> Vec<Vec<u8>> {
     lines
 }
 
+/// The wrapped keys of the worked example, whole and damaged; the first with fields and lists that are
+/// not permitted, under a right check; and keys of as many bytes as are read, and of one more.
+fn wrapped_keys(random: &mut Random) -> Vec<Vec<u8>> {
+    let mut lines = whole_and_damaged(&worked("KEY1_1"));
+    lines.extend(whole_and_damaged(&worked("KEY1_2")));
+    let key = worked("KEY1_1");
+    let text = String::from_utf8(key).expect("a worked key is text");
+    for (old, new) in [
+        ("|0000", "|000"),
+        ("|ACT", "||ACT"),
+        ("SGC0000123456;|", "SGC0000123456|"),
+        ("KEN255", "KEN256"),
+        ("DKG02;", ""),
+        ("KRN1;KTC2;", "KTC2;KRN1;"),
+        ("6C|", "6|"),
+    ] {
+        let changed = text.replacen(old, new, 1);
+        lines.push(resealed(changed.as_bytes()));
+    }
+    for length in [LONGEST_READ, LONGEST_READ + 1] {
+        lines.push(of_kind(Kind::WrappedKey, &wrapped_key_fields(random, length)));
+    }
+    lines
+}
+
 /// The record; the record with two neighbouring bytes damaged, at the start of its name, at its
-/// first mark, in its first field, at that field's first mark, in its last field, at its last mark
-/// and in its check; the record again.
+/// first mark, behind what first ends a part of a field, at that end, in its last field, at its last
+/// mark and in its check; the record again.
 fn whole_and_damaged(record: &[u8]) -> Vec<Vec<u8>> {
-    let place_of = |mark| record.iter().position(|&byte| byte == mark).expect("a mark");
-    let (mark, inner, end) = (place_of(b'|'), place_of(b':'), record.len());
+    let place_of =
+        |ends: &[u8]| record.iter().position(|byte| ends.contains(byte)).expect("an end");
+    let (mark, inner, end) = (place_of(b"|"), place_of(b":;"), record.len());
     let damaged = |place: usize| {
         let mut damaged = record.to_vec();
         damaged[place..place + 2].fill(b'X');
@@ -102,5 +131,14 @@ mod tests {
         assert_eq!(file.len(), LONGEST_FILE);
         assert!(lines > 1000, "{lines} lines");
         assert!(accepted > 256, "{accepted} accepted lines");
+    }
+
+    #[test]
+    fn the_longest_file_has_wrapped_keys_on_each_side() {
+        let list = list(&longest_file());
+        let numbers: Vec<&str> = list.lines().filter_map(|line| line.split(' ').nth(3)).collect();
+        for number in ["0", "1", "2", "3", "4", "5", "6", "11", "14"] {
+            assert!(numbers.contains(&number), "{number}");
+        }
     }
 }

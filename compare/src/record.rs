@@ -1,11 +1,12 @@
 //! Reading of identities and records, and of single fields.
 
+use crate::attributes;
 use crate::frame::{body_of, check_no, mark_after, title_of};
 use crate::kind::{FieldType, Kind};
 use crate::refusal::Refusal;
 use crate::text;
 
-/// The longest record or identity that is read.
+/// The longest record or identity that is read, and the longest record that is built.
 pub const LONGEST_READ: usize = 1024;
 
 /// An accepted record or identity; its fields are parts of the bytes it was read from.
@@ -77,7 +78,7 @@ pub fn read<'a>(bytes: &'a [u8], wanted: &[Kind]) -> Result<Record<'a>, Refusal>
 }
 
 /// Holds the right number of fields against the table: each by itself from left to right, then
-/// those that may be empty against each other.
+/// those that may be empty against each other, then the cards of an attribute list.
 pub(crate) fn check_fields(kind: Kind, fields: &[&[u8]]) -> Result<(), Refusal> {
     let mut some_empty = false;
     let mut some_filled = false;
@@ -92,6 +93,14 @@ pub(crate) fn check_fields(kind: Kind, fields: &[&[u8]]) -> Result<(), Refusal> 
     if some_empty && some_filled {
         return Err(Refusal::HalfSigned);
     }
+    let mut lists = kind
+        .fields()
+        .iter()
+        .zip(fields)
+        .filter(|(entry, _)| entry.field_type == FieldType::Attributes);
+    if lists.any(|(_, list)| !attributes::is_permitted(list)) {
+        return Err(Refusal::WrongAttributes);
+    }
     Ok(())
 }
 
@@ -104,6 +113,9 @@ pub(crate) fn check_field(field_type: FieldType, field: &[u8], number: u8) -> Re
         FieldType::Point => text::is_point(field),
         FieldType::Sig => text::is_sig(field),
         FieldType::Mac => text::is_mac(field),
+        FieldType::Nonce => text::is_nonce(field),
+        FieldType::Attributes => text::is_printable(field),
+        FieldType::Protected => text::is_protected(field),
         FieldType::Identity(permitted) => {
             let identity = read_identity(field).map_err(|_| Refusal::NoIdentity(number))?;
             return if permitted.contains(&identity.kind) {

@@ -3,7 +3,7 @@
 /// Why a call refuses. Fields are numbered from 1.
 #[derive(Clone, Copy, Debug, PartialEq, Eq)]
 pub enum Refusal {
-    /// 1: longer than 1,024 bytes.
+    /// 1: longer than 1,024 bytes, or built it would be.
     TooLong,
     /// 2: no kind that this call takes, or not with its mark.
     UnknownKind,
@@ -25,10 +25,12 @@ pub enum Refusal {
     ShortOutput,
     /// 11: the last line has bytes and no line feed.
     Unfinished,
-    /// 12: no such item or field.
+    /// 12: no such item, field or attribute.
     NoPart,
     /// 13: the two Subjects are not one entity.
     OtherSubject,
+    /// 14: an attribute list that clause 7.5.1 or Appendix B does not permit.
+    WrongAttributes,
 }
 
 impl Refusal {
@@ -48,6 +50,7 @@ impl Refusal {
             Refusal::Unfinished => 11,
             Refusal::NoPart => 12,
             Refusal::OtherSubject => 13,
+            Refusal::WrongAttributes => 14,
         }
     }
 

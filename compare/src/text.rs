@@ -13,6 +13,12 @@ pub const SIG_DIGITS: usize = 192;
 pub const MAC_DIGITS: usize = 48;
 /// The digits of a PRINT.
 pub const PRINT_DIGITS: usize = 16;
+/// The digits of a wrapped key's nonce.
+pub const NONCE_DIGITS: usize = 24;
+/// The fewest digits of a protected key: a tag of 128 bits alone.
+pub const SHORTEST_PROTECTED: usize = 32;
+/// The most digits of a protected key: a key of 160 bits and the tag.
+pub const LONGEST_PROTECTED: usize = 72;
 
 const HEX_DIGITS: &[u8; 16] = b"0123456789ABCDEF";
 
@@ -46,7 +52,7 @@ pub fn is_timestamp(text: &[u8]) -> bool {
 }
 
 /// The number that a few decimal digits write, if that is what they are.
-fn decimal(digits: &[u8]) -> Option<u32> {
+pub(crate) fn decimal(digits: &[u8]) -> Option<u32> {
     digits.iter().try_fold(0, |number, digit| {
         char::from(*digit).to_digit(10).map(|value| 10 * number + value)
     })
@@ -75,6 +81,28 @@ pub fn is_mac(text: &[u8]) -> bool {
 /// PRINT: HEX(16).
 pub fn is_print(text: &[u8]) -> bool {
     is_hex(text, PRINT_DIGITS as u64)
+}
+
+/// The nonce of a wrapped key: HEX(24).
+pub fn is_nonce(text: &[u8]) -> bool {
+    is_hex(text, NONCE_DIGITS as u64)
+}
+
+/// A protected key: an even number of hexadecimal characters within its limits.
+pub fn is_protected(text: &[u8]) -> bool {
+    (SHORTEST_PROTECTED..=LONGEST_PROTECTED).contains(&text.len())
+        && text.len() % 2 == 0
+        && is_hex(text, text.len() as u64)
+}
+
+/// P, as a field is: one or more printable characters, none of them the mark of records.
+pub fn is_printable(text: &[u8]) -> bool {
+    !text.is_empty() && text.iter().all(|byte| (b' '..=b'~').contains(byte) && *byte != b'|')
+}
+
+/// nD: exactly so many decimal digits.
+pub fn is_decimal(text: &[u8], length: usize) -> bool {
+    text.len() == length && text.iter().all(u8::is_ascii_digit)
 }
 
 /// The value of a hexadecimal character; small letters have none.

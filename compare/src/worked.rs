@@ -10,7 +10,7 @@ const VALUES: &str = include_str!("../data/worked.txt");
 pub const IDENTITIES: [&str; 5] = ["ID_KMC", "ID_MAN", "ID_SM", "APPA_ID_KMC", "APPA_ID_SM"];
 
 /// Names of the records, in document 003 and in Appendix A of document 000.
-pub const RECORDS: [&str; 7] = [
+pub const RECORDS: [&str; 14] = [
     "PUBKEY_KMC",
     "PUBKEY_MAN",
     "PUBKEY_SM_NOSIG",
@@ -18,7 +18,29 @@ pub const RECORDS: [&str; 7] = [
     "VKLOADREQ",
     "VKLOADRESP",
     "APPA_VKLOADRESP",
+    "KEY1_1",
+    "KEY1_2",
+    "APPA_KEY1_1",
+    "APPA_KEY1_2",
+    "APPA_KEY1_3",
+    "APPA_KEY1_4",
+    "APPA_KEY1_5",
 ];
+
+/// Those of them that are wrapped keys.
+pub const WRAPPED_KEYS: [&str; 7] =
+    ["KEY1_1", "KEY1_2", "APPA_KEY1_1", "APPA_KEY1_2", "APPA_KEY1_3", "APPA_KEY1_4", "APPA_KEY1_5"];
+
+/// The six lines of Appendix A's example.
+pub const APPENDIX_A: [&str; 6] =
+    ["APPA_VKLOADRESP", "APPA_KEY1_1", "APPA_KEY1_2", "APPA_KEY1_3", "APPA_KEY1_4", "APPA_KEY1_5"];
+
+/// Appendix A's example as a file: its six lines, and their SHA-1 behind a `#`, which no line feed
+/// ends. The fourth key has the character that it lacks in print.
+pub fn appendix_a() -> Vec<u8> {
+    let lines = APPENDIX_A.iter().flat_map(|name| [worked(name), b"\n".to_vec()]);
+    lines.chain([b"#".to_vec(), worked("APPA_SHA1")]).flatten().collect()
+}
 
 /// The bytes of the value with this name.
 ///

@@ -30,7 +30,9 @@ fn record_number(bytes: &[u8]) -> u8 {
 #[test]
 fn limits_are_the_figures_of_document_01() {
     assert_eq!(LONGEST_IDENT, 32, "IDENT: 1 to 32 characters");
-    assert_eq!(Kind::longest_of(&Kind::ALL), 646, "no built record is longer than 646 bytes");
+    let (others, wrapped_key) = (&Kind::ALL[..7], Kind::WrappedKey);
+    assert_eq!(Kind::longest_of(others), 646, "01: no built record is longer than 646 bytes");
+    assert_eq!(wrapped_key.longest(), 1024, "E1: building an over-long KEY.1 answers 1");
     assert_eq!(LONGEST_READ, 1024, "1: the record or identity to read is longer than 1,024 bytes");
     assert_eq!(LONGEST_FILE, 65_536, "the lister reads at most 65,536 bytes");
 }
@@ -216,7 +218,7 @@ fn lengths_of_the_longest_records() {
     assert_eq!(unsigned.len(), "PK.ECDSA.1".len() + identity.len() + 220);
     let signed = built("PK.ECDSA.1", &[&identity, &q, time, &identity, &[b'0'; 192]]);
     assert_eq!(signed.len(), unsigned.len() + identity.len() + 192);
-    assert_eq!(signed.len(), Kind::longest_of(&Kind::RECORDS));
+    assert_eq!(signed.len(), Kind::longest_of(&Kind::PUBLIC_KEYS));
 }
 
 #[test]

@@ -1,6 +1,8 @@
-//! The implementation held against the worked example of document 003.
+//! The implementation held against the worked example of document 003, and against Appendix A of
+//! document 000.
 
 use compare::agreement::{centre_text, item, join, module_text, shared_info, split};
+use compare::attributes::{attribute, attribute_named};
 use compare::build::build;
 use compare::crc::crc16;
 use compare::file::{count, lines, Line};
@@ -9,10 +11,10 @@ use compare::newer::newer;
 use compare::record::{identity_field, read_identity, read_record, record_field, Record};
 use compare::refusal::Refusal;
 use compare::text::{base16_decode, check_text};
-use compare::worked::{worked, IDENTITIES, RECORDS};
+use compare::worked::{appendix_a, worked, IDENTITIES, RECORDS, WRAPPED_KEYS};
 
 /// Name, kind, length and check of every record and identity.
-const TABLE: [(&str, Kind, usize, &str); 12] = [
+const TABLE: [(&str, Kind, usize, &str); 19] = [
     ("ID_KMC", Kind::Kmcid, 73, "4C31"),
     ("ID_MAN", Kind::Smman, 54, "8B04"),
     ("ID_SM", Kind::Smid, 60, "8EFF"),
@@ -25,6 +27,13 @@ const TABLE: [(&str, Kind, usize, &str); 12] = [
     ("APPA_ID_KMC", Kind::Kmcid, 58, "E7BF"),
     ("APPA_ID_SM", Kind::Smid, 60, "1F8C"),
     ("APPA_VKLOADRESP", Kind::VkloadResp, 204, "71CC"),
+    ("KEY1_1", Kind::WrappedKey, 162, "4726"),
+    ("KEY1_2", Kind::WrappedKey, 305, "5AF9"),
+    ("APPA_KEY1_1", Kind::WrappedKey, 273, "8F06"),
+    ("APPA_KEY1_2", Kind::WrappedKey, 273, "5D2D"),
+    ("APPA_KEY1_3", Kind::WrappedKey, 273, "576D"),
+    ("APPA_KEY1_4", Kind::WrappedKey, 254, "25EB"),
+    ("APPA_KEY1_5", Kind::WrappedKey, 254, "19FA"),
 ];
 
 fn read_either(bytes: &[u8], kind: Kind) -> Result<Record<'_>, Refusal> {
@@ -179,16 +188,80 @@ fn a_key_is_the_newer_of_itself_and_an_equal_one_comes_first() {
 }
 
 #[test]
-fn wrapped_keys_are_no_kind_of_the_table() {
-    for name in ["KEY1_1", "KEY1_2"] {
-        assert_eq!(read_record(&worked(name)), Err(Refusal::UnknownKind), "{name}");
-    }
-    let file = worked("KLF");
+fn key_load_files_have_their_lines() {
     let numbers = |line: Line| {
         let number = line.answer.map_or_else(Refusal::number, |_| 0);
         (line.start, line.length, number)
     };
+    let file = worked("KLF");
     let found: Vec<_> = lines(&file).map(numbers).collect();
-    assert_eq!(found, [(0, 219, 0), (220, 162, 2), (383, 305, 2), (689, 41, 11)]);
-    assert_eq!(count(&file), (4, 1));
+    assert_eq!(found, [(0, 219, 0), (220, 162, 0), (383, 305, 0), (689, 41, 11)]);
+    assert_eq!(count(&file), (4, 3));
+
+    let file = appendix_a();
+    let found: Vec<_> = lines(&file).map(numbers).collect();
+    let keys = [(205, 273, 0), (479, 273, 0), (753, 273, 0), (1027, 254, 0), (1282, 254, 0)];
+    assert_eq!(found, [&[(0, 204, 0)], &keys[..], &[(1537, 41, 11)]].concat());
+    assert_eq!((file.len(), count(&file)), (1578, (7, 6)));
+}
+
+#[test]
+fn the_fourth_key_of_appendix_a_lacks_a_character_in_print() {
+    let printed = worked("APPA_KEY1_4_AS_PRINTED");
+    assert_eq!(read_record(&printed), Err(Refusal::CheckDiffers));
+    assert_eq!(attribute(&printed, 1), Err(Refusal::CheckDiffers));
+    let mut restored = printed;
+    restored.insert(137, b'C');
+    assert_eq!(restored, worked("APPA_KEY1_4"));
+    assert_eq!(attribute_named(&restored, b"KCV"), Ok(&b"KCVC33F45"[..]));
+}
+
+#[test]
+fn attributes_are_handed_back_one_by_one_and_joined_again_are_field_2() {
+    for (name, count) in WRAPPED_KEYS.into_iter().zip([7, 14, 15, 15, 15, 15, 15]) {
+        let key = worked(name);
+        let list = record_field(&key, 2).unwrap();
+        let cards: Vec<&[u8]> = (1..).map_while(|number| attribute(&key, number).ok()).collect();
+        let joined: Vec<u8> = cards.iter().flat_map(|card| [card, &b";"[..]].concat()).collect();
+        assert_eq!((cards.len(), &joined[..]), (count, list), "{name}");
+        for card in &cards {
+            let named = attribute_named(&key, &card[..3]).unwrap();
+            assert_eq!((named.as_ptr(), named.len()), (card.as_ptr(), card.len()), "{name}");
+            assert!(key.as_ptr_range().contains(&card.as_ptr()), "{name}");
+        }
+        let beyond = count as u64 + 1;
+        for number in [0, beyond, beyond + 256, 1 << 63, u64::MAX] {
+            assert_eq!(attribute(&key, number), Err(Refusal::NoPart), "{name}");
+        }
+    }
+}
+
+#[test]
+fn the_attributes_of_table_4() {
+    let cards = [
+        "ACT20160425T114321Z",
+        "BDT19930101T000000Z",
+        "CLM44fa0000",
+        "CLU0",
+        "DKG02",
+        "EXP20170506T215959Z",
+        "IUT20160903T102658Z",
+        "KCV17D819",
+        "KEN255",
+        "KRN1",
+        "KTC2",
+        "SBMFFFF",
+        "SGC0000112233",
+        "SGNSURELOAD KMC TEST VUDK 1",
+        "ULM1000",
+    ];
+    let key = worked("APPA_KEY1_1");
+    for (number, card) in (1..).zip(cards) {
+        assert_eq!(attribute(&key, number), Ok(card.as_bytes()));
+        assert_eq!(attribute_named(&key, &card.as_bytes()[..3]), Ok(card.as_bytes()));
+    }
+    assert_eq!(attribute(&key, 16), Err(Refusal::NoPart));
+    for name in ["", "A", "AC", "ACT2", "act", "ACU", "CT2", "ULM1000", "ULM1000;"] {
+        assert_eq!(attribute_named(&key, name.as_bytes()), Err(Refusal::NoPart), "{name}");
+    }
 }

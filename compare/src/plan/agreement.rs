@@ -218,6 +218,11 @@ fn large_texts(plan: &mut Plan) {
         plan.numbered(Op::Item, 1, &text[..text.len() - 1]);
         plan.numbered(Op::Item, 1, [&text[..], &[0]].concat());
     }
-    let fullest = full(&long, 255);
-    plan.numbered(Op::Item, 255, fullest);
+    plan.numbered(Op::Item, 255, fullest_text());
+}
+
+/// As many items as there can be, each as long as it can be: every byte value but the line feed.
+pub fn fullest_text() -> Vec<u8> {
+    let item: Vec<u8> = (0..=255).filter(|&byte| byte != b'\n').collect();
+    join(&[&item[..]; 255])
 }

@@ -9,7 +9,8 @@ use compare::crc::crc16;
 use compare::kind::Kind;
 use compare::sample;
 use compare::text::{
-    check_text, LONGEST_IDENT, MAC_DIGITS, POINT_DIGITS, PRINT_DIGITS, SIG_DIGITS,
+    check_text, LONGEST_IDENT, LONGEST_PROTECTED, MAC_DIGITS, NONCE_DIGITS, POINT_DIGITS,
+    PRINT_DIGITS, SIG_DIGITS,
 };
 use compare::worked::worked;
 
@@ -18,7 +19,7 @@ pub fn add(plan: &mut Plan) {
     timestamps(plan);
     digits(plan);
     sums(plan);
-    for kind in Kind::ALL {
+    for kind in Kind::ALL.into_iter().filter(|&kind| kind != Kind::WrappedKey) {
         let fields = sample::longest_fields(&mut plan.random, kind);
         let record = sample::of_kind(kind, &fields);
         names_and_marks(plan, kind, &record);
@@ -27,6 +28,7 @@ pub fn add(plan: &mut Plan) {
     }
     line_feeds(plan);
     items(plan);
+    wrapped_key(plan);
 }
 
 impl Plan {
@@ -37,7 +39,7 @@ impl Plan {
     }
 
     /// The same in a record before its check, which is made right again for each.
-    fn every_byte_checked(&mut self, op: Op, record: &[u8], place: usize) {
+    fn every_byte_checked(&mut self, op: Op, n: u64, record: &[u8], place: usize) {
         let mut body = record[..record.len() - 4].to_vec();
         let (a, b) = (body[..place].to_vec(), body[place + 1..].to_vec());
         let mut c = Vec::new();
@@ -45,7 +47,7 @@ impl Plan {
             body[place] = byte;
             c.extend(check_text(crc16(&body)).into_bytes());
         }
-        self.cases.push(Case { op, form: Form::EveryByte, n: 0, a, b, c });
+        self.cases.push(Case { op, form: Form::EveryByte, n, a, b, c });
     }
 }
 
@@ -106,7 +108,7 @@ fn sums(plan: &mut Plan) {
 fn names_and_marks(plan: &mut Plan, kind: Kind, record: &[u8]) {
     let name = kind.name().len();
     for place in [0, name - 1, name, record.len() - 5] {
-        plan.every_byte_checked(reader(kind), record, place);
+        plan.every_byte_checked(reader(kind), 0, record, place);
     }
 }
 
@@ -115,7 +117,7 @@ fn fields_of(plan: &mut Plan, kind: Kind, fields: &[Vec<u8>]) {
     let record = sample::of_kind(kind, fields);
     let mut start = kind.name().len() + 1;
     for field in fields {
-        plan.every_byte_checked(reader(kind), &record, start + (field.len() - 1) / 2);
+        plan.every_byte_checked(reader(kind), 0, &record, start + (field.len() - 1) / 2);
         start += field.len() + 1;
     }
 }
@@ -141,5 +143,45 @@ fn items(plan: &mut Plan) {
     let text = agreement::join(&[b"U_2", b"", &[0xE9; 97]]);
     for place in [0, 1, 2, 5, 6, 50] {
         plan.every_byte(Op::ItemPlace, 3, &text, place);
+    }
+}
+
+/// Cards of document 003's second key, and places in them: of names, of what ends a card, and of every
+/// sort of value.
+const IN_CARDS: [(&str, &[usize]); 11] = [
+    ("ACT20140101T000000Z;", &[0, 2, 3]),
+    ("BDT20140101T000000Z;", &[12]),
+    ("CLM5368D4A5;", &[0, 1, 2, 3, 11]),
+    ("DKG04;", &[4]),
+    ("IUT20990101T000000Z;", &[7]),
+    ("KEN255;", &[3, 4, 5]),
+    ("KRN4;", &[3]),
+    ("KTC2;", &[3]),
+    ("SGC0000123457;", &[3, 12]),
+    ("SGNCTS 123457,4 VUDK BDT14 DKG04 AB.94.0-7;", &[2, 6]),
+    ("ULM1000000;", &[0, 10]),
+];
+
+/// The name, the marks and the check; both ends of the nonce and of the protected key; and places of the
+/// list, there by the number of the last attribute too.
+fn wrapped_key(plan: &mut Plan) {
+    let key = worked("KEY1_2");
+    names_and_marks(plan, Kind::WrappedKey, &key);
+    checks(plan, Kind::WrappedKey, &key);
+    let nonce = Kind::WrappedKey.name().len() + 1;
+    let list = nonce + NONCE_DIGITS + 1;
+    // Its protected key has as many digits as there can be.
+    let last_mark = key.len() - 5;
+    let protected_key = last_mark - LONGEST_PROTECTED;
+    for place in [nonce, list - 2, list - 1, protected_key - 1, protected_key, last_mark - 1] {
+        plan.every_byte_checked(Op::Record, 0, &key, place);
+    }
+    for (card, places) in IN_CARDS {
+        let start = key.windows(card.len()).position(|part| part == card.as_bytes());
+        let start = start.expect("a card of the key");
+        for place in places {
+            plan.every_byte_checked(Op::Record, 0, &key, start + place);
+            plan.every_byte_checked(Op::AttributePlace, 14, &key, start + place);
+        }
     }
 }

@@ -62,7 +62,7 @@ fn some_rooms(plan: &mut Plan) {
             plan.build(room, kind.name(), &fields);
         }
     }
-    // The longest record there is.
+    // The longest public key.
     let lengths = [LONGEST_IDENT; 2];
     let subject = sample::with_idents(&mut plan.random, Kind::Smman, [0, 1], lengths);
     let mut fields = sample::fields(&mut plan.random, Kind::PkEcdsa, Signed::Yes);
@@ -114,7 +114,7 @@ fn wrong_types(plan: &mut Plan) {
 
 /// Each fault that fields can have, every two together, and each with too little room.
 fn faults(plan: &mut Plan) {
-    let found = [Fault::Text, Fault::Inner, Fault::InnerKind, Fault::Half];
+    let found = [Fault::Text, Fault::Inner, Fault::InnerKind, Fault::Half, Fault::Attributes];
     for kind in Kind::RECORDS {
         let faults: Vec<Fault> =
             Fault::of(kind).iter().copied().filter(|fault| found.contains(fault)).collect();
@@ -179,7 +179,7 @@ fn long_fields(plan: &mut Plan) {
 
 /// Lengths whose sum, or whose number, is wrong.
 fn wrong_lengths(plan: &mut Plan) {
-    for kind in [Kind::Smid, Kind::PkEcdh, Kind::VkloadReq, Kind::VkloadResp] {
+    for kind in [Kind::Smid, Kind::PkEcdh, Kind::VkloadReq, Kind::VkloadResp, Kind::WrappedKey] {
         let fields = sample::short_fields(&mut plan.random, kind, Signed::No);
         let bytes = fields.concat();
         let right: Vec<u64> = fields.iter().map(|field| field.len() as u64).collect();
@@ -229,7 +229,7 @@ fn other_numbers(right: &[u64]) -> [Vec<u64>; 5] {
 fn wrapping_lengths(plan: &mut Plan) {
     const HALF: u64 = 1 << 63;
     const MOST: u64 = u64::MAX;
-    for kind in [Kind::Smman, Kind::Kmcid, Kind::PkEcdsa, Kind::VkloadReq] {
+    for kind in [Kind::Smman, Kind::Kmcid, Kind::PkEcdsa, Kind::VkloadReq, Kind::WrappedKey] {
         let fields = sample::short_fields(&mut plan.random, kind, Signed::No);
         let bytes = fields.concat();
         let right: Vec<u64> = fields.iter().map(|field| field.len() as u64).collect();
@@ -265,32 +265,40 @@ fn wrapping_lengths(plan: &mut Plan) {
     }
 }
 
+/// Names that are nearly a kind's.
+const UNKNOWN_NAMES: &[&str] = &[
+    "",
+    "S",
+    "SMID",
+    "SMID.",
+    "SMID.1:",
+    "SMID.1|",
+    ":SMID.1",
+    "SMID.10",
+    "SMID.2",
+    "smid.1",
+    "SMAN.1",
+    "KMC.1",
+    "PK.ECDH",
+    "PK.ECDH.1|",
+    "PK.ECDSA.2",
+    "VKLOAD.REQ.2",
+    "VKLOAD",
+    "KEY",
+    "KEY.",
+    "KEY.1|",
+    "KEY.2",
+    "key.1",
+    "\n",
+    "SMID.1\0",
+    "SMID.1\n",
+    " SMID.1",
+    "SMMAN.1SMID.1",
+];
+
 fn unknown_names(plan: &mut Plan) {
     let fields = sample::short_fields(&mut plan.random, Kind::Smid, Signed::No);
-    for name in [
-        "",
-        "S",
-        "SMID",
-        "SMID.",
-        "SMID.1:",
-        "SMID.1|",
-        ":SMID.1",
-        "SMID.10",
-        "SMID.2",
-        "smid.1",
-        "SMAN.1",
-        "KMC.1",
-        "PK.ECDH",
-        "PK.ECDH.1|",
-        "PK.ECDSA.2",
-        "VKLOAD.REQ.2",
-        "VKLOAD",
-        "\n",
-        "SMID.1\0",
-        "SMID.1\n",
-        " SMID.1",
-        "SMMAN.1SMID.1",
-    ] {
+    for &name in UNKNOWN_NAMES {
         plan.build(AMPLE, name, &fields);
     }
     for name in ["SMID.9", ""] {

@@ -20,7 +20,7 @@ pub fn add(plan: &mut Plan) {
 
 impl Plan {
     /// The lines of a file from its first place on, and one step past them; and their number.
-    fn walk(&mut self, file: &[u8]) {
+    pub fn walk(&mut self, file: &[u8]) {
         let places: Vec<u64> = lines(file).map(|line| line.start).collect();
         for place in places {
             self.numbered(Op::Line, place, file);
@@ -57,8 +57,6 @@ fn worked_files(plan: &mut Plan) {
     }
     plan.call(Op::Count, ended(RECORDS.map(worked)));
     plan.call(Op::Count, ended(IDENTITIES.map(worked)));
-    // Wrapped keys are no kind of the table.
-    plan.walk(&worked("KLF"));
 }
 
 /// These lines, each with its line feed.

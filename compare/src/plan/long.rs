@@ -1,9 +1,10 @@
 //! Lengths, places and numbers that are right only modulo 65,536, or beyond it.
 
+use super::agreement::fullest_text;
 use super::Plan;
 use crate::calls::Op;
 use compare::kind::Kind;
-use compare::record::read_identity;
+use compare::record::read;
 use compare::sample;
 use compare::text::{MAC_DIGITS, PRINT_DIGITS, SIG_DIGITS};
 use compare::worked::worked;
@@ -17,9 +18,14 @@ const MORE: usize = 1 << 16;
 enum Part {
     Request,
     Key,
+    WrappedKey,
     Identity,
     Text,
+    /// The fields of the wrapped key, one behind the other.
+    WrappedFields,
     Timestamp,
+    /// The name of an attribute.
+    Name,
     Ident,
     /// The fields of the identity, one behind the other.
     Fields,
@@ -29,7 +35,7 @@ enum Part {
 /// The parts, [`MORE`] digits, the parts backwards, and a tail: a line feed and an accepted line. All
 /// but a few long strings of this group are pieces of it, so that the case file has their bytes once.
 struct Block {
-    parts: [Vec<u8>; 8],
+    parts: [Vec<u8>; 11],
     bytes: Vec<u8>,
     tail: usize,
 }
@@ -39,11 +45,14 @@ impl Block {
         let parts = [
             worked("VKLOADREQ"),
             worked("PUBKEY_KMC"),
+            worked("KEY1_1"),
             worked("ID_SM"),
             worked("MACDATA_SM"),
+            fields_of("KEY1_1").concat(),
             worked("TVP"),
+            b"ACT".to_vec(),
             b"Prism".to_vec(),
-            fields_of_identity().concat(),
+            fields_of("ID_SM").concat(),
             worked("QE"),
         ];
         let tail = [b"\n", &worked("VKLOADRESP")[..], b"\n"].concat();
@@ -90,9 +99,10 @@ impl Block {
     }
 }
 
-fn fields_of_identity() -> Vec<Vec<u8>> {
-    let identity = worked("ID_SM");
-    let read = read_identity(&identity).expect("a worked identity");
+/// The fields of a worked record or identity.
+fn fields_of(name: &str) -> Vec<Vec<u8>> {
+    let bytes = worked(name);
+    let read = read(&bytes, &Kind::ALL).expect("worked records are accepted");
     read.fields.iter().map(|field| field.to_vec()).collect()
 }
 
@@ -110,6 +120,8 @@ pub fn add(plan: &mut Plan) {
     texts(plan, &block);
     buildings(plan, &block);
     rooms(plan);
+    attributes(plan, &block);
+    wrapped_buildings(plan, &block);
 }
 
 fn sums(plan: &mut Plan, block: &Block) {
@@ -141,9 +153,10 @@ fn types(plan: &mut Plan, block: &Block) {
 fn readings(plan: &mut Plan, block: &Block) {
     let of_identities = [Op::Identity, Op::IdentityField, Op::IdentityPlace];
     let of_records = [Op::Record, Op::RecordField, Op::RecordPlace];
-    for (ops, parts) in
-        [(of_identities, &[Part::Identity][..]), (of_records, &[Part::Request, Part::Key])]
-    {
+    for (ops, parts) in [
+        (of_identities, &[Part::Identity][..]),
+        (of_records, &[Part::Request, Part::Key, Part::WrappedKey]),
+    ] {
         for bytes in parts.iter().flat_map(|&part| block.longer(part)) {
             for op in ops {
                 plan.numbered(op, 1, bytes.clone());
@@ -158,6 +171,7 @@ fn wanted(plan: &mut Plan, block: &Block) {
         ([Op::IdentityField, Op::IdentityPlace], Part::Identity),
         ([Op::RecordField, Op::RecordPlace], Part::Request),
         ([Op::Item, Op::ItemPlace], Part::Text),
+        ([Op::Attribute, Op::AttributePlace], Part::WrappedKey),
     ] {
         for beyond in [1 << 8, 1 << 16, 1 << 32] {
             for op in ops {
@@ -190,7 +204,10 @@ fn keys(plan: &mut Plan, block: &Block) {
 fn files(plan: &mut Plan, block: &Block) {
     let file = block.file();
     let ended = block.part(Part::Request).len() + MORE + 1;
-    let beginning = [&block.part(Part::Request)[..], &block.digits(MORE), b"\n"].concat();
+    // The fullest text is a part of this line, so that the case file has its bytes once too.
+    let text = fullest_text();
+    let rest = block.digits(MORE - text.len());
+    let beginning = [&block.part(Part::Request)[..], &text, &rest, b"\n"].concat();
     for (file, places) in [
         (&file, &[0, 1, MORE - 1, MORE, MORE + 1, ended - 1, ended, ended + 1, file.len()][..]),
         (&beginning, &[0, MORE, ended]),
@@ -221,7 +238,7 @@ fn texts(plan: &mut Plan, block: &Block) {
 /// Field bytes that are longer than their lengths, lengths that are longer than their fields may
 /// be, and both; and a name with more behind it.
 fn buildings(plan: &mut Plan, block: &Block) {
-    let fields = fields_of_identity();
+    let fields = fields_of("ID_SM");
     let name = Kind::Smid.name();
     let right: Vec<u64> = fields.iter().map(|field| field.len() as u64).collect();
     let more = MORE as u64;
@@ -251,5 +268,43 @@ fn rooms(plan: &mut Plan) {
         for room in [MORE, MORE + needed - 1, MORE + needed] {
             plan.build(room, kind.name(), &fields);
         }
+    }
+}
+
+/// The attributes of a longer key, by number and by name, and longer names.
+fn attributes(plan: &mut Plan, block: &Block) {
+    for longer in block.longer(Part::WrappedKey) {
+        for op in [Op::Attribute, Op::AttributePlace] {
+            plan.numbered(op, 1, longer.clone());
+        }
+        for op in [Op::AttributeNamed, Op::AttributeNamedPlace] {
+            plan.pair(op, longer.clone(), block.part(Part::Name));
+        }
+    }
+    for longer in block.longer(Part::Name) {
+        for op in [Op::AttributeNamed, Op::AttributeNamedPlace] {
+            plan.pair(op, block.part(Part::WrappedKey), longer.clone());
+        }
+    }
+}
+
+/// A wrapped key whose fields are longer, or said to be: the nonce, the list, the protected key.
+fn wrapped_buildings(plan: &mut Plan, block: &Block) {
+    let right: Vec<u64> = fields_of("KEY1_1").iter().map(|field| field.len() as u64).collect();
+    let more = MORE as u64;
+    let [followed, preceded] = block.longer(Part::WrappedFields);
+    let part = block.part(Part::WrappedFields);
+    for (bytes, added) in [
+        (&followed, [0; 3]),
+        (&followed, [0, 0, more]),
+        (&followed, [0, more, 0]),
+        (&preceded, [more, 0, 0]),
+        (&preceded, [0, more, 0]),
+        (&part, [0, more, 0]),
+        (&part, [more / 2, 0, more / 2]),
+    ] {
+        let lengths: Vec<u64> =
+            right.iter().zip(added).map(|(length, more)| length + more).collect();
+        plan.build_of(1024, Kind::WrappedKey.name(), bytes.clone(), &lengths);
     }
 }

@@ -3,15 +3,18 @@
 
 mod agreement;
 mod alphabets;
+mod attributes;
 mod building;
 mod fields;
 mod files;
+mod lists;
 mod long;
 mod newer;
 mod places;
 mod reading;
 mod types;
 mod walks;
+mod wrapped;
 
 use crate::calls::Op;
 use crate::cases::{Case, Form};
@@ -38,6 +41,9 @@ pub fn all() -> Vec<Case> {
         newer::which,
         alphabets::add,
         long::add,
+        wrapped::add,
+        lists::add,
+        attributes::add,
     ];
     let mut plan = Plan { cases: Vec::new(), random: Random::with_seed(0) };
     for (seed, add) in (1..).zip(groups) {

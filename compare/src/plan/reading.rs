@@ -11,7 +11,6 @@ use compare::worked::{worked, IDENTITIES, RECORDS};
 
 pub fn add(plan: &mut Plan) {
     worked_records(plan);
-    wrapped_keys(plan);
     accepted(plan);
     ident_lengths(plan);
     longest(plan);
@@ -52,13 +51,6 @@ fn worked_records(plan: &mut Plan) {
     }
 }
 
-/// Wrapped keys stand in document 003 and in no table here.
-fn wrapped_keys(plan: &mut Plan) {
-    for name in ["KEY1_1", "KEY1_2"] {
-        plan.call(Op::Record, worked(name));
-    }
-}
-
 fn accepted(plan: &mut Plan) {
     for kind in Kind::ALL {
         for _ in 0..15 {
@@ -92,7 +84,7 @@ fn ident_lengths(plan: &mut Plan) {
         let request = sample::with_idents(&mut plan.random, Kind::VkloadReq, [3, 4], lengths);
         plan.call(Op::Record, request);
     }
-    // The longest record there is, and one with a character too many deep inside.
+    // The longest public key, and one with a character too many deep inside.
     for last in [MOST, MORE] {
         let subject = sample::with_idents(&mut plan.random, Kind::Smman, [0, 1], [MOST, last]);
         let mut fields = sample::fields(&mut plan.random, Kind::PkEcdsa, Signed::Yes);

@@ -11,7 +11,7 @@ pub enum Place {
     Anywhere,
     Name,
     Marks,
-    /// In the first field, which is an identity in every kind but the identities themselves.
+    /// In the first field, which is an identity in the kinds that have identities inside.
     FirstField,
     Check,
     /// In the last mark, the byte before it, and the check.
@@ -71,7 +71,7 @@ fn other_byte(random: &mut Random, byte: u8) -> u8 {
         let other = match random.below(6) {
             0 => byte ^ (1 << random.below(8)),
             1 => byte ^ 0x20,
-            2 => random.one_of(b":|#\n\r\0 \x7F\x80\xFF"),
+            2 => random.one_of(b":|;#\n\r\0 \x7F\x80\xFF"),
             3 => random.byte(),
             _ => random.one_of(HEX_DIGITS),
         };

@@ -1,7 +1,8 @@
 //! Records with something wrong with them.
 
 use super::{
-    damaged, damaged_anywhere, fields, hex, join, of_kind, of_type, record, Place, Signed,
+    damaged, damaged_anywhere, faulty_list, fields, hex, join, of_kind, of_type, record,
+    usual_fields, ListFault, Place, Signed,
 };
 use crate::crc::crc16;
 use crate::frame::CHECK_LENGTH;
@@ -31,6 +32,8 @@ pub enum Fault {
     InnerKind,
     /// Only one of Issuer and Signature.
     Half,
+    /// An attribute list that is not permitted.
+    Attributes,
 }
 
 impl Fault {
@@ -51,6 +54,15 @@ impl Fault {
             Kind::Smman | Kind::Smid | Kind::Kmcid => &ALL[..6],
             Kind::VkloadReq | Kind::VkloadResp => &ALL[..8],
             Kind::PkEcdsa | Kind::PkEcdh => ALL,
+            Kind::WrappedKey => &[
+                Fault::Long,
+                Fault::Name,
+                Fault::CheckText,
+                Fault::Check,
+                Fault::Count,
+                Fault::Text,
+                Fault::Attributes,
+            ],
         }
     }
 }
@@ -60,7 +72,7 @@ pub fn faulty_fields(random: &mut Random, kind: Kind, faults: &[Fault]) -> Vec<V
     let has = |fault| faults.contains(&fault);
     let half = has(Fault::Half);
     let signed = if half { Signed::Yes } else { Signed::any(random) };
-    let mut fields = fields(random, kind, signed);
+    let mut fields = usual_fields(random, kind, signed);
     if half {
         fields[random.between(3, 4)].clear();
     }
@@ -82,6 +94,10 @@ pub fn faulty_fields(random: &mut Random, kind: Kind, faults: &[Fault]) -> Vec<V
             fields[index].retain(|byte| !b"|\n".contains(byte));
         }
     }
+    if has(Fault::Attributes) {
+        let fault = random.one_of(&ListFault::ALL);
+        fields[1] = faulty_list(random, fault);
+    }
     if has(Fault::Text) {
         let (field_type, index) = random.one_of(&texts);
         fields[index] = wrong_of_type(random, field_type);
@@ -99,6 +115,11 @@ fn wrong_of_type(random: &mut Random, field_type: FieldType) -> Vec<u8> {
         }
         FieldType::Timestamp => {
             random.one_of(&["20180101T240000Z", "20180132T000000Z", "00000101T000000Z"]).into()
+        }
+        FieldType::Attributes => {
+            let list = of_type(random, field_type);
+            let strange = random.one_of(b"\0\t\x1F\x7F\x80\xE9\xFF");
+            random.one_of(&[&b""[..], &[&list[..], &[strange]].concat()]).to_vec()
         }
         _ => {
             let mut text = of_type(random, field_type);
@@ -123,7 +144,7 @@ pub fn faulty(random: &mut Random, kind: Kind, faults: &[Fault]) -> Vec<u8> {
         }
     }
     if has(Fault::Long) {
-        let missing = LONGEST_READ + 1 - of_kind(kind, &fields).len();
+        let missing = (LONGEST_READ + 1).saturating_sub(of_kind(kind, &fields).len());
         let last = fields.len() - 1;
         fields[last].extend(hex(random, missing + 12));
     }
@@ -185,6 +206,7 @@ mod tests {
                     Fault::Inner => 7,
                     Fault::InnerKind => 9,
                     Fault::Half => 8,
+                    Fault::Attributes => 14,
                 };
                 let number = read(&record, &[kind]).map_or_else(Refusal::number, |_| 0);
                 assert_eq!(number, expected, "{fault:?}");

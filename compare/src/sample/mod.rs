@@ -2,21 +2,29 @@
 //! them, and whatever else a call may be handed. The cases and the tests of `bindings/rust` are made
 //! of them.
 
+mod cards;
 mod damage;
 mod fault;
 mod input;
+mod list_fault;
 mod subject;
 
+pub use cards::{printable, wrapped_key, wrapped_key_fields, Cards};
 pub use damage::{damaged, damaged_anywhere, Place};
 pub use fault::{faulty, faulty_fields, with_a_wrong_field, Fault};
 pub use input::{anything, file, line};
+pub use list_fault::{faulty_list, ListFault};
 pub use subject::Subject;
 
 use crate::crc::crc16;
 use crate::frame::body_of;
 use crate::kind::{FieldType, Kind};
 use crate::random::Random;
-use crate::text::{check_text, LONGEST_IDENT, MAC_DIGITS, POINT_DIGITS, PRINT_DIGITS, SIG_DIGITS};
+use crate::record::LONGEST_READ;
+use crate::text::{
+    check_text, LONGEST_IDENT, LONGEST_PROTECTED, MAC_DIGITS, NONCE_DIGITS, POINT_DIGITS,
+    PRINT_DIGITS, SHORTEST_PROTECTED, SIG_DIGITS,
+};
 
 const LETTERS_AND_DIGITS: &[u8] = b"ABCDEFGHIJKLMNOPQRSTUVWXYZabcdefghijklmnopqrstuvwxyz0123456789";
 const LATER_IN_IDENT: &[u8] =
@@ -63,6 +71,16 @@ pub fn point(random: &mut Random) -> Vec<u8> {
     [b"04".to_vec(), hex(random, POINT_DIGITS - 2)].concat()
 }
 
+/// A protected key; the shortest and the longest are frequent.
+pub fn protected(random: &mut Random) -> Vec<u8> {
+    let digits = match random.below(4) {
+        0 => SHORTEST_PROTECTED,
+        1 => LONGEST_PROTECTED,
+        _ => 2 * random.between(SHORTEST_PROTECTED / 2, LONGEST_PROTECTED / 2),
+    };
+    hex(random, digits)
+}
+
 /// A text of this type.
 pub fn of_type(random: &mut Random, field_type: FieldType) -> Vec<u8> {
     match field_type {
@@ -72,6 +90,9 @@ pub fn of_type(random: &mut Random, field_type: FieldType) -> Vec<u8> {
         FieldType::Point => point(random),
         FieldType::Sig => hex(random, SIG_DIGITS),
         FieldType::Mac => hex(random, MAC_DIGITS),
+        FieldType::Nonce => hex(random, NONCE_DIGITS),
+        FieldType::Attributes => Cards::any(random).list(),
+        FieldType::Protected => protected(random),
         FieldType::Identity(kinds) => {
             let kind = random.one_of(kinds);
             record(random, kind)
@@ -115,8 +136,17 @@ impl Signed {
     }
 }
 
-/// Permitted fields of a kind.
+/// Permitted fields of a kind; a wrapped key has as many bytes as are read now and then.
 pub fn fields(random: &mut Random, kind: Kind, signed: Signed) -> Vec<Vec<u8>> {
+    if kind == Kind::WrappedKey && random.once_in(32) {
+        longest_fields(random, kind)
+    } else {
+        usual_fields(random, kind, signed)
+    }
+}
+
+/// Permitted fields of a kind, to which some bytes can be added before the record is too long.
+fn usual_fields(random: &mut Random, kind: Kind, signed: Signed) -> Vec<Vec<u8>> {
     let entries = kind.fields().iter();
     entries
         .map(|entry| match entry.field_type {
@@ -126,13 +156,16 @@ pub fn fields(random: &mut Random, kind: Kind, signed: Signed) -> Vec<Vec<u8>> {
         .collect()
 }
 
-/// Permitted fields of a kind, in the shortest form: every IDENT has one character.
+/// Permitted fields of a kind, in the shortest form: every IDENT has one character, and a wrapped
+/// key has the required attributes alone.
 pub fn short_fields(random: &mut Random, kind: Kind, signed: Signed) -> Vec<Vec<u8>> {
     let entries = kind.fields().iter();
     entries
         .map(|entry| match entry.field_type {
             _ if entry.may_be_empty && signed == Signed::No => Vec::new(),
             FieldType::Ident => ident(random, 1),
+            FieldType::Attributes => Cards::required(random).list(),
+            FieldType::Protected => hex(random, SHORTEST_PROTECTED),
             FieldType::Identity(kinds) => {
                 let kind = random.one_of(kinds);
                 of_kind(kind, &short_fields(random, kind, signed))
@@ -143,13 +176,16 @@ pub fn short_fields(random: &mut Random, kind: Kind, signed: Signed) -> Vec<Vec<
 }
 
 /// Permitted fields of a kind, in the longest form: every IDENT has as many characters as it can,
-/// and of two permitted identities it is the longer one.
+/// of two permitted identities it is the longer one, and a wrapped key has as many bytes as are read.
 pub fn longest_fields(random: &mut Random, kind: Kind) -> Vec<Vec<u8>> {
-    kind.fields().iter().map(|entry| longest_of_type(random, entry.field_type)).collect()
+    match kind {
+        Kind::WrappedKey => wrapped_key_fields(random, LONGEST_READ),
+        _ => kind.fields().iter().map(|entry| longest_of_type(random, entry.field_type)).collect(),
+    }
 }
 
-/// A text of this type with as many bytes as it can have.
-pub fn longest_of_type(random: &mut Random, field_type: FieldType) -> Vec<u8> {
+/// A text of this type with as many bytes as it can have, where it has a longest length of its own.
+fn longest_of_type(random: &mut Random, field_type: FieldType) -> Vec<u8> {
     match field_type {
         FieldType::Ident => ident(random, LONGEST_IDENT),
         FieldType::Identity(kinds) => {
@@ -215,7 +251,7 @@ pub fn resealed(record: &[u8]) -> Vec<u8> {
 /// A record or identity of exactly this length that has the right name, marks and check, and one
 /// field far too long.
 pub fn padded(random: &mut Random, kind: Kind, field: usize, length: usize) -> Vec<u8> {
-    let mut fields = fields(random, kind, Signed::No);
+    let mut fields = usual_fields(random, kind, Signed::No);
     let missing = length - of_kind(kind, &fields).len();
     fields[field].extend(random.bytes_of(LETTERS_AND_DIGITS, missing));
     of_kind(kind, &fields)

@@ -60,6 +60,19 @@ fn print_part<'a>(op: usize, n: usize, a: &'a [u8], b: &'a [u8]) {
     say::number(crc16::crc_of(part) as usize);
 }
 
+// The calls that hand back an attribute of a wrapped key: its text, the answer, and its length and check.
+fn print_attribute<'a>(op: usize, n: usize, a: &'a [u8], b: &[u8]) {
+    let mut no: u8 = 0;
+    let mut field: u8 = 0;
+    let part = match op {
+        28 => fields::attribute(a, n, &mut no, &mut field),
+        _ => fields::attribute_named(a, b, &mut no, &mut field),
+    };
+    say::text(part);
+    say::outcome(no, field, part.len());
+    say::number(crc16::crc_of(part) as usize);
+}
+
 fn print_place(at: fields::Place) {
     say::outcome(at.no, at.field, at.start);
     say::number(at.len);
@@ -118,6 +131,10 @@ pub(crate) fn run<'a>(op: usize, n: usize, a: &'a [u8], b: &'a [u8]) {
             say::number(totals.lines);
             say::number(totals.accepted);
         }
+        28 => print_attribute(op, n, a, b),
+        29 => print_place(fields::attribute_place(a, n)),
+        30 => print_attribute(op, n, a, b),
+        31 => print_place(fields::attribute_named_place(a, b)),
         _ => {}
     }
 }

@@ -20,6 +20,10 @@ fn answer(op: usize, n: usize, a: &[u8]) -> usize {
             let totals = files::count(a);
             totals.lines % 100 * 100 + totals.accepted % 100
         }
+        29 => {
+            let at = fields::attribute_place(a, n);
+            (at.no as usize) * 100 + (at.field as usize)
+        }
         _ => calls::test(op, n, a) as usize,
     }
 }
