@@ -6,7 +6,7 @@ use mathlib.Core.Bool.{Bool, true, false, cond}
 use mathlib.Core.List.{List, [], _∷_}
 use native.Mathlib.Omega.{arith}
 use native.Mathlib.Numerals.{add-one}
-use lib.ListN.{length, take, drop, getD, length-take, length-drop, take-append-drop, List·getD-eq-default}
+use lib.ListN.{length, take, drop, getD, length-drop, take-append-drop, List·getD-eq-default}
 use lib.Seq.{length-take-le, take-append-le, drop-append-le, drop-drop}
 use borrow.Author.Tests.{le-leb, lt-leb}
 use denote.Ref.{RefT, now}
@@ -25,7 +25,7 @@ use Rattle.places.specs.Places.{seven, startsOf, lensOf, isPlace, partAt, field
 use Rattle.places.proofs.Stands.{record-start, record-place, record-field}
 use Rattle.reading.specs.Reading.{answerOf}
 use Rattle.reading.specs.declared.Answer.{Answer}
-use Rattle.reading.proofs.Answers.{told, Taken, taken, untaken}
+use Rattle.reading.proofs.Answers.{Taken, taken, untaken}
 use Rattle.fields.specs.Attributes.{listSaid, cardsSaid, attributePart, attributeNo, attributeStart, namedFrom, numberNamed, AttributeSaid, AttributePlaced}
 use Rattle.fields.specs.Fields.{startIn}
 use Rattle.fields.specs.Steps.{Handed}

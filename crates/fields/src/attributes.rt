@@ -114,12 +114,7 @@ pub fn attribute<'a>(record: &'a [u8], wanted: usize, no: &mut u8, field: &mut u
 }
 
 // The same of the attribute with a name.
-pub fn attribute_named<'a>(
-    record: &'a [u8],
-    name: &[u8],
-    no: &mut u8,
-    field: &mut u8,
-) -> &'a [u8]
+pub fn attribute_named<'a>(record: &'a [u8], name: &[u8], no: &mut u8, field: &mut u8) -> &'a [u8]
     ensures { λ r. ⌜ AttributeSaid (readOf keyKinds (now («record» .entry))) (numberNamed (now (name .entry)) (cardsSaid (readOf keyKinds (now («record» .entry))))) («record» .entry) r (now (no .exit)) (now (field .exit)) ⌝ }
 {
     crate::part_at(attribute_named_place(record, name), record, no, field)

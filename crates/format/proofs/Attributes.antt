@@ -4,16 +4,16 @@ use Prim.Native.Nat.{ℕ}
 use Prim.Native.Char.{code}
 use mathlib.Core.Path.{_≡_, refl, sym, ap, _∙_, subst}
 use mathlib.Core.Logic.{_↔_}
-use mathlib.Core.Bool.{Bool, true, false, not, cond, _&&_, _||_, true≢false, false≢true}
-use mathlib.Core.List.{List, [], _∷_, _++_}
+use mathlib.Core.Bool.{true, false, not, _&&_, true≢false, false≢true}
+use mathlib.Core.List.{List, [], _∷_}
 use native.Mathlib.Omega.{arith}
 use lib.Dec.{T, eqb}
-use lib.ListN.{length, length-append}
+use lib.ListN.{length-append}
 use mir.Facts.{and-yes, yes-and}
 use Rattle.text.specs.Text.{Bytes, without, same, after}
 use Rattle.text.proofs.Tests.{by-test, T-true, T-false, true-T, same→eq}
 use Rattle.text.proofs.Order.{by-order, after-less, after-equal, after-more, after-itself}
-use Rattle.format.specs.Parts.{joined, WithoutAll, lastOr, endsIn, onFirst, cut}
+use Rattle.format.specs.Parts.{joined, WithoutAll, endsIn, onFirst, cut}
 use Rattle.format.specs.Attributes.{nameOf, appendixB, isCard, areCards, hasName, hasNeeded, cardsIn, areAttributes, Listed}
 use Rattle.format.proofs.Parts.{joined-cut, cut-joined, last-joined, ends-last, last-ends}
 

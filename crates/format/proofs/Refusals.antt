@@ -17,7 +17,7 @@ use Rattle.text.specs.Base16.{checkText}
 use Rattle.text.proofs.Tests.{or-right, one-of}
 use Rattle.numbers.specs.Numbers.{tooLong, unknownKind, missingCheck, wrongCheck, wrongCount, wrongText, wrongIdentity, unpaired, wrongKind, wrongAttributes}
 use Rattle.format.specs.Kinds.{Kind, Field, Text, Printable, Identity, OrEmpty, mark, fieldsOf, pubkeyKinds, keyKinds, among}
-use Rattle.format.specs.Build.{empty, paired, attributed, longestRecord}
+use Rattle.format.specs.Build.{empty, longestRecord}
 use Rattle.format.specs.Read.{Outcome, accepted, refused, answer, place, provided, passing, title, markAfter, kindIn, body, check, endsIn, checkNo, fieldsIn, identityAnswer, fieldAnswer, each, wholeAnswer, judged, readAs, readOver}
 use Rattle.format.proofs.Table.{All, all-among, kindIn-some}
 use Rattle.format.proofs.Outcomes.{provided-law, ofKind-law}

@@ -8,9 +8,9 @@ use lib.Dec.{leb, eqb}
 use lib.ListN.{length, take, drop}
 use Rattle.text.specs.Text.{Bytes, between}
 use Rattle.text.specs.Later.{later}
-use Rattle.numbers.specs.Numbers.{unknownKind, wrongCount, shortOutput, unfinished, missingItem, notAlike}
+use Rattle.numbers.specs.Numbers.{tooLong, unknownKind, wrongCount, shortOutput, unfinished, missingItem, notAlike}
 use Rattle.format.specs.Kinds.{Kind, fieldsOf, pubkeyKinds, allKinds}
-use Rattle.format.specs.Build.{recordOf}
+use Rattle.format.specs.Build.{recordOf, longestRecord}
 use Rattle.format.specs.Read.{Outcome, accepted, refused, answer, place, judged, readIdentity, readOf, readRecord}
 use Rattle.format.specs.Files.{lineAt}
 use Rattle.format.proofs.Outcomes.{provided-law, ofKind-law}
@@ -19,6 +19,7 @@ use Rattle.table.specs.Table.{kindOf, countOf, named}
 use Rattle.places.specs.Places.{partsFrom}
 use Rattle.reading.specs.Reading.{answerOf, judgedBy, judgedSaid, judge}
 use Rattle.fields.specs.Fields.{wantedNo}
+use Rattle.fields.specs.Attributes.{cardsSaid, attributeNo}
 use Rattle.put.specs.Made as put
 use Rattle.put.specs.Made.{made, says}
 use Rattle.building.specs.Building.{sum, pieces, buildAs, buildOf, recordMade, build}
@@ -46,6 +47,16 @@ module _ (P : ℕ → ℕ → Type 0) (z : P 0 0) where
       go false = more
   wanted-answered (refused n i) wanted h more = h
 
+  -- one attribute: 12 besides
+  pub attribute-answered : (o : Outcome) (wanted : ℕ) → Of o → P missingItem 0 → P (attributeNo o wanted) (place o)
+  unfolding attributeNo
+  attribute-answered (accepted k fs) wanted h more = go (between 1 (length (cardsSaid (accepted k fs))) wanted)
+    where
+      go : (b : Bool) → P (cond b 0 missingItem) 0
+      go true = z
+      go false = more
+  attribute-answered (refused n i) wanted h more = h
+
   -- a text: 10 besides
   pub text-answered : (items : List Bytes → List Bytes) (room : ℕ) (o : Outcome) → Of o → P shortOutput 0
       → P (says (textMade items room o) .no) (says (textMade items room o) .field)
@@ -56,7 +67,7 @@ module _ (P : ℕ → ℕ → Type 0) (z : P 0 0) where
       go false = more
   text-answered items room (refused n i) h more = h
 
-  -- the fields alone: 2 besides; a building: 2, 5 and 10
+  -- the fields alone: 2 besides; a building: 2, 5, 1 and 10
   module _ (fields : (k : Kind) (fs : List Bytes) (o : Outcome) → Of o → Of (judged readIdentity k fs o)) (kind : P unknownKind 0) where
     judged-answered : (o : Outcome) → Of o → P (judgedSaid o .no) (judgedSaid o .field)
     judged-answered (accepted k fs) h = h
@@ -72,15 +83,16 @@ module _ (P : ℕ → ℕ → Type 0) (z : P 0 0) where
     made-answered (accepted k fs) h = h
     made-answered (refused n i) h = h
 
-    pub build-answered : P wrongCount 0 → P shortOutput 0 → (t bytes : Bytes) (lens : List ℕ) (room : ℕ)
+    pub build-answered : P wrongCount 0 → P tooLong 0 → P shortOutput 0 → (t bytes : Bytes) (lens : List ℕ) (room : ℕ)
         → P (says (build t bytes lens room) .no) (says (build t bytes lens room) .field)
     unfolding build buildOf buildAs
-    build-answered count short t bytes lens room =
+    build-answered count long short t bytes lens room =
         let fs : List Bytes = pieces lens bytes in
         made-answered (buildOf t bytes lens room)
         (ofKind-law Of (named allKinds t) (buildAs bytes lens room) kind
         (λ k e. provided-law Of (eqb (length lens) (length (fieldsOf k)) && eqb (sum lens) (length bytes)) wrongCount _ count
-        (λ _. fields k fs _ (provided-law Of (leb (length (recordOf k fs)) room) shortOutput (accepted k fs) short (λ _. z)))))
+        (λ _. fields k fs _ (provided-law Of (leb (length (recordOf k fs)) longestRecord) tooLong _ long
+        (λ _. provided-law Of (leb (length (recordOf k fs)) room) shortOutput (accepted k fs) short (λ _. z))))))
 
   -- a line: 11 besides
   pub line-answered : ((s : Bytes) → Of (readRecord s)) → P unfinished 0 → (file : Bytes) (place : ℕ)

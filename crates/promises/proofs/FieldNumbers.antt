@@ -7,13 +7,14 @@ use lib.Dec.{ltb}
 use lib.ListN.{length}
 use denote.Ref.{now}
 use Rattle.text.specs.Text.{Bytes, oneOf}
-use Rattle.format.specs.Kinds.{Kind, REQ, identityKinds, recordKinds, pubkeyKinds}
-use Rattle.format.specs.Read.{nobody, readIdentity, readOf, readRecord}
+use Rattle.format.specs.Kinds.{Kind, REQ, identityKinds, recordKinds, pubkeyKinds, keyKinds}
+use Rattle.format.specs.Read.{place, nobody, readIdentity, readOf, readRecord}
 use Rattle.format.proofs.Refusals.{naming, Names, judged-names, over-names}
 use Rattle.table.specs.Table.{kindsFrom}
+use Rattle.fields.specs.Attributes.{attributeNo}
 use Rattle.agreement.specs.Texts.{sharedItems, moduleItems, centreItems, sharedInfo, moduleText, centreText}
 use Rattle.promises.specs.FieldNumbers.{FieldNumbers}
-use Rattle.promises.proofs.Answered.{answered, wanted-answered, text-answered, judge-answered, build-answered, line-answered, newer-answered}
+use Rattle.promises.proofs.Answered.{answered, wanted-answered, attribute-answered, text-answered, judge-answered, build-answered, line-answered, newer-answered}
 
 identity-names : (s : Bytes) → Names (readIdentity s)
 unfolding readIdentity
@@ -31,6 +32,9 @@ record-names s = read-names recordKinds s
 abbrev NamesAt : ℕ → ℕ → Type 0
 NamesAt n i = oneOf naming n ≡ ltb 0 i
 
+attribute-names : (s : Bytes) (wanted : ℕ) → NamesAt (attributeNo (readOf keyKinds s) wanted) (place (readOf keyKinds s))
+attribute-names s wanted = attribute-answered NamesAt refl (readOf keyKinds s) wanted (read-names keyKinds s) refl
+
 pub field-numbers : FieldNumbers
 unfolding sharedInfo moduleText centreText
 field-numbers = record {
@@ -42,7 +46,11 @@ field-numbers = record {
   record-place = λ κs a r s p. rw (p .said) (wanted-answered NamesAt refl (readRecord (now (a .0))) (a .1 .0) (record-names (now (a .0))) refl);
   identity-field = λ κs a r s p. rw (p .its-no, p .its-field) (wanted-answered NamesAt refl (readIdentity (now (a .0))) (a .1 .0) (identity-names (now (a .0))) refl);
   record-field = λ κs a r s p. rw (p .its-no, p .its-field) (wanted-answered NamesAt refl (readRecord (now (a .0))) (a .1 .0) (record-names (now (a .0))) refl);
-  build = λ κs a r s p. rw (p .said) (build-answered NamesAt refl (judged-names readIdentity) refl refl refl (now (a .0)) (now (a .1 .0)) (now (a .1 .1 .0)) (length (now (a .1 .1 .1 .0))));
+  attribute-place = λ κs a r s p. rw (p .said) (attribute-names (now (a .0)) (a .1 .0));
+  attribute-named-place = λ κs a r s p. rw (p .said) (attribute-names (now (a .0)) _);
+  attribute = λ κs a r s p. rw (p .its-no, p .its-field) (attribute-names (now (a .0)) (a .1 .0));
+  attribute-named = λ κs a r s p. rw (p .its-no, p .its-field) (attribute-names (now (a .0)) _);
+  build = λ κs a r s p. rw (p .said) (build-answered NamesAt refl (judged-names readIdentity) refl refl refl refl (now (a .0)) (now (a .1 .0)) (now (a .1 .1 .0)) (length (now (a .1 .1 .1 .0))));
   shared-info = λ κs a r s p. rw (p .said) (text-answered NamesAt refl sharedItems (length (now (a .1 .0))) (readOf (REQ ∷ []) (now (a .0))) (read-names (REQ ∷ []) (now (a .0))) refl);
   module-text = λ κs a r s p. rw (p .said) (text-answered NamesAt refl moduleItems (length (now (a .1 .0))) (readOf (REQ ∷ []) (now (a .0))) (read-names (REQ ∷ []) (now (a .0))) refl);
   centre-text = λ κs a r s p. rw (p .said) (text-answered NamesAt refl centreItems (length (now (a .1 .0))) (readOf (REQ ∷ []) (now (a .0))) (read-names (REQ ∷ []) (now (a .0))) refl);

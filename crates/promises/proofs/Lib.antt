@@ -3,6 +3,7 @@ pub mod Determined
 pub mod Check
 pub mod TextTypes
 pub mod Reading
+pub mod Attributes
 pub mod Building
 pub mod Agreement
 pub mod Files

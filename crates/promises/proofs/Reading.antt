@@ -19,7 +19,7 @@ use Rattle.format.specs.Kinds.{Kind, Text, name, fieldsOf, identityKinds, recor
 use Rattle.format.specs.Build.{Built}
 use Rattle.format.specs.Read.{Outcome, accepted, refused, answer, place, readIdentity, readRecord}
 use Rattle.format.proofs.Outcomes.{Honest, honest-zero}
-use Rattle.format.proofs.Exactly.{identity-says, identity-exact, record-says, record-exact, its-parts, its-few, built-unique, built-length, identity-length, unsigned-length, signed-length}
+use Rattle.format.proofs.Exactly.{identity-says, identity-exact, record-says, record-exact, its-parts, its-few, built-unique, built-length, built-shorter, identity-length, unsigned-length, signed-length, key-length}
 use Rattle.table.specs.Table.{rowOf, missingRow}
 use Rattle.places.specs.Places.{startsFrom, startsOf}
 use Rattle.places.proofs.Seven.{seven-at}
@@ -131,7 +131,9 @@ reading = record {
   record-nowhere = λ κs a r s p n. nowhere-refused _ _ _ r p n;
   unique = built-unique;
   longest = built-length;
+  longest-other = built-shorter;
   identity-length = identity-length;
   unsigned-length = unsigned-length;
   signed-length = signed-length;
+  key-length = key-length;
 }

@@ -10,19 +10,20 @@ use denote.Ref.{now}
 use Rattle.text.specs.Text.{Bytes, oneOf}
 use Rattle.text.proofs.Tests.{or-right, one-of}
 use Rattle.numbers.specs.Numbers.{shortOutput}
-use Rattle.format.specs.Kinds.{Kind, REQ, identityKinds, recordKinds, pubkeyKinds}
+use Rattle.format.specs.Kinds.{Kind, REQ, identityKinds, recordKinds, pubkeyKinds, keyKinds}
 use Rattle.format.specs.Read.{Outcome, answer, judged, nobody, readIdentity, readOf, readRecord}
 use Rattle.format.proofs.Table.{All, every-kind}
 use Rattle.format.proofs.Refusals.{Gives, covers, check-given, judged-given, over-given}
 use Rattle.table.specs.Table.{kindsFrom}
+use Rattle.fields.specs.Attributes.{attributeNo}
 use Rattle.put.specs.Made as put
 use Rattle.put.specs.Made.{made, says}
 use Rattle.items.specs.Items.{textItem}
 use Rattle.items.specs.Place.{placeFrom}
 use Rattle.agreement.specs.Texts.{sharedItems, moduleItems, centreItems, sharedInfo, moduleText, centreText}
 use Rattle.list_text.specs.Listing.{listText, listRoom, writeList}
-use Rattle.promises.specs.Refusals.{ofIdentities, ofRecords, ofTexts, Refusals}
-use Rattle.promises.proofs.Answered.{answered, wanted-answered, text-answered, judge-answered, build-answered, line-answered, newer-answered}
+use Rattle.promises.specs.Refusals.{ofIdentities, ofRecords, ofPubkeys, ofKeys, ofTexts, Refusals}
+use Rattle.promises.proofs.Answered.{answered, wanted-answered, attribute-answered, text-answered, judge-answered, build-answered, line-answered, newer-answered}
 
 -- n is one of ns, whatever the field's number
 abbrev In : List ℕ → ℕ → ℕ → Type 0
@@ -51,6 +52,14 @@ request-given : (s : Bytes) → Gives ofTexts (readOf (REQ ∷ []) s)
 unfolding readOf
 request-given s = over-given ofTexts tt readIdentity (tt, tt, tt, tt, tt) (REQ ∷ []) (tt, tt) s
 
+wrapped-given : (s : Bytes) → Gives ofKeys (readOf keyKinds s)
+unfolding readOf
+wrapped-given s = over-given ofKeys tt readIdentity (tt, tt, tt, tt, tt) keyKinds (tt, tt) s
+
+pubkey-given : (s : Bytes) → Gives ofPubkeys (readOf pubkeyKinds s)
+unfolding readOf
+pubkey-given s = over-given ofPubkeys tt readIdentity (tt, tt, tt, tt, tt) pubkeyKinds (tt, (tt, tt)) s
+
 -- a number more may be given
 further : (m : ℕ) (ns : List ℕ) (o : Outcome) → Gives ns o → Gives (m ∷ ns) o
 further m ns o h = or-right (eqb (answer o) m) (oneOf ns (answer o)) h
@@ -58,10 +67,10 @@ further m ns o h = or-right (eqb (answer o) m) (oneOf ns (answer o)) h
 -- ---- the fields alone, and building
 
 abbrev ofFields : List ℕ
-ofFields = 0 ∷ 2 ∷ 6 ∷ 7 ∷ 8 ∷ 9 ∷ []
+ofFields = 0 ∷ 2 ∷ 6 ∷ 7 ∷ 8 ∷ 9 ∷ 14 ∷ []
 
 abbrev ofBuilding : List ℕ
-ofBuilding = 0 ∷ 2 ∷ 5 ∷ 6 ∷ 7 ∷ 8 ∷ 9 ∷ 10 ∷ []
+ofBuilding = 0 ∷ 1 ∷ 2 ∷ 5 ∷ 6 ∷ 7 ∷ 8 ∷ 9 ∷ 10 ∷ 14 ∷ []
 
 fields-given : (k : Kind) (fs : List Bytes) (o : Outcome) → Gives ofFields o → Gives ofFields (judged readIdentity k fs o)
 fields-given k fs o h = judged-given ofFields tt readIdentity k fs o (every-kind (covers ofFields) tt k) h
@@ -86,11 +95,16 @@ list-given file room = go (leb listRoom room)
 line-given : (s : Bytes) → Gives (11 ∷ ofRecords) (readRecord s)
 line-given s = further 11 ofRecords (readRecord s) (record-given s)
 
-subject-given : (s : Bytes) → Gives (13 ∷ ofRecords) (readIdentity s)
-subject-given s = one-of (oneOf (13 ∷ ofRecords)) ofIdentities tt (answer (readIdentity s)) (identity-given s)
+subject-given : (s : Bytes) → Gives (13 ∷ ofPubkeys) (readIdentity s)
+subject-given s = one-of (oneOf (13 ∷ ofPubkeys)) ofIdentities tt (answer (readIdentity s)) (identity-given s)
 
-key-given : (s : Bytes) → Gives (13 ∷ ofRecords) (readOf pubkeyKinds s)
-key-given s = further 13 ofRecords (readOf pubkeyKinds s) (read-given pubkeyKinds s)
+key-given : (s : Bytes) → Gives (13 ∷ ofPubkeys) (readOf pubkeyKinds s)
+key-given s = further 13 ofPubkeys (readOf pubkeyKinds s) (pubkey-given s)
+
+-- ---- an attribute, by whatever number
+
+attribute-given : (s : Bytes) (wanted : ℕ) → T (oneOf (12 ∷ ofKeys) (attributeNo (readOf keyKinds s) wanted))
+attribute-given s wanted = attribute-answered (In (12 ∷ ofKeys)) tt (readOf keyKinds s) wanted (further 12 ofKeys (readOf keyKinds s) (wrapped-given s)) tt
 
 pub refusals : Refusals
 unfolding sharedInfo moduleText centreText
@@ -104,7 +118,11 @@ refusals = record {
   record-place = λ κs a r s p. rw (p .said) (wanted-answered (In (12 ∷ ofRecords)) tt (readRecord (now (a .0))) (a .1 .0) (further 12 ofRecords (readRecord (now (a .0))) (record-given (now (a .0)))) tt);
   identity-field = λ κs a r s p. rw (p .its-no) (wanted-answered (In (12 ∷ ofIdentities)) tt (readIdentity (now (a .0))) (a .1 .0) (further 12 ofIdentities (readIdentity (now (a .0))) (identity-given (now (a .0)))) tt);
   record-field = λ κs a r s p. rw (p .its-no) (wanted-answered (In (12 ∷ ofRecords)) tt (readRecord (now (a .0))) (a .1 .0) (further 12 ofRecords (readRecord (now (a .0))) (record-given (now (a .0)))) tt);
-  build = λ κs a r s p. rw (p .said) (build-answered (In ofBuilding) tt building-given tt tt tt (now (a .0)) (now (a .1 .0)) (now (a .1 .1 .0)) (length (now (a .1 .1 .1 .0))));
+  attribute-place = λ κs a r s p. rw (p .said) (attribute-given (now (a .0)) (a .1 .0));
+  attribute-named-place = λ κs a r s p. rw (p .said) (attribute-given (now (a .0)) _);
+  attribute = λ κs a r s p. rw (p .its-no) (attribute-given (now (a .0)) (a .1 .0));
+  attribute-named = λ κs a r s p. rw (p .its-no) (attribute-given (now (a .0)) _);
+  build = λ κs a r s p. rw (p .said) (build-answered (In ofBuilding) tt building-given tt tt tt tt (now (a .0)) (now (a .1 .0)) (now (a .1 .1 .0)) (length (now (a .1 .1 .1 .0))));
   shared-info = λ κs a r s p. rw (p .said) (text-answered (In ofTexts) tt sharedItems (length (now (a .1 .0))) (readOf (REQ ∷ []) (now (a .0))) (request-given (now (a .0))) tt);
   module-text = λ κs a r s p. rw (p .said) (text-answered (In ofTexts) tt moduleItems (length (now (a .1 .0))) (readOf (REQ ∷ []) (now (a .0))) (request-given (now (a .0))) tt);
   centre-text = λ κs a r s p. rw (p .said) (text-answered (In ofTexts) tt centreItems (length (now (a .1 .0))) (readOf (REQ ∷ []) (now (a .0))) (request-given (now (a .0))) tt);
@@ -113,6 +131,6 @@ refusals = record {
   line-at = λ κs a r s p. rw p (line-answered (In (11 ∷ ofRecords)) tt line-given tt (now (a .0)) (a .1 .0));
   step-from = λ κs a r s p. rw p (line-answered (In (11 ∷ ofRecords)) tt line-given tt (now (a .0)) (a .1 .0));
   write-list = λ κs a r s p. rw (p .said) (list-given (now (a .0)) (length (now (a .1 .0))));
-  newer-of = λ κs a r s p. rw p (newer-answered (In (13 ∷ ofRecords)) tt tt subject-given key-given (now (a .0)) (now (a .1 .0)));
-  newer = λ κs a r s p. rw (p .number-so) (newer-answered (In (13 ∷ ofRecords)) tt tt subject-given key-given (now (a .0)) (now (a .1 .0)));
+  newer-of = λ κs a r s p. rw p (newer-answered (In (13 ∷ ofPubkeys)) tt tt subject-given key-given (now (a .0)) (now (a .1 .0)));
+  newer = λ κs a r s p. rw (p .number-so) (newer-answered (In (13 ∷ ofPubkeys)) tt tt subject-given key-given (now (a .0)) (now (a .1 .0)));
 }

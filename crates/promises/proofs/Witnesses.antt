@@ -11,7 +11,7 @@ use borrow.Author.Tests.{le-leb, lt-leb}
 use denote.Ref.{RefT, ptr, now}
 use lib.Dec.{T, eqb}
 use mir.Facts.{yes-and, yes-eqb}
-use Rattle.text.specs.Text.{Bytes, ascii, every, hexadecimal, TextType, Ident, Timestamp, Point, Sig, Mac, Print, Hex, isOf, looks, numberFrom, isIdent, isTimestamp, isHex, isPoint}
+use Rattle.text.specs.Text.{Bytes, ascii, every, hexadecimal, TextType, Ident, Timestamp, Point, Sig, Mac, Print, Protected, Hex, isOf, looks, numberFrom, isIdent, isTimestamp, isHex, isPoint, isProtected}
 use Rattle.format.specs.Kinds.{Kind, KMCID, ECDH, REQ, identityKinds, recordKinds, pubkeyKinds}
 use Rattle.format.specs.Build.{recordOf, IsIdentity, Permitted}
 use Rattle.format.specs.Read.{accepted, place, readIdentity, readRecord}
@@ -43,13 +43,14 @@ hex-zeros zero = tt
 hex-zeros (suc n) = hex-zeros n
 
 texts : (t : TextType) → (s : Bytes) × T (isOf t s)
-unfolding isIdent isTimestamp looks numberFrom isHex isPoint
+unfolding isIdent isTimestamp looks numberFrom isHex isPoint isProtected
 texts Ident = (ascii "A", tt)
 texts Timestamp = (ascii "20180120T090000Z", tt)
 texts Point = (ascii "04" ++ replicate 192 (code "0"), tt)
 texts Sig = (replicate 192 (code "0"), tt)
 texts Mac = (replicate 48 (code "0"), tt)
 texts Print = (replicate 16 (code "0"), tt)
+texts Protected = (replicate 32 (code "0"), tt)
 texts (Hex n) = (replicate n (code "0"), yes-and (eqb (length (replicate n (code "0"))) n) _ (yes-eqb (length-replicate n (code "0"))) (hex-zeros n))
 
 -- ---- two public keys

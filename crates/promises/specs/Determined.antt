@@ -18,6 +18,11 @@ use Rattle.text.proofs.is_point.Reads as is-point
 use Rattle.text.proofs.is_sig.Reads as is-sig
 use Rattle.text.proofs.is_mac.Reads as is-mac
 use Rattle.text.proofs.is_print.Reads as is-print
+use Rattle.text.proofs.is_digits.Reads as is-digits
+use Rattle.text.proofs.is_alphanumeric.Reads as is-alphanumeric
+use Rattle.text.proofs.is_octet.Reads as is-octet
+use Rattle.text.proofs.is_printable.Reads as is-printable
+use Rattle.text.proofs.is_protected.Reads as is-protected
 use Rattle.text.proofs.hex_digit.Reads as hex-digit
 use Rattle.text.proofs.hex_value.Reads as hex-value
 use Rattle.text.proofs.check_text.Reads as check-text
@@ -34,12 +39,14 @@ use Rattle.table.proofs.does_permit.Reads as does-permit
 use Rattle.frame.proofs.title_of.Reads as title-of
 use Rattle.frame.proofs.mark_after.Reads as mark-after
 use Rattle.frame.proofs.next_mark.Reads as next-mark
+use Rattle.frame.proofs.part_start.Reads as part-start
 use Rattle.frame.proofs.part.Reads as part
 use Rattle.frame.proofs.body_of.Reads as body-of
 use Rattle.frame.proofs.check_no.Reads as check-no
 use Rattle.places.proofs.places_of.Reads as places-of
 use Rattle.places.proofs.part_at.Reads as part-at
 use Rattle.places.proofs.field_at.Reads as field-at
+use Rattle.cards.proofs.are_attributes.Reads as are-attributes
 use Rattle.reading.proofs.read_identity.Reads as read-identity
 use Rattle.reading.proofs.judge.Reads as judge
 use Rattle.reading.proofs.read_of.Reads as read-of
@@ -48,6 +55,10 @@ use Rattle.fields.proofs.identity_place.Reads as identity-place
 use Rattle.fields.proofs.record_place.Reads as record-place
 use Rattle.fields.proofs.identity_field.Reads as identity-field
 use Rattle.fields.proofs.record_field.Reads as record-field
+use Rattle.fields.proofs.attribute_place.Reads as attribute-place
+use Rattle.fields.proofs.attribute_named_place.Reads as attribute-named-place
+use Rattle.fields.proofs.attribute.Reads as attribute
+use Rattle.fields.proofs.attribute_named.Reads as attribute-named
 use Rattle.put.proofs.put.Reads as put
 use Rattle.put.proofs.put_byte.Reads as put-byte
 use Rattle.put.proofs.refuse.Reads as refuse
@@ -99,6 +110,11 @@ pub record Determined : Type 0 where
   pub is-sig : OneAnswer is-sig.Post
   pub is-mac : OneAnswer is-mac.Post
   pub is-print : OneAnswer is-print.Post
+  pub is-digits : OneAnswer is-digits.Post
+  pub is-alphanumeric : OneAnswer is-alphanumeric.Post
+  pub is-octet : OneAnswer is-octet.Post
+  pub is-printable : OneAnswer is-printable.Post
+  pub is-protected : OneAnswer is-protected.Post
   pub hex-digit : OneAnswer hex-digit.Post
   pub hex-value : OneAnswer hex-value.Post
   pub check-text : OneAnswer check-text.Post
@@ -117,6 +133,7 @@ pub record Determined : Type 0 where
   pub title-of : OnePart title-of.Post
   pub mark-after : OneAnswer mark-after.Post
   pub next-mark : OneAnswer next-mark.Post
+  pub part-start : OneAnswer part-start.Post
   pub part : OnePart part.Post
   pub body-of : OnePart body-of.Post
   pub check-no : OneAnswer check-no.Post
@@ -124,6 +141,8 @@ pub record Determined : Type 0 where
   pub places-of : OneAnswer places-of.Post
   pub part-at : OnePart part-at.Post
   pub field-at : OnePart field-at.Post
+  -- cards
+  pub are-attributes : OneAnswer are-attributes.Post
   -- reading
   pub read-identity : OneAnswer read-identity.Post
   pub judge : OneAnswer judge.Post
@@ -138,6 +157,14 @@ pub record Determined : Type 0 where
   pub record-field-part : OnePart record-field.Post
   pub record-field-no : OneLeft record-field.Post (λ κs s. now (s .1 .1 .0))
   pub record-field-field : OneLeft record-field.Post (λ κs s. now (s .1 .1 .1 .0))
+  pub attribute-place : OneAnswer attribute-place.Post
+  pub attribute-named-place : OneAnswer attribute-named-place.Post
+  pub attribute-part : OnePart attribute.Post
+  pub attribute-no : OneLeft attribute.Post (λ κs s. now (s .1 .1 .0))
+  pub attribute-field : OneLeft attribute.Post (λ κs s. now (s .1 .1 .1 .0))
+  pub attribute-named-part : OnePart attribute-named.Post
+  pub attribute-named-no : OneLeft attribute-named.Post (λ κs s. now (s .1 .1 .0))
+  pub attribute-named-field : OneLeft attribute-named.Post (λ κs s. now (s .1 .1 .1 .0))
   -- put
   pub refuse : OneAnswer refuse.Post
   pub put-next : OneAnswer put.Post

@@ -16,6 +16,10 @@ use Rattle.fields.proofs.identity_place.Reads as identity-place
 use Rattle.fields.proofs.record_place.Reads as record-place
 use Rattle.fields.proofs.identity_field.Reads as identity-field
 use Rattle.fields.proofs.record_field.Reads as record-field
+use Rattle.fields.proofs.attribute_place.Reads as attribute-place
+use Rattle.fields.proofs.attribute_named_place.Reads as attribute-named-place
+use Rattle.fields.proofs.attribute.Reads as attribute
+use Rattle.fields.proofs.attribute_named.Reads as attribute-named
 use Rattle.building.proofs.build.Reads as build
 use Rattle.agreement.proofs.shared_info.Reads as shared-info
 use Rattle.agreement.proofs.module_text.Reads as module-text
@@ -39,6 +43,10 @@ pub record FieldNumbers : Type 0 where
   pub record-place : NamesField record-place.Post (λ κs r s. r .no) (λ κs r s. r .field)
   pub identity-field : NamesField identity-field.Post (λ κs r s. now (s .1 .1 .0)) (λ κs r s. now (s .1 .1 .1 .0))
   pub record-field : NamesField record-field.Post (λ κs r s. now (s .1 .1 .0)) (λ κs r s. now (s .1 .1 .1 .0))
+  pub attribute-place : NamesField attribute-place.Post (λ κs r s. r .no) (λ κs r s. r .field)
+  pub attribute-named-place : NamesField attribute-named-place.Post (λ κs r s. r .no) (λ κs r s. r .field)
+  pub attribute : NamesField attribute.Post (λ κs r s. now (s .1 .1 .0)) (λ κs r s. now (s .1 .1 .1 .0))
+  pub attribute-named : NamesField attribute-named.Post (λ κs r s. now (s .1 .1 .0)) (λ κs r s. now (s .1 .1 .1 .0))
   pub build : NamesField build.Post (λ κs r s. r .no) (λ κs r s. r .field)
   pub shared-info : NamesField shared-info.Post (λ κs r s. r .no) (λ κs r s. r .field)
   pub module-text : NamesField module-text.Post (λ κs r s. r .no) (λ κs r s. r .field)

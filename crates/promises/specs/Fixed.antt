@@ -1,16 +1,17 @@
--- What document 01 fixes beside its starred values: the table, the alphabets, the limits, the labels, 003's checks, the numbers, and
--- examples of each number and of their order. A definition that is changed together with the code changes here too, and that is seen.
+-- What documents 01 and 02 fix beside 01's starred values: the table, the alphabets, the limits, the labels, 003's checks, the numbers, and
+-- examples of each number and of their order; of attribute lists both sides of each rule. A definition that is changed together with the code changes here too, and that is seen.
 -- proofs/Fixed.antt proves `AllCome fixed` by computing each.
 -- Assumes nothing.
 use Prim.Native.Char.{code}
 use mathlib.Core.Bool.{true, false}
 use mathlib.Core.List.{List, [], _∷_, _++_}
 use lib.ListN.{take, drop, replicate, set}
-use Rattle.numbers.specs.Numbers.{tooLong, unknownKind, missingCheck, wrongCheck, wrongCount, wrongText, wrongIdentity, unpaired, wrongKind, shortOutput, unfinished, missingItem, notAlike}
-use Rattle.text.specs.Text.{Bytes, ascii, isIdent, isTimestamp, isHex, Ident, Timestamp, Point, Sig, Mac, Print, isOf}
-use Rattle.format.specs.Kinds.{SMMAN, SMID, KMCID, ECDSA, ECDH, REQ, RESP, Field, Text, Identity, OrEmpty, name, mark, fieldsOf}
+use Rattle.numbers.specs.Numbers.{tooLong, unknownKind, missingCheck, wrongCheck, wrongCount, wrongText, wrongIdentity, unpaired, wrongKind, shortOutput, unfinished, missingItem, notAlike, wrongAttributes}
+use Rattle.text.specs.Text.{Bytes, ascii, isIdent, isTimestamp, isHex, isPrintable, Ident, Timestamp, Point, Sig, Mac, Print, Protected, Hex, isOf}
+use Rattle.format.specs.Kinds.{SMMAN, SMID, KMCID, ECDSA, ECDH, REQ, RESP, KEY, Field, Text, Printable, Identity, OrEmpty, name, mark, fieldsOf, keyKinds}
+use Rattle.format.specs.Attributes.{areAttributes}
 use Rattle.format.specs.Build.{recordOf}
-use Rattle.format.specs.Read.{Outcome, answer, place, check, readIdentity, readRecord}
+use Rattle.format.specs.Read.{Outcome, answer, place, check, readIdentity, readOf, readRecord}
 use Rattle.table.specs.Table.{rowOf, missingRow}
 use Rattle.items.specs.Items.{lvConcat}
 use Rattle.agreement.specs.Texts.{sharedItems, moduleItems, centreItems, sharedInfo, moduleText, centreText}
@@ -18,11 +19,12 @@ use Rattle.places.specs.Places.{lengths}
 use Rattle.put.specs.Made.{Made, says}
 use Rattle.building.specs.Building.{run, build}
 use Rattle.fields.specs.Fields.{wantedNo}
+use Rattle.fields.specs.Attributes.{attributePart, attributeNo, cardsSaid, numberNamed}
 use Rattle.format.specs.Files.{lineFeed, lineAt}
 use Rattle.files.specs.Walk.{lineSaid, numberOf}
 use Rattle.newer.specs.Newer.{newer, choiceNo}
 use Rattle.promises.specs.Values.{Value, number, bytes, test, types, admitted}
-use Rattle.promises.specs.Worked.{manufacturerId, moduleIdFields, moduleId, centreId, manufacturerKeyFields, manufacturerKey, moduleKey, centreKeyFields, centreKey, requestFields, request, response}
+use Rattle.promises.specs.Worked.{manufacturerId, moduleIdFields, moduleId, centreId, manufacturerKeyFields, manufacturerKey, moduleKey, centreKeyFields, centreKey, requestFields, request, response, keyAttributes, keyFields, key, longAttributes}
 
 -- ---- "Seven kinds of record": names, marks and field types, row by row
 
@@ -38,8 +40,9 @@ rows =
     ∷ bytes (name ECDH) (ascii "PK.ECDH.1")
     ∷ bytes (name REQ) (ascii "VKLOAD.REQ.1")
     ∷ bytes (name RESP) (ascii "VKLOAD.RESP.1")
-    ∷ bytes (mark SMMAN ∷ mark SMID ∷ mark KMCID ∷ mark ECDSA ∷ mark ECDH ∷ mark REQ ∷ mark RESP ∷ []) (ascii ":::||||")
-    ∷ bytes (rowOf SMMAN ∷ rowOf SMID ∷ rowOf KMCID ∷ rowOf ECDSA ∷ rowOf ECDH ∷ rowOf REQ ∷ rowOf RESP ∷ missingRow ∷ []) (0 ∷ 1 ∷ 2 ∷ 3 ∷ 4 ∷ 5 ∷ 6 ∷ 255 ∷ [])
+    ∷ bytes (name KEY) (ascii "KEY.1")
+    ∷ bytes (mark SMMAN ∷ mark SMID ∷ mark KMCID ∷ mark ECDSA ∷ mark ECDH ∷ mark REQ ∷ mark RESP ∷ mark KEY ∷ []) (ascii ":::|||||")
+    ∷ bytes (rowOf SMMAN ∷ rowOf SMID ∷ rowOf KMCID ∷ rowOf ECDSA ∷ rowOf ECDH ∷ rowOf REQ ∷ rowOf RESP ∷ rowOf KEY ∷ missingRow ∷ []) (0 ∷ 1 ∷ 2 ∷ 3 ∷ 4 ∷ 5 ∷ 6 ∷ 7 ∷ 255 ∷ [])
     ∷ types (fieldsOf SMMAN) identity
     ∷ types (fieldsOf SMID) identity
     ∷ types (fieldsOf KMCID) identity
@@ -50,6 +53,7 @@ rows =
     ∷ types (fieldsOf REQ)
     (Identity (SMID ∷ []) ∷ Identity (KMCID ∷ []) ∷ Text Timestamp ∷ Text Ident ∷ Text Ident ∷ Text Point ∷ Text Mac ∷ [])
     ∷ types (fieldsOf RESP) (Identity (KMCID ∷ []) ∷ Identity (SMID ∷ []) ∷ Text Timestamp ∷ Text Mac ∷ [])
+    ∷ types (fieldsOf KEY) (Text (Hex 24) ∷ Printable ∷ Text Protected ∷ [])
     ∷ []
 
 -- ---- "Text types": every byte value that a place admits
@@ -73,6 +77,8 @@ alphabets =
     ∷ bytes (admitted isTimestamp (ascii "20180120T0900") (ascii "0Z")) (ascii "012345")
     ∷ bytes (admitted isTimestamp (ascii "20180120T09005") (ascii "Z")) (ascii "0123456789")
     ∷ bytes (admitted isTimestamp (ascii "20180120T090000") []) (ascii "Z")
+    ∷ bytes (admitted isPrintable [] [])
+    (ascii " !" ++ 0x22 ∷ ascii "#$%&'()*+,-./0123456789:;<=>?@ABCDEFGHIJKLMNOPQRSTUVWXYZ[" ++ 0x5C ∷ ascii "]^_`abcdefghijklmnopqrstuvwxyz{}~")
     ∷ []
 
 -- ---- "Text types" and "Numbers given back": the limits
@@ -94,6 +100,11 @@ limits =
     ∷ test (isOf Mac (replicate 47 (code "F"))) false
     ∷ test (isOf Print (replicate 16 (code "F"))) true
     ∷ test (isOf Print (replicate 17 (code "F"))) false
+    ∷ test (isOf Protected (replicate 30 (code "F"))) false
+    ∷ test (isOf Protected (replicate 32 (code "F"))) true
+    ∷ test (isOf Protected (replicate 33 (code "F"))) false
+    ∷ test (isOf Protected (replicate 72 (code "F"))) true
+    ∷ test (isOf Protected (replicate 74 (code "F"))) false
     ∷ number (answer (readRecord (replicate 1024 (code "A")))) 2
     ∷ number (answer (readRecord (replicate 1025 (code "A")))) 1
     ∷ number (answer (readIdentity (replicate 1024 (code "A")))) 2
@@ -121,6 +132,7 @@ checks =
     ∷ bytes (check moduleKey) (ascii "4971")
     ∷ bytes (check request) (ascii "F6B3")
     ∷ bytes (check response) (ascii "D743")
+    ∷ bytes (check key) (ascii "4726")
     ∷ []
 
 -- ---- "Numbers given back": each number by its name, and what gives it
@@ -131,8 +143,8 @@ said o = answer o ∷ place o ∷ []
 
 unfoldable pub numbers : List Value
 numbers =
-    bytes (tooLong ∷ unknownKind ∷ missingCheck ∷ wrongCheck ∷ wrongCount ∷ wrongText ∷ wrongIdentity ∷ unpaired ∷ wrongKind ∷ shortOutput ∷ unfinished ∷ missingItem ∷ notAlike ∷ [])
-    (1 ∷ 2 ∷ 3 ∷ 4 ∷ 5 ∷ 6 ∷ 7 ∷ 8 ∷ 9 ∷ 10 ∷ 11 ∷ 12 ∷ 13 ∷ [])
+    bytes (tooLong ∷ unknownKind ∷ missingCheck ∷ wrongCheck ∷ wrongCount ∷ wrongText ∷ wrongIdentity ∷ unpaired ∷ wrongKind ∷ shortOutput ∷ unfinished ∷ missingItem ∷ notAlike ∷ wrongAttributes ∷ [])
+    (1 ∷ 2 ∷ 3 ∷ 4 ∷ 5 ∷ 6 ∷ 7 ∷ 8 ∷ 9 ∷ 10 ∷ 11 ∷ 12 ∷ 13 ∷ 14 ∷ [])
     ∷ bytes (said (readRecord (ascii "PK.ECDH.1"))) (2 ∷ 0 ∷ [])
     ∷ bytes (said (readRecord (ascii "PK.ECDH.1:x"))) (2 ∷ 0 ∷ [])
     ∷ bytes (said (readRecord moduleId)) (2 ∷ 0 ∷ [])
@@ -186,5 +198,96 @@ others =
     ∷ number (choiceNo (newer request centreKey)) 2
     ∷ []
 
+-- ---- document 02, E1: the attribute list, both sides of each rule of clause 7.5.1 and Appendix B
+
+-- the list with the cards before DKG, and these behind them
+abbrev pub dated : Bytes → Bytes
+dated s = ascii "ACT19930101T000000Z;BDT19930101T000000Z;" ++ s
+
+-- with all cards before SGC
+abbrev pub typed : Bytes → Bytes
+typed s = dated (ascii "DKG02;KEN255;KRN1;KTC2;" ++ s)
+
+unfoldable pub lists : List Value
+lists =
+    test (areAttributes keyAttributes) true
+    -- every card is ended, and none is empty
+    ∷ test (areAttributes (typed (ascii "SGC0000123456"))) false
+    ∷ test (areAttributes (typed (ascii "SGC0000123456;;"))) false
+    -- a name is three letters or digits
+    ∷ test (areAttributes (typed (ascii "SGC0000123456;ZZ;"))) false
+    ∷ test (areAttributes (typed (ascii "SGC0000123456;ZZZ;"))) true
+    ∷ test (areAttributes (typed (ascii "SGC0000123456;Z-Z;"))) false
+    ∷ test (areAttributes (typed (ascii "SGC0000123456;z9z;"))) true
+    -- names ascend strictly, by ASCII code: small letters behind capitals
+    ∷ test (areAttributes (typed (ascii "SGC0000123456;SGB;"))) false
+    ∷ test (areAttributes (typed (ascii "SGC0000123456;SGC0000123456;"))) false
+    ∷ test (areAttributes (typed (ascii "SGC0000123456;aaa;ZZZ;"))) false
+    ∷ test (areAttributes (typed (ascii "SGC0000123456;ZZZ;aaa;"))) true
+    -- each required name
+    ∷ test (areAttributes (ascii "BDT19930101T000000Z;DKG02;KEN255;KRN1;KTC2;SGC0000123456;")) false
+    ∷ test (areAttributes (ascii "ACT19930101T000000Z;DKG02;KEN255;KRN1;KTC2;SGC0000123456;")) false
+    ∷ test (areAttributes (dated (ascii "KEN255;KRN1;KTC2;SGC0000123456;"))) false
+    ∷ test (areAttributes (dated (ascii "DKG02;KRN1;KTC2;SGC0000123456;"))) false
+    ∷ test (areAttributes (dated (ascii "DKG02;KEN255;KTC2;SGC0000123456;"))) false
+    ∷ test (areAttributes (dated (ascii "DKG02;KEN255;KRN1;SGC0000123456;"))) false
+    ∷ test (areAttributes (typed [])) false
+    -- each known value
+    ∷ test (areAttributes (dated (ascii "DKG2;KEN255;KRN1;KTC2;SGC0000123456;"))) false
+    ∷ test (areAttributes (dated (ascii "DKG002;KEN255;KRN1;KTC2;SGC0000123456;"))) false
+    ∷ test (areAttributes (dated (ascii "DKG02;IUT20990101T000000Z;KEN255;KRN1;KTC2;SGC0000123456;"))) true
+    ∷ test (areAttributes (dated (ascii "DKG02;IUT20990101T240000Z;KEN255;KRN1;KTC2;SGC0000123456;"))) false
+    ∷ test (areAttributes (dated (ascii "DKG02;KEN000;KRN1;KTC2;SGC0000123456;"))) true
+    ∷ test (areAttributes (dated (ascii "DKG02;KEN256;KRN1;KTC2;SGC0000123456;"))) false
+    ∷ test (areAttributes (dated (ascii "DKG02;KEN55;KRN1;KTC2;SGC0000123456;"))) false
+    ∷ test (areAttributes (dated (ascii "DKG02;KEN255;KRN11;KTC2;SGC0000123456;"))) false
+    ∷ test (areAttributes (dated (ascii "DKG02;KEN255;KRN1;KTCA;SGC0000123456;"))) false
+    ∷ test (areAttributes (typed (ascii "SGC000123456;"))) false
+    ∷ test (areAttributes (typed (ascii "SGC0000123456;SGN;"))) false
+    ∷ test (areAttributes (typed (ascii "SGC0000123456;SGN" ++ replicate 99 (code "A") ++ ascii ";"))) true
+    ∷ test (areAttributes (typed (ascii "SGC0000123456;SGN" ++ replicate 100 (code "A") ++ ascii ";"))) false
+    -- a value of at most 252 characters
+    ∷ test (areAttributes (typed (ascii "SGC0000123456;XXX" ++ replicate 252 (code "A") ++ ascii ";"))) true
+    ∷ test (areAttributes (typed (ascii "SGC0000123456;XXX" ++ replicate 253 (code "A") ++ ascii ";"))) false
+    ∷ []
+
+-- 003's first wrapped key with another list
+abbrev pub withList : Bytes → List Bytes
+withList s = set keyFields 1 s
+
+-- the numbers: 14 after the fields; an attribute is its card without the ';'; 12 after every other number
+unfoldable pub keys : List Value
+keys =
+    bytes (said (readRecord (recordOf KEY (withList (ascii "ACT"))))) (14 ∷ 0 ∷ [])
+    ∷ bytes (said (readRecord (recordOf KEY (set (withList (ascii "ACT")) 2 [])))) (6 ∷ 3 ∷ [])
+    ∷ bytes (said (readRecord (recordOf KEY (withList [])))) (6 ∷ 2 ∷ [])
+    ∷ bytes (said (readRecord (recordOf KEY (withList (0x7F ∷ []))))) (6 ∷ 2 ∷ [])
+    ∷ bytes (said (readRecord (recordOf KEY (set (withList []) 0 [])))) (6 ∷ 1 ∷ [])
+    ∷ bytes (said (readIdentity key)) (2 ∷ 0 ∷ [])
+    ∷ bytes (saidOf (sharedInfo key 0)) (2 ∷ 0 ∷ [])
+    ∷ number (choiceNo (newer key centreKey)) 2
+    ∷ bytes (attributePart (readOf keyKinds key) 5) (ascii "KRN1")
+    ∷ bytes (attributePart (readOf keyKinds key) (numberNamed (ascii "KEN") (cardsSaid (readOf keyKinds key)))) (ascii "KEN255")
+    ∷ number (numberNamed (ascii "KEX") (cardsSaid (readOf keyKinds key))) 0
+    ∷ number (attributeNo (readOf keyKinds key) 0) 12
+    ∷ number (attributeNo (readOf keyKinds key) 7) 0
+    ∷ number (attributeNo (readOf keyKinds key) 8) 12
+    ∷ number (attributeNo (readOf keyKinds response) 8) 2
+    ∷ []
+
+-- building: the mark in a field, 14 before 1, 1 before 10, and 1,024 bytes
+abbrev pub buildKey : Bytes → Bytes
+buildKey s = saidOf (build (name KEY) (run (withList s)) (lengths (withList s)) 1023)
+
+unfoldable pub longKeys : List Value
+longKeys =
+    bytes (buildKey (ascii "ACT|")) (6 ∷ 2 ∷ [])
+    ∷ bytes (buildKey (take 939 (longAttributes 91))) (14 ∷ 0 ∷ [])
+    ∷ bytes (buildKey (drop 20 (longAttributes 130))) (14 ∷ 0 ∷ [])
+    ∷ bytes (buildKey (longAttributes 91)) (1 ∷ 0 ∷ [])
+    ∷ bytes (buildKey (longAttributes 90)) (10 ∷ 0 ∷ [])
+    ∷ bytes (buildKey (longAttributes 89)) (0 ∷ 0 ∷ [])
+    ∷ []
+
 unfoldable pub fixed : List Value
-fixed = rows ++ alphabets ++ limits ++ labels ++ checks ++ numbers ++ building ++ texts ++ others
+fixed = rows ++ alphabets ++ limits ++ labels ++ checks ++ numbers ++ building ++ texts ++ others ++ lists ++ keys ++ longKeys

@@ -17,6 +17,8 @@ use Rattle.exports.proofs.records.obscurlane_read_identity.Reads as read-identi
 use Rattle.exports.proofs.records.obscurlane_read_record.Reads as read-record
 use Rattle.exports.proofs.records.obscurlane_identity_field.Reads as identity-field
 use Rattle.exports.proofs.records.obscurlane_record_field.Reads as record-field
+use Rattle.exports.proofs.records.obscurlane_attribute.Reads as attribute
+use Rattle.exports.proofs.records.obscurlane_attribute_named.Reads as attribute-named
 use Rattle.exports.proofs.writing.obscurlane_build.Reads as build
 use Rattle.exports.proofs.writing.obscurlane_shared_info.Reads as shared-info
 use Rattle.exports.proofs.writing.obscurlane_module_text.Reads as module-text
@@ -30,10 +32,12 @@ use Rattle.exports.proofs.walking.obscurlane_newer.Reads as newer
 use lib.ListN.{length}
 use Rattle.crc16.specs.Crc.{begin, add, end, crcOf}
 use Rattle.text.specs.Text.{isIdent, isTimestamp, isHex, isPoint, isSig, isMac, isPrint}
-use Rattle.format.specs.Read.{readIdentity, readRecord}
+use Rattle.format.specs.Kinds.{keyKinds}
+use Rattle.format.specs.Read.{readIdentity, readOf, readRecord}
 use Rattle.format.specs.Files.{lineAt, walk}
 use Rattle.reading.specs.Reading.{answerOf}
 use Rattle.fields.specs.Fields.{placeSaid}
+use Rattle.fields.specs.Attributes.{cardsSaid, numberNamed, attributePlace}
 use Rattle.put.specs.Made.{says, leaves}
 use Rattle.building.specs.Building.{build as built}
 use Rattle.items.specs.Place.{itemPlace}
@@ -57,11 +61,14 @@ pub record Interface : Type 0 where
   pub is-sig : Answers is-sig.Post (λ κs a. isSig (now (a .0)))
   pub is-mac : Answers is-mac.Post (λ κs a. isMac (now (a .0)))
   pub is-print : Answers is-print.Post (λ κs a. isPrint (now (a .0)))
-  -- reading, and one field
+  -- reading, one field, and one attribute
   pub read-identity : Answers read-identity.Post (λ κs a. answerOf (readIdentity (now (a .0))))
   pub read-record : Answers read-record.Post (λ κs a. answerOf (readRecord (now (a .0))))
   pub identity-field : Answers identity-field.Post (λ κs a. placeSaid (readIdentity (now (a .0))) (a .1 .0))
   pub record-field : Answers record-field.Post (λ κs a. placeSaid (readRecord (now (a .0))) (a .1 .0))
+  pub attribute : Answers attribute.Post (λ κs a. attributePlace (readOf keyKinds (now (a .0))) (a .1 .0))
+  pub attribute-named : Answers attribute-named.Post
+      (λ κs a. attributePlace (readOf keyKinds (now (a .0))) (numberNamed (now (a .1 .0)) (cardsSaid (readOf keyKinds (now (a .0))))))
   -- building
   pub build-said : Answers build.Post (λ κs a. says (built (now (a .0)) (now (a .1 .0)) (now (a .1 .1 .0)) (length (now (a .1 .1 .1 .0)))))
   pub build-out : Leaves build.Post (λ κs s. now (s .1 .1 .1 .0))

@@ -5,6 +5,7 @@ pub mod Calls
 pub mod Check
 pub mod TextTypes
 pub mod Reading
+pub mod Attributes
 pub mod Building
 pub mod Agreement
 pub mod Files

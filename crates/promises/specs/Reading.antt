@@ -14,7 +14,7 @@ use denote.Ref.{RefT, now}
 use Rattle.text.specs.Text.{Bytes, between, Ident}
 use Rattle.text.specs.Part.{Part, NoPart}
 use Rattle.numbers.specs.Numbers.{missingItem}
-use Rattle.format.specs.Kinds.{Kind, Text, name, fieldsOf, identityKinds, recordKinds, pubkeyKinds, among}
+use Rattle.format.specs.Kinds.{Kind, KEY, Text, name, fieldsOf, identityKinds, recordKinds, pubkeyKinds, keyKinds, among}
 use Rattle.format.specs.Build.{recordOf, empty, Permitted, Built}
 use Rattle.format.specs.Read.{Outcome, accepted, refused, readIdentity, readRecord}
 use Rattle.table.specs.Table.{rowOf, missingRow}
@@ -115,11 +115,12 @@ pub record Reading : Type 0 where
   pub record-points : PointsTo record-place.Post (λ κs a. now (a .0)) (λ κs a. a .1 .0) recordKinds
   pub identity-nowhere : NowhereRefused identity-place.Post
   pub record-nowhere : NowhereRefused record-place.Post
-  -- kind and fields are unique, over all seven kinds
+  -- kind and fields are unique, over all eight kinds
   pub unique : (s : Bytes) (j k : Kind) (fs gs : List Bytes) → Permitted j fs → Permitted k gs → s ≡ recordOf j fs → s ≡ recordOf k gs
       → (j ≡ k) × (fs ≡ gs)
-  -- no built record is longer than 646 bytes
-  pub longest : (k : Kind) (fs : List Bytes) → Permitted k fs → length (recordOf k fs) ≤ 646
+  -- no built record is longer than 1,024 bytes, and none but a wrapped key's longer than 646
+  pub longest : (k : Kind) (fs : List Bytes) → Permitted k fs → length (recordOf k fs) ≤ 1024
+  pub longest-other : (k : Kind) (fs : List Bytes) → T (not (among k keyKinds)) → Permitted k fs → length (recordOf k fs) ≤ 646
   -- an identity is kind name + Manufacturer + MID + 41
   pub identity-length : (k : Kind) (man mid gnt print : Bytes) → T (among k identityKinds) → Permitted k (man ∷ mid ∷ gnt ∷ print ∷ [])
       → length (recordOf k (man ∷ mid ∷ gnt ∷ print ∷ [])) ≡ length (name k) + length man + length mid + 41
@@ -130,3 +131,6 @@ pub record Reading : Type 0 where
   pub signed-length : (k : Kind) (subject q expiry issuer sig : Bytes) → T (among k pubkeyKinds)
       → Permitted k (subject ∷ q ∷ expiry ∷ issuer ∷ sig ∷ []) → T (not (empty sig))
       → length (recordOf k (subject ∷ q ∷ expiry ∷ issuer ∷ sig ∷ [])) ≡ length (name k) + length subject + 220 + length issuer + 192
+  -- a wrapped key is Attributes + ProtectedKey + 37
+  pub key-length : (nonce attributes protected : Bytes) → Permitted KEY (nonce ∷ attributes ∷ protected ∷ [])
+      → length (recordOf KEY (nonce ∷ attributes ∷ protected ∷ [])) ≡ 37 + length attributes + length protected

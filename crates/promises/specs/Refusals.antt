@@ -17,6 +17,10 @@ use Rattle.fields.proofs.identity_place.Reads as identity-place
 use Rattle.fields.proofs.record_place.Reads as record-place
 use Rattle.fields.proofs.identity_field.Reads as identity-field
 use Rattle.fields.proofs.record_field.Reads as record-field
+use Rattle.fields.proofs.attribute_place.Reads as attribute-place
+use Rattle.fields.proofs.attribute_named_place.Reads as attribute-named-place
+use Rattle.fields.proofs.attribute.Reads as attribute
+use Rattle.fields.proofs.attribute_named.Reads as attribute-named
 use Rattle.building.proofs.build.Reads as build
 use Rattle.items.proofs.item_place.Reads as item-place
 use Rattle.items.proofs.text_item.Reads as text-item
@@ -38,9 +42,17 @@ abbrev pub ofIdentities : List ℕ
 ofIdentities = 0 ∷ 1 ∷ 2 ∷ 3 ∷ 4 ∷ 5 ∷ 6 ∷ []
 
 abbrev pub ofRecords : List ℕ
-ofRecords = 0 ∷ 1 ∷ 2 ∷ 3 ∷ 4 ∷ 5 ∷ 6 ∷ 7 ∷ 8 ∷ 9 ∷ []
+ofRecords = 0 ∷ 1 ∷ 2 ∷ 3 ∷ 4 ∷ 5 ∷ 6 ∷ 7 ∷ 8 ∷ 9 ∷ 14 ∷ []
 
--- a request has no Issuer and Signature
+-- a public key has no attributes
+abbrev pub ofPubkeys : List ℕ
+ofPubkeys = 0 ∷ 1 ∷ 2 ∷ 3 ∷ 4 ∷ 5 ∷ 6 ∷ 7 ∷ 8 ∷ 9 ∷ []
+
+-- a wrapped key has no identity in it, and no Issuer and Signature
+abbrev pub ofKeys : List ℕ
+ofKeys = 0 ∷ 1 ∷ 2 ∷ 3 ∷ 4 ∷ 5 ∷ 6 ∷ 14 ∷ []
+
+-- a request has no Issuer and Signature, and no attributes
 abbrev pub ofTexts : List ℕ
 ofTexts = 0 ∷ 1 ∷ 2 ∷ 3 ∷ 4 ∷ 5 ∷ 6 ∷ 7 ∷ 9 ∷ 10 ∷ []
 
@@ -50,14 +62,19 @@ pub record Refusals : Type 0 where
   pub read-identity : GivesOnly read-identity.Post (λ κs r s. r .no) ofIdentities
   pub read-record : GivesOnly read-record.Post (λ κs r s. r .no) ofRecords
   pub read-of : GivesOnly read-of.Post (λ κs r s. r .no) ofRecords
-  pub judge : GivesOnly judge.Post (λ κs r s. r .no) (0 ∷ 2 ∷ 6 ∷ 7 ∷ 8 ∷ 9 ∷ [])
+  pub judge : GivesOnly judge.Post (λ κs r s. r .no) (0 ∷ 2 ∷ 6 ∷ 7 ∷ 8 ∷ 9 ∷ 14 ∷ [])
   -- one field
   pub identity-place : GivesOnly identity-place.Post (λ κs r s. r .no) (12 ∷ ofIdentities)
   pub record-place : GivesOnly record-place.Post (λ κs r s. r .no) (12 ∷ ofRecords)
   pub identity-field : GivesOnly identity-field.Post (λ κs r s. now (s .1 .1 .0)) (12 ∷ ofIdentities)
   pub record-field : GivesOnly record-field.Post (λ κs r s. now (s .1 .1 .0)) (12 ∷ ofRecords)
+  -- one attribute
+  pub attribute-place : GivesOnly attribute-place.Post (λ κs r s. r .no) (12 ∷ ofKeys)
+  pub attribute-named-place : GivesOnly attribute-named-place.Post (λ κs r s. r .no) (12 ∷ ofKeys)
+  pub attribute : GivesOnly attribute.Post (λ κs r s. now (s .1 .1 .0)) (12 ∷ ofKeys)
+  pub attribute-named : GivesOnly attribute-named.Post (λ κs r s. now (s .1 .1 .0)) (12 ∷ ofKeys)
   -- building
-  pub build : GivesOnly build.Post (λ κs r s. r .no) (0 ∷ 2 ∷ 5 ∷ 6 ∷ 7 ∷ 8 ∷ 9 ∷ 10 ∷ [])
+  pub build : GivesOnly build.Post (λ κs r s. r .no) (0 ∷ 1 ∷ 2 ∷ 5 ∷ 6 ∷ 7 ∷ 8 ∷ 9 ∷ 10 ∷ 14 ∷ [])
   -- texts and their items
   pub shared-info : GivesOnly shared-info.Post (λ κs r s. r .no) ofTexts
   pub module-text : GivesOnly module-text.Post (λ κs r s. r .no) ofTexts
@@ -69,5 +86,5 @@ pub record Refusals : Type 0 where
   pub step-from : GivesOnly step-from.Post (λ κs r s. numberOf r) (11 ∷ ofRecords)
   pub write-list : GivesOnly write-list.Post (λ κs r s. r .no) (0 ∷ 10 ∷ [])
   -- the newer key
-  pub newer-of : GivesOnly newer-of.Post (λ κs r s. r .no) (13 ∷ ofRecords)
-  pub newer : GivesOnly newer.Post (λ κs r s. now (s .1 .1 .0)) (13 ∷ ofRecords)
+  pub newer-of : GivesOnly newer-of.Post (λ κs r s. r .no) (13 ∷ ofPubkeys)
+  pub newer : GivesOnly newer.Post (λ κs r s. now (s .1 .1 .0)) (13 ∷ ofPubkeys)

@@ -15,6 +15,11 @@ use Rattle.text.proofs.is_point.Reads as is-point
 use Rattle.text.proofs.is_sig.Reads as is-sig
 use Rattle.text.proofs.is_mac.Reads as is-mac
 use Rattle.text.proofs.is_print.Reads as is-print
+use Rattle.text.proofs.is_digits.Reads as is-digits
+use Rattle.text.proofs.is_alphanumeric.Reads as is-alphanumeric
+use Rattle.text.proofs.is_octet.Reads as is-octet
+use Rattle.text.proofs.is_printable.Reads as is-printable
+use Rattle.text.proofs.is_protected.Reads as is-protected
 use Rattle.text.proofs.hex_digit.Reads as hex-digit
 use Rattle.text.proofs.hex_value.Reads as hex-value
 use Rattle.text.proofs.check_text.Reads as check-text
@@ -31,12 +36,14 @@ use Rattle.table.proofs.does_permit.Reads as does-permit
 use Rattle.frame.proofs.title_of.Reads as title-of
 use Rattle.frame.proofs.mark_after.Reads as mark-after
 use Rattle.frame.proofs.next_mark.Reads as next-mark
+use Rattle.frame.proofs.part_start.Reads as part-start
 use Rattle.frame.proofs.part.Reads as part
 use Rattle.frame.proofs.body_of.Reads as body-of
 use Rattle.frame.proofs.check_no.Reads as check-no
 use Rattle.places.proofs.places_of.Reads as places-of
 use Rattle.places.proofs.part_at.Reads as part-at
 use Rattle.places.proofs.field_at.Reads as field-at
+use Rattle.cards.proofs.are_attributes.Reads as are-attributes
 use Rattle.reading.proofs.read_identity.Reads as read-identity
 use Rattle.reading.proofs.judge.Reads as judge
 use Rattle.reading.proofs.read_of.Reads as read-of
@@ -45,6 +52,10 @@ use Rattle.fields.proofs.identity_place.Reads as identity-place
 use Rattle.fields.proofs.record_place.Reads as record-place
 use Rattle.fields.proofs.identity_field.Reads as identity-field
 use Rattle.fields.proofs.record_field.Reads as record-field
+use Rattle.fields.proofs.attribute_place.Reads as attribute-place
+use Rattle.fields.proofs.attribute_named_place.Reads as attribute-named-place
+use Rattle.fields.proofs.attribute.Reads as attribute
+use Rattle.fields.proofs.attribute_named.Reads as attribute-named
 use Rattle.put.proofs.put.Reads as put
 use Rattle.put.proofs.put_byte.Reads as put-byte
 use Rattle.put.proofs.refuse.Reads as refuse
@@ -77,6 +88,8 @@ use Rattle.exports.proofs.records.obscurlane_read_identity.Reads as c-read-iden
 use Rattle.exports.proofs.records.obscurlane_read_record.Reads as c-read-record
 use Rattle.exports.proofs.records.obscurlane_identity_field.Reads as c-identity-field
 use Rattle.exports.proofs.records.obscurlane_record_field.Reads as c-record-field
+use Rattle.exports.proofs.records.obscurlane_attribute.Reads as c-attribute
+use Rattle.exports.proofs.records.obscurlane_attribute_named.Reads as c-attribute-named
 use Rattle.exports.proofs.writing.obscurlane_build.Reads as c-build
 use Rattle.exports.proofs.writing.obscurlane_shared_info.Reads as c-shared-info
 use Rattle.exports.proofs.writing.obscurlane_module_text.Reads as c-module-text
@@ -108,6 +121,11 @@ pub record Total : Type 0 where
   pub is-sig : Takes is-sig.Pre
   pub is-mac : Takes is-mac.Pre
   pub is-print : Takes is-print.Pre
+  pub is-digits : Takes is-digits.Pre
+  pub is-alphanumeric : Takes is-alphanumeric.Pre
+  pub is-octet : Takes is-octet.Pre
+  pub is-printable : Takes is-printable.Pre
+  pub is-protected : Takes is-protected.Pre
   pub hex-digit : Takes hex-digit.Pre
   pub hex-value : Takes hex-value.Pre
   pub check-text : Takes check-text.Pre
@@ -126,6 +144,7 @@ pub record Total : Type 0 where
   pub title-of : Takes title-of.Pre
   pub mark-after : Takes mark-after.Pre
   pub next-mark : Takes next-mark.Pre
+  pub part-start : Takes part-start.Pre
   pub part : Takes part.Pre
   pub body-of : Takes body-of.Pre
   pub check-no : Takes check-no.Pre
@@ -133,6 +152,8 @@ pub record Total : Type 0 where
   pub places-of : Takes places-of.Pre
   pub part-at : Takes part-at.Pre
   pub field-at : Takes field-at.Pre
+  -- cards
+  pub are-attributes : Takes are-attributes.Pre
   -- reading
   pub read-identity : Takes read-identity.Pre
   pub judge : Takes judge.Pre
@@ -143,6 +164,10 @@ pub record Total : Type 0 where
   pub record-place : Takes record-place.Pre
   pub identity-field : Takes identity-field.Pre
   pub record-field : Takes record-field.Pre
+  pub attribute-place : Takes attribute-place.Pre
+  pub attribute-named-place : Takes attribute-named-place.Pre
+  pub attribute : Takes attribute.Pre
+  pub attribute-named : Takes attribute-named.Pre
   -- put
   pub put : Takes put.Pre
   pub put-byte : Takes put-byte.Pre
@@ -185,6 +210,8 @@ pub record Total : Type 0 where
   pub c-read-record : Takes c-read-record.Pre
   pub c-identity-field : Takes c-identity-field.Pre
   pub c-record-field : Takes c-record-field.Pre
+  pub c-attribute : Takes c-attribute.Pre
+  pub c-attribute-named : Takes c-attribute-named.Pre
   pub c-build : Takes c-build.Pre
   pub c-shared-info : Takes c-shared-info.Pre
   pub c-module-text : Takes c-module-text.Pre
