@@ -92,9 +92,28 @@ fn part<'a>(known: &[u8], call: usize, n: usize, a: &'a [u8], b: &'a [u8]) -> us
     let part = match call {
         NEWER => newer::newer(a, b, &mut no, &mut field),
         IDENTITY_FIELD => fields::identity_field(a, n, &mut no, &mut field),
-        _ => fields::record_field(a, n, &mut no, &mut field),
+        RECORD_FIELD => fields::record_field(a, n, &mut no, &mut field),
+        ATTRIBUTE => fields::attribute(a, n, &mut no, &mut field),
+        _ => fields::attribute_named(a, b, &mut no, &mut field),
     };
     say::part(known, no, part)
+}
+
+// Every attribute of a wrapped key by its number, each with its ';' again; no list has as many as bytes are read.
+fn attributes(known: &[u8], key: &[u8]) -> usize {
+    let mut no: u8 = 0;
+    let mut field: u8 = 0;
+    let mut at: usize = 0;
+    let mut n: usize = 1;
+    while n < reading::LONGEST {
+        let card = fields::attribute(key, n, &mut no, &mut field);
+        if no != numbers::ACCEPTED {
+            break;
+        }
+        at = say::piece(known, say::piece(known, at, card), b";");
+        n += 1;
+    }
+    at
 }
 
 // ---- a file
@@ -156,12 +175,18 @@ const READ_RECORD: usize = 7;
 
 const IDENTITY_FIELD: usize = 8;
 
-const BUILD: usize = 10;
+const RECORD_FIELD: usize = 9;
+
+const ATTRIBUTE: usize = 10;
+
+const ATTRIBUTES: usize = 12;
+
+const BUILD: usize = 13;
 
 // Which of the names a word is; BUILD where it is none of them.
 fn call_of(name: &[u8]) -> usize {
     let names =
-        b"newer file shared_info module_text centre_text module_item read_identity read_record identity_field record_field";
+        b"newer file shared_info module_text centre_text module_item read_identity read_record identity_field record_field attribute attribute_named attributes";
     let mut k: usize = 0;
     while k < BUILD {
         if text::are_same(name, frame::part(b' ', names, k)) {
@@ -180,6 +205,7 @@ pub(crate) fn run<'a>(name: &[u8], n: usize, a: &'a [u8], b: &'a [u8], known: &[
         MODULE_ITEM => module_item(known, a, n),
         READ_IDENTITY => say::part(known, reading::read_identity(a).no, b"accepted"),
         READ_RECORD => say::part(known, reading::read_record(a).no, b"accepted"),
+        ATTRIBUTES => attributes(known, a),
         BUILD => rebuild(known, a),
         _ => part(known, call, n, a, b),
     }

@@ -1,11 +1,14 @@
-// The worked example of STS600-9-1 (003), step by step, through the public calls alone. Standard input has three lines for
-// a step: where it stands in 003 and what it is; a call with what it is lent; the value known. The program prints
+// The worked example of STS600-9-1 (003), and the records of STS 600-4-2's Appendix A (000), step by step, through the public
+// calls alone. Standard input has three lines for a step: where it stands and what it is; a call with what it is lent, with a
+// tab between them, because an attribute may have spaces; the value known. The program prints
 // each step with the value that the library gives, says of each whether it agrees, and at last how many do.
 // docs/VECTORS.md tells where each value was taken from.
 mod calls;
 mod say;
 
 use libc::STDIN_FILENO;
+ghost use mathlib.Core.Path.{_≡_};
+ghost use lib.ListN.{length};
 
 // The number that a word of one digit is; 0 for any other word.
 fn digit(word: &[u8]) -> usize {
@@ -20,10 +23,10 @@ fn run_step(title: &[u8], step: &[u8], known: &[u8]) -> usize {
     say::text(title);
     say::text(b"\n  ");
     let agrees_to = calls::run(
-        frame::part(b' ', step, 0),
-        digit(frame::part(b' ', step, 1)),
-        frame::part(b' ', step, 2),
-        frame::part(b' ', step, 3),
+        frame::part(b'\t', step, 0),
+        digit(frame::part(b'\t', step, 1)),
+        frame::part(b'\t', step, 2),
+        frame::part(b'\t', step, 3),
         known,
     );
     if agrees_to == known.len() {
@@ -34,14 +37,21 @@ fn run_step(title: &[u8], step: &[u8], known: &[u8]) -> usize {
     0
 }
 
-// No more lines are read than the buffer has bytes.
-const MOST: usize = 65536;
+// Room for the input, which has no more lines than it has bytes. The length is stated because a proof that looked at this
+// many zeros would be slow.
+const ROOM: usize = 131072;
+
+fn room() -> [u8; ROOM]
+    ensures { λ r. ⌜ 131072 ≡ length r ⌝ }
+{
+    [0; ROOM]
+}
 
 // A step with no title ends the list.
 fn run_all(input: &[u8]) {
     let mut agree: usize = 0;
     let mut line: usize = 0;
-    while line < MOST {
+    while line < ROOM {
         let title = frame::part(b'\n', input, line);
         if title.len() == 0 {
             break;
@@ -55,7 +65,7 @@ fn run_all(input: &[u8]) {
 }
 
 fn main() {
-    let mut buffer = io::large_buffer();
+    let mut buffer = room();
     let n = io::read_full(STDIN_FILENO, &mut buffer);
     run_all(&buffer[..n]);
 }
