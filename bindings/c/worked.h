@@ -1,5 +1,5 @@
-/* Values of the worked example STS600-9-1, and of the example in Appendix A of STS 600-4-2. docs/VECTORS.md says where each
- * stands there. */
+/* Values of the worked example STS600-9-1; docs/VECTORS.md says where each stands there. And of the example in Appendix A of
+ * STS 600-4-2. */
 #ifndef WORKED_H
 #define WORKED_H
 
