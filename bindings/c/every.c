@@ -2,7 +2,8 @@
  * Calls every function of the header, on what is accepted and on what is refused, and compares everything that it answers and
  * leaves in an output. The exit status is 1 if anything is not as expected; the last line says how many comparisons were made.
  *
- * Here stand records and texts. The check, the text types, files and names stand in parts.c.
+ * Here stand records and texts. Wrapped keys and their attributes stand in wrapped.c; the check, the text types, files and
+ * names in parts.c.
  */
 #include "expect.h"
 #include "worked.h"
@@ -51,6 +52,15 @@ static const struct sample module_key = {WORKED_KEY_MODULE, OBSCURLANE_KIND_ECDH
 static const struct sample centre_key = {WORKED_KEY_CENTRE, OBSCURLANE_KIND_ECDH, '|', "2----"};
 static const struct sample request = {WORKED_REQUEST, OBSCURLANE_KIND_REQ, '|', "12-----"};
 static const struct sample response = {WORKED_RESPONSE, OBSCURLANE_KIND_RESP, '|', "21--"};
+static const struct sample wrapped_key = {WORKED_WRAPPED_1, OBSCURLANE_KIND_KEY, '|', "---"};
+static const struct sample longer_key = {WORKED_WRAPPED_2, OBSCURLANE_KIND_KEY, '|', "---"};
+
+/* Appendix A's example. */
+static const struct sample appendix[] = {
+    {APPENDIX_A_RESPONSE, OBSCURLANE_KIND_RESP, '|', "21--"}, {APPENDIX_A_WRAPPED_1, OBSCURLANE_KIND_KEY, '|', "---"},
+    {APPENDIX_A_WRAPPED_2, OBSCURLANE_KIND_KEY, '|', "---"},  {APPENDIX_A_WRAPPED_3, OBSCURLANE_KIND_KEY, '|', "---"},
+    {APPENDIX_A_WRAPPED_4, OBSCURLANE_KIND_KEY, '|', "---"},  {APPENDIX_A_WRAPPED_5, OBSCURLANE_KIND_KEY, '|', "---"},
+};
 
 static size_t count_of(const struct sample *of)
 {
@@ -235,20 +245,28 @@ static void expect_change_refused(const struct sample *of, size_t changed, const
 {
     uint8_t out[OBSCURLANE_LONGEST_READ];
     struct fields fields = fields_of(of, changed, with);
-    uint8_t field = no == OBSCURLANE_UNPAIRED ? 0 : (uint8_t)changed;
+    uint8_t field = no == OBSCURLANE_UNPAIRED || no == OBSCURLANE_WRONG_ATTRIBUTES ? 0 : (uint8_t)changed;
     expect_refused(of, out, write_out(of, &fields, out), no, field);
     memset(out, UNTOUCHED, sizeof out);
     expect_unwritten(build(obscurlane_kind_name(of->kind), &fields, out, sizeof out), no, field, out, sizeof out);
 }
 
+static void expect_read_and_built(const struct sample *of)
+{
+    expect_read(of);
+    refused_before_its_fields(of);
+    expect_built(of);
+}
+
 static void records(void)
 {
-    static const struct sample *const samples[] = {&maker,      &module,     &centre,  &maker_key,
-                                                   &module_key, &centre_key, &request, &response};
+    static const struct sample *const samples[] = {&maker,      &module,  &centre,   &maker_key,   &module_key,
+                                                   &centre_key, &request, &response, &wrapped_key, &longer_key};
     for (size_t i = 0; i < COUNT_OF(samples); i++) {
-        expect_read(samples[i]);
-        refused_before_its_fields(samples[i]);
-        expect_built(samples[i]);
+        expect_read_and_built(samples[i]);
+    }
+    for (size_t i = 0; i < COUNT_OF(appendix); i++) {
+        expect_read_and_built(&appendix[i]);
     }
     expect_change_refused(&module, OBSCURLANE_IDENTITY_GNT, "20180120T240000Z", OBSCURLANE_WRONG_TEXT);
     expect_change_refused(&centre, OBSCURLANE_IDENTITY_MANUFACTURER, "", OBSCURLANE_WRONG_TEXT);
@@ -260,6 +278,10 @@ static void records(void)
     expect_change_refused(&maker_key, OBSCURLANE_PUBKEY_SIGNATURE, "", OBSCURLANE_UNPAIRED);
     expect_change_refused(&centre_key, OBSCURLANE_PUBKEY_ISSUER, WORKED_ID_MAKER, OBSCURLANE_UNPAIRED);
     expect_change_refused(&centre_key, OBSCURLANE_PUBKEY_SUBJECT, WORKED_ID_MAKER, OBSCURLANE_WRONG_KIND);
+    expect_change_refused(&wrapped_key, OBSCURLANE_KEY_NONCE, "", OBSCURLANE_WRONG_TEXT);
+    expect_change_refused(&wrapped_key, OBSCURLANE_KEY_ATTRIBUTES, "", OBSCURLANE_WRONG_TEXT);
+    expect_change_refused(&wrapped_key, OBSCURLANE_KEY_ATTRIBUTES, "ACT", OBSCURLANE_WRONG_ATTRIBUTES);
+    expect_change_refused(&wrapped_key, OBSCURLANE_KEY_PROTECTED_KEY, "", OBSCURLANE_WRONG_TEXT);
 }
 
 /* ---- the longest of each: the header's lengths */
@@ -284,10 +306,10 @@ static void write_longest_identity(const char *kind, char out[OBSCURLANE_LONGEST
     out[made.len] = '\0';
 }
 
-static void longest_record(void)
+static void longest_public_key(void)
 {
     char identity[OBSCURLANE_LONGEST_IDENTITY + 1];
-    uint8_t out[OBSCURLANE_LONGEST_RECORD];
+    uint8_t out[OBSCURLANE_LONGEST_PUBKEY];
     struct fields fields = {.total = 0, .count = 0};
     write_longest_identity("SMMAN.1", identity);
     EXPECT(strlen(identity) == OBSCURLANE_LONGEST_IDENTITY);
@@ -297,7 +319,7 @@ static void longest_record(void)
     add(&fields, identity, strlen(identity));
     add_from(&fields, &maker_key, OBSCURLANE_PUBKEY_SIGNATURE);
     EXPECT(build("PK.ECDSA.1", &fields, out, sizeof out - 1).no == OBSCURLANE_SHORT_OUTPUT);
-    EXPECT(build("PK.ECDSA.1", &fields, out, sizeof out).len == OBSCURLANE_LONGEST_RECORD);
+    EXPECT(build("PK.ECDSA.1", &fields, out, sizeof out).len == OBSCURLANE_LONGEST_PUBKEY);
 }
 
 /* The request whose texts are the longest; its length. */
@@ -432,10 +454,11 @@ static void newer(void)
 int main(void)
 {
     records();
-    longest_record();
+    longest_public_key();
     texts();
     items();
     newer();
+    call_for_wrapped_keys();
     call_parts();
     printf("every function: %lu as expected\n", expectations);
     return EXIT_SUCCESS;

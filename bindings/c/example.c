@@ -1,4 +1,5 @@
-/* Reads the load request of the worked example once, prints its fields by their names, and makes its three texts. */
+/* Reads the load request of the worked example once, prints its fields by their names, and makes its three texts; then prints
+ * the attributes of its second wrapped key. */
 #include "obscurlane.h"
 #include "worked.h"
 
@@ -6,10 +7,32 @@
 
 static const char request[] = WORKED_REQUEST;
 static const size_t request_len = sizeof request - 1;
+static const char key[] = WORKED_WRAPPED_2;
+static const size_t key_len = sizeof key - 1;
 
 static void print_text(const char *name, obscurlane_written made)
 {
     printf("%s: %s, %zu bytes\n", name, obscurlane_reason(made.no), made.len);
+}
+
+/* The name is the first three characters of a card, the value all others. */
+static void print_card(obscurlane_place card)
+{
+    printf("  %.3s     %.*s\n", key + card.start, (int)card.len - 3, key + card.start + 3);
+}
+
+static void print_attributes(void)
+{
+    const uint8_t *bytes = (const uint8_t *)key;
+    obscurlane_place card;
+    for (size_t n = 1; card = obscurlane_attribute(bytes, key_len, n), card.no == OBSCURLANE_ACCEPTED; n++) {
+        print_card(card);
+    }
+    card = obscurlane_attribute_named(bytes, key_len, (const uint8_t *)"SGC", 3);
+    if (card.no == OBSCURLANE_ACCEPTED) {
+        printf("one by its name\n");
+        print_card(card);
+    }
 }
 
 int main(void)
@@ -30,5 +53,8 @@ int main(void)
     print_text("SharedInfo", obscurlane_shared_info(bytes, request_len, text, sizeof text));
     print_text("module text", obscurlane_module_text(bytes, request_len, text, sizeof text));
     print_text("centre text", obscurlane_centre_text(bytes, request_len, text, sizeof text));
+
+    printf("%s, its attributes\n", obscurlane_kind_name(OBSCURLANE_KIND_KEY));
+    print_attributes();
     return 0;
 }

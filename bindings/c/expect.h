@@ -1,4 +1,4 @@
-/* What the two files of the test of every function share: every.c and parts.c. */
+/* What the files of the test of every function share: every.c, wrapped.c and parts.c. */
 #ifndef EXPECT_H
 #define EXPECT_H
 
@@ -19,6 +19,9 @@ void expect(bool holds, const char *what, const char *file, int line);
 
 /* Every byte from `from` to before `to` is as it was lent. */
 bool untouched(const uint8_t *out, size_t from, size_t to);
+
+/* Calls the functions for attributes, and those that read or build on wrapped keys. */
+void call_for_wrapped_keys(void);
 
 /* Calls the functions for the check, the text types and files, and those for names. */
 void call_parts(void);

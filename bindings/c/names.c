@@ -5,7 +5,7 @@
 
 static const char *const reasons[] = {
     [OBSCURLANE_ACCEPTED] = "accepted",
-    [OBSCURLANE_TOO_LONG] = "the record is longer than 1,024 bytes",
+    [OBSCURLANE_TOO_LONG] = "the record is longer than 1,024 bytes, or would be",
     [OBSCURLANE_UNKNOWN_KIND] = "it is of no kind that is read or built here",
     [OBSCURLANE_MISSING_CHECK] = "it does not end in its mark and a check of four HEX characters",
     [OBSCURLANE_WRONG_CHECK] = "the check differs",
@@ -16,8 +16,9 @@ static const char *const reasons[] = {
     [OBSCURLANE_WRONG_KIND] = "an identity field is of a kind not permitted there",
     [OBSCURLANE_SHORT_OUTPUT] = "the output is too short",
     [OBSCURLANE_UNFINISHED] = "the last line of the file has no line feed",
-    [OBSCURLANE_MISSING_ITEM] = "there is no such field or item, or the bytes are no key agreement text",
+    [OBSCURLANE_MISSING_ITEM] = "there is no such field, attribute or item, or the bytes are no key agreement text",
     [OBSCURLANE_NOT_ALIKE] = "the Subjects of the two keys differ in kind, Manufacturer or MID",
+    [OBSCURLANE_WRONG_ATTRIBUTES] = "the attribute list is not one that clause 7.5.1 or Appendix B permits",
 };
 
 struct kind {
@@ -33,6 +34,7 @@ static const struct kind kinds[] = {
     [OBSCURLANE_KIND_ECDH] = {"PK.ECDH.1", {"Subject", "Q", "Expiry", "Issuer", "Signature"}},
     [OBSCURLANE_KIND_REQ] = {"VKLOAD.REQ.1", {"ID_SM", "ID_KMC", "TVP", "HWID", "FWID", "QE", "MacTag"}},
     [OBSCURLANE_KIND_RESP] = {"VKLOAD.RESP.1", {"ID_KMC", "ID_SM", "TVP", "MacTag"}},
+    [OBSCURLANE_KIND_KEY] = {"KEY.1", {"Nonce", "Attributes", "ProtectedKey"}},
 };
 
 const char *obscurlane_reason(uint8_t no)

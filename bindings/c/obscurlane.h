@@ -1,6 +1,6 @@
 /*
- * Obscurlane: reading, checking and building the identity, public key, load request and load response records of
- * STS 600-4-2, and the texts that a key agreement hashes.
+ * Obscurlane: reading, checking and building the identity, public key, load request, load response and wrapped key records
+ * of STS 600-4-2, and the texts that a key agreement hashes.
  *
  * Link with libexports.a, which `bindings/archive` proves, compiles for the machine that it runs on and puts into
  * target/staticlib/. The names at the end of this header stand in names.c, which is compiled with the program.
@@ -24,8 +24,8 @@
  *   kind is OBSCURLANE_KIND_NONE. (A line of a file has its place whatever its answer.)
  * - With a refusal an output is as it was, every byte. Where a text or record is written, it stands at the front, and the
  *   bytes past its length are as they were.
- * - Fields and items are counted from 1, so field n of an answer is its starts[n - 1] and lens[n - 1]. Starts and places are
- *   counted from 0.
+ * - Fields, attributes and items are counted from 1, so field n of an answer is its starts[n - 1] and lens[n - 1]. Starts and
+ *   places are counted from 0.
  *
  * No function allocates, keeps anything between calls, or does anything outside its outputs: any thread may call any of
  * them at any time. Of the C library they need memcpy and memset at most.
@@ -37,21 +37,21 @@
 #include <stddef.h>
 #include <stdint.h>
 
-#define OBSCURLANE_VERSION "0.2.0"
+#define OBSCURLANE_VERSION "0.3.0"
 #define OBSCURLANE_VERSION_MAJOR 0
-#define OBSCURLANE_VERSION_MINOR 2
+#define OBSCURLANE_VERSION_MINOR 3
 #define OBSCURLANE_VERSION_PATCH 0
 
 #ifdef __cplusplus
 extern "C" {
 #endif
 
-/* ---- the numbers given back, in the words of the scope paper */
+/* ---- the numbers given back, in the words of the scope paper and of its requests */
 
 enum {
     /* Accepted. */
     OBSCURLANE_ACCEPTED = 0,
-    /* The record or identity to read is longer than 1,024 bytes. */
+    /* The record or identity to read is longer than 1,024 bytes. Building: or the record would be. */
     OBSCURLANE_TOO_LONG = 1,
     /* What stands before the first mark is no kind that this call reads, or the mark is not its kind's, or there is none.
      * Building: the kind name is not in the table. */
@@ -74,10 +74,13 @@ enum {
     OBSCURLANE_SHORT_OUTPUT = 10,
     /* The last line of a file has bytes and no line feed. */
     OBSCURLANE_UNFINISHED = 11,
-    /* The bytes are no key agreement text, or it has no such item; or the record has no field of that number. */
+    /* The bytes are no key agreement text, or it has no such item; or the record has no field of that number, or no attribute
+     * of that number or name. */
     OBSCURLANE_MISSING_ITEM = 12,
     /* Choosing: kind, Manufacturer or MID of the two Subjects differ. */
-    OBSCURLANE_NOT_ALIKE = 13
+    OBSCURLANE_NOT_ALIKE = 13,
+    /* The attribute list is not one that clause 7.5.1 or Appendix B permits. */
+    OBSCURLANE_WRONG_ATTRIBUTES = 14
 };
 
 /*
@@ -93,9 +96,18 @@ enum {
  *   VKLOAD.REQ.1   |     1 ID_SM SMID.1, 2 ID_KMC KMCID.1, 3 TVP TIMESTAMP, 4 HWID IDENT, 5 FWID IDENT, 6 QE POINT,
  *                        7 MacTag MAC
  *   VKLOAD.RESP.1  |     1 ID_KMC KMCID.1, 2 ID_SM SMID.1, 3 TVP TIMESTAMP, 4 MacTag MAC
+ *   KEY.1          |     1 Nonce HEX(24), 2 Attributes, 3 ProtectedKey: an even number of HEX characters, 32 to 72
  *
  * The first three are identities, the others records. Each is its name and its mark, then every field and the mark, then
  * the check, which is four HEX characters. Issuer and Signature are empty together or not at all.
+ *
+ * Attributes is a list of cards, each ended by ';'. A card is a name of three letters or digits and then a value of at most
+ * 252 printable characters, neither '|' nor ';'. The names ascend by their ASCII codes. Those of Appendix B are these, and
+ * others may be there with any value:
+ *
+ *   required             ACT TIMESTAMP, BDT TIMESTAMP, DKG 2 digits, KEN 3 digits up to 255, KRN 1 digit, KTC 1 digit,
+ *                        SGC 10 digits
+ *   optional             IUT TIMESTAMP, SGN 1 to 99 characters
  */
 
 enum {
@@ -106,10 +118,11 @@ enum {
     OBSCURLANE_KIND_ECDH = 4,   /* public key for key agreement */
     OBSCURLANE_KIND_REQ = 5,    /* load request */
     OBSCURLANE_KIND_RESP = 6,   /* load response */
+    OBSCURLANE_KIND_KEY = 7,    /* wrapped vending key */
     OBSCURLANE_KIND_NONE = 255  /* no kind: something was refused, or a field is no identity */
 };
 
-/* The fields of an identity, of a public key, of a load request and of a load response. */
+/* The fields of an identity, of a public key, of a load request, of a load response and of a wrapped key. */
 enum {
     OBSCURLANE_IDENTITY_MANUFACTURER = 1,
     OBSCURLANE_IDENTITY_MID = 2,
@@ -142,6 +155,12 @@ enum {
     OBSCURLANE_RESP_MAC_TAG = 4
 };
 
+enum {
+    OBSCURLANE_KEY_NONCE = 1,
+    OBSCURLANE_KEY_ATTRIBUTES = 2,
+    OBSCURLANE_KEY_PROTECTED_KEY = 3
+};
+
 /* ---- lengths: the longest inputs that are taken, and outputs that are always enough */
 
 enum {
@@ -151,8 +170,11 @@ enum {
     OBSCURLANE_LONGEST_IDENT = 32,
     /* The longest identity that is built or accepted: SMMAN.1 or KMCID.1, Manufacturer, MID, and 41 bytes more. */
     OBSCURLANE_LONGEST_IDENTITY = 7 + 2 * OBSCURLANE_LONGEST_IDENT + 41,
-    /* The longest record that is built or accepted: PK.ECDSA.1, Subject and 220 bytes more, Issuer and 192 more. */
-    OBSCURLANE_LONGEST_RECORD = 10 + OBSCURLANE_LONGEST_IDENTITY + 220 + OBSCURLANE_LONGEST_IDENTITY + 192,
+    /* The longest public key that is built or accepted: PK.ECDSA.1, Subject and 220 bytes more, Issuer and 192 more. Only a
+     * KEY.1 can be longer. */
+    OBSCURLANE_LONGEST_PUBKEY = 10 + OBSCURLANE_LONGEST_IDENTITY + 220 + OBSCURLANE_LONGEST_IDENTITY + 192,
+    /* The longest record that is built or accepted: a KEY.1, which may have as many bytes as are read. */
+    OBSCURLANE_LONGEST_RECORD = OBSCURLANE_LONGEST_READ,
     /* The longest of each text of a load request: the byte of its count, and each item with the byte of its length. ID_SM is
      * one byte shorter than the longest identity. */
     OBSCURLANE_LONGEST_SHARED_INFO = 1 + 10 + OBSCURLANE_LONGEST_IDENTITY + 1 + OBSCURLANE_LONGEST_IDENTITY + 17,
@@ -177,10 +199,10 @@ typedef struct {
 /* Reads an identity: SMMAN.1, SMID.1 or KMCID.1. Answers 0 to 6. */
 obscurlane_answer obscurlane_read_identity(const uint8_t *identity, size_t identity_len);
 
-/* Reads a record: PK.ECDSA.1, PK.ECDH.1, VKLOAD.REQ.1 or VKLOAD.RESP.1. Answers 0 to 9. */
+/* Reads a record: PK.ECDSA.1, PK.ECDH.1, VKLOAD.REQ.1, VKLOAD.RESP.1 or KEY.1. Answers 0 to 9, or 14. */
 obscurlane_answer obscurlane_read_record(const uint8_t *record, size_t record_len);
 
-/* Where one field stands. start and len are 0 with a refusal. */
+/* Where one field or attribute stands. start and len are 0 with a refusal. */
 typedef struct {
     uint8_t no;
     uint8_t field;
@@ -195,6 +217,15 @@ obscurlane_place obscurlane_identity_field(const uint8_t *identity, size_t ident
 /* The same of a record, with the numbers of obscurlane_read_record. */
 obscurlane_place obscurlane_record_field(const uint8_t *record, size_t record_len, size_t wanted);
 
+/* Where attribute `wanted` of a wrapped key stands: its whole card without the ';' behind it. The first three bytes are the
+ * name, the others the value. Answers what obscurlane_read_record answers, but OBSCURLANE_UNKNOWN_KIND for a record of another
+ * kind, then OBSCURLANE_MISSING_ITEM where the list has no such attribute: 0 to 6, 12, or 14. The bytes that go to the cipher
+ * are the field OBSCURLANE_KEY_ATTRIBUTES, every ';' with them. */
+obscurlane_place obscurlane_attribute(const uint8_t *record, size_t record_len, size_t wanted);
+
+/* The same of the attribute that has exactly this name, as "SGC". A name that is not of three bytes is no attribute's. */
+obscurlane_place obscurlane_attribute_named(const uint8_t *record, size_t record_len, const uint8_t *name, size_t name_len);
+
 /* ---- building, and the key agreement texts of a load request */
 
 /* What was written into an output. len is 0 with a refusal. */
@@ -205,7 +236,8 @@ typedef struct {
 } obscurlane_written;
 
 /*
- * Builds a record or identity. Answers 0, 2 or 5 to 10.
+ * Builds a record or identity. Answers 0, 1, 2, 5 to 10, or 14. OBSCURLANE_TOO_LONG is for a KEY.1 alone, just before
+ * OBSCURLANE_SHORT_OUTPUT and whatever the room.
  *
  * kind   the kind's name, as "PK.ECDH.1"
  * bytes  the bytes of all fields one after another, without marks; identities as finished text
@@ -319,7 +351,7 @@ bool obscurlane_is_print(const uint8_t *s, size_t s_len);
 
 /* ---- names, in names.c; every answer is a text that stays */
 
-/* A number in words, as "the check differs" for OBSCURLANE_WRONG_CHECK. A number above 13 has words of its own. */
+/* A number in words, as "the check differs" for OBSCURLANE_WRONG_CHECK. A number above 14 has words of its own. */
 const char *obscurlane_reason(uint8_t no);
 
 /* A kind's name, as "VKLOAD.REQ.1"; "none" for OBSCURLANE_KIND_NONE and any other number. */

@@ -1,4 +1,4 @@
-/* The second half of every.c: the check, the text types, files, and the names. */
+/* A part of every.c: the check, the text types, files, and the names. */
 #include "expect.h"
 #include "worked.h"
 
@@ -56,29 +56,73 @@ static const obscurlane_line lines[] = {
     {false, 0, 0, OBSCURLANE_KIND_NONE, 263, 0, 263},
 };
 
+/* Appendix A's example as its file. The last line is a sum of those before it and has no line feed. */
+#define APPENDIX_A_FILE \
+    APPENDIX_A_RESPONSE "\n" APPENDIX_A_WRAPPED_1 "\n" APPENDIX_A_WRAPPED_2 "\n" APPENDIX_A_WRAPPED_3 "\n" \
+    APPENDIX_A_WRAPPED_4 "\n" APPENDIX_A_WRAPPED_5 "\n#2FC215350D8A718CD22783F5D81F8E33F6B46337"
+
+static const obscurlane_line appendix_lines[] = {
+    {true, OBSCURLANE_ACCEPTED, 0, OBSCURLANE_KIND_RESP, 0, 204, 205},
+    {true, OBSCURLANE_ACCEPTED, 0, OBSCURLANE_KIND_KEY, 205, 273, 479},
+    {true, OBSCURLANE_ACCEPTED, 0, OBSCURLANE_KIND_KEY, 479, 273, 753},
+    {true, OBSCURLANE_ACCEPTED, 0, OBSCURLANE_KIND_KEY, 753, 273, 1027},
+    {true, OBSCURLANE_ACCEPTED, 0, OBSCURLANE_KIND_KEY, 1027, 254, 1282},
+    {true, OBSCURLANE_ACCEPTED, 0, OBSCURLANE_KIND_KEY, 1282, 254, 1537},
+    {true, OBSCURLANE_UNFINISHED, 0, OBSCURLANE_KIND_NONE, 1537, 41, 1578},
+    {false, 0, 0, OBSCURLANE_KIND_NONE, 1578, 0, 1578},
+};
+
+/* A wrapped key whose attribute list is not permitted, one whose third field is too short, and between two accepted ones the
+ * fourth of Appendix A as it is printed. */
+#define WRAPPED_KEYS \
+    "KEY.1|000000000000000000000001|ACT|D80D0BA61492E51E2AFE96FC69633DB5|84A8\n" \
+    "KEY.1|000000000000000000000001|ACT|D8|72E2\n" WORKED_WRAPPED_1 "\n" \
+    "KEY.1|5EE5F985A1186F8A5DD1175F|ACT20140813T000000Z;BDT19930101T000000Z;CLM461c4000;CLU0;DKG02;EXP20170506T215959Z;" \
+    "IUT20160903T102658Z;KCV33F45;KEN255;KRN1;KTC2;SBM0001;SGC0000123456;SGNACME;ULM10000;|" \
+    "7865DC2B97755CFFA8B5A83C34D1AB8EB6955666F5C78A0B|25EB\n" WORKED_WRAPPED_2 "\n"
+
+static const obscurlane_line wrapped_lines[] = {
+    {true, OBSCURLANE_WRONG_ATTRIBUTES, 0, OBSCURLANE_KIND_NONE, 0, 72, 73},
+    {true, OBSCURLANE_WRONG_TEXT, OBSCURLANE_KEY_PROTECTED_KEY, OBSCURLANE_KIND_NONE, 73, 42, 116},
+    {true, OBSCURLANE_ACCEPTED, 0, OBSCURLANE_KIND_KEY, 116, 162, 279},
+    {true, OBSCURLANE_WRONG_CHECK, 0, OBSCURLANE_KIND_NONE, 279, 253, 533},
+    {true, OBSCURLANE_ACCEPTED, 0, OBSCURLANE_KIND_KEY, 533, 305, 839},
+    {false, 0, 0, OBSCURLANE_KIND_NONE, 839, 0, 839},
+};
+
 static bool are_same(obscurlane_line a, obscurlane_line b)
 {
     return a.line == b.line && a.no == b.no && a.field == b.field && a.kind == b.kind && a.start == b.start &&
            a.len == b.len && a.next == b.next;
 }
 
+/* A file has these lines, the last of which says that it is finished, and is counted so. */
+static void expect_lines(const uint8_t *file, size_t len, const obscurlane_line *expected, size_t count)
+{
+    size_t place = obscurlane_reader_new(file, len), accepted = 0;
+    EXPECT(place == 0);
+    for (size_t i = 0; i < count; i++) {
+        EXPECT(are_same(obscurlane_line_at(file, len, place), expected[i]));
+        EXPECT(are_same(obscurlane_reader_step(file, len, &place), expected[i]));
+        EXPECT(place == expected[i].next);
+        accepted += expected[i].line && expected[i].no == OBSCURLANE_ACCEPTED;
+    }
+    obscurlane_totals totals = obscurlane_count(file, len);
+    EXPECT(totals.lines == count - 1 && totals.accepted == accepted);
+}
+
 static void files(void)
 {
+    expect_lines(BYTES(LINES), lines, COUNT_OF(lines));
+    expect_lines(BYTES(APPENDIX_A_FILE), appendix_lines, COUNT_OF(appendix_lines));
+    expect_lines(BYTES(WRAPPED_KEYS), wrapped_lines, COUNT_OF(wrapped_lines));
+
     const obscurlane_line beyond = {false, 0, 0, OBSCURLANE_KIND_NONE, SIZE_MAX, 0, SIZE_MAX};
-    size_t place = obscurlane_reader_new(BYTES(LINES));
-    EXPECT(place == 0 && obscurlane_reader_new(BYTES("")) == 0);
-    for (size_t i = 0; i < COUNT_OF(lines); i++) {
-        EXPECT(are_same(obscurlane_line_at(BYTES(LINES), place), lines[i]));
-        EXPECT(are_same(obscurlane_reader_step(BYTES(LINES), &place), lines[i]));
-        EXPECT(place == lines[i].next);
-    }
-    place = SIZE_MAX;
+    size_t place = SIZE_MAX;
     EXPECT(are_same(obscurlane_line_at(BYTES(LINES), place), beyond));
     EXPECT(are_same(obscurlane_reader_step(BYTES(LINES), &place), beyond) && place == SIZE_MAX);
-
-    obscurlane_totals totals = obscurlane_count(BYTES(LINES));
-    EXPECT(totals.lines == 5 && totals.accepted == 1);
-    totals = obscurlane_count(BYTES(""));
+    EXPECT(obscurlane_reader_new(BYTES("")) == 0);
+    obscurlane_totals totals = obscurlane_count(BYTES(""));
     EXPECT(totals.lines == 0 && totals.accepted == 0);
 }
 
@@ -110,14 +154,18 @@ static const struct {
     {OBSCURLANE_KIND_RESP, "VKLOAD.RESP.1", OBSCURLANE_RESP_ID_SM, "ID_SM"},
     {OBSCURLANE_KIND_RESP, "VKLOAD.RESP.1", OBSCURLANE_RESP_TVP, "TVP"},
     {OBSCURLANE_KIND_RESP, "VKLOAD.RESP.1", OBSCURLANE_RESP_MAC_TAG, "MacTag"},
+    {OBSCURLANE_KIND_KEY, "KEY.1", OBSCURLANE_KEY_NONCE, "Nonce"},
+    {OBSCURLANE_KIND_KEY, "KEY.1", OBSCURLANE_KEY_ATTRIBUTES, "Attributes"},
+    {OBSCURLANE_KIND_KEY, "KEY.1", OBSCURLANE_KEY_PROTECTED_KEY, "ProtectedKey"},
     {OBSCURLANE_KIND_NONE, "none", 1, ""},
     {SIZE_MAX, "none", 1, ""},
-    {7, "none", 1, ""},
+    {8, "none", 1, ""},
     {OBSCURLANE_KIND_REQ, "VKLOAD.REQ.1", 0, ""},
     {OBSCURLANE_KIND_REQ, "VKLOAD.REQ.1", 8, ""},
     {OBSCURLANE_KIND_REQ, "VKLOAD.REQ.1", SIZE_MAX, ""},
     {OBSCURLANE_KIND_ECDSA, "PK.ECDSA.1", 6, ""},
     {OBSCURLANE_KIND_RESP, "VKLOAD.RESP.1", 5, ""},
+    {OBSCURLANE_KIND_KEY, "KEY.1", 4, ""},
 };
 
 static void names(void)
@@ -126,9 +174,9 @@ static void names(void)
         EXPECT(strcmp(obscurlane_kind_name(fields[i].kind), fields[i].name) == 0);
         EXPECT(strcmp(obscurlane_field_name(fields[i].kind, fields[i].field), fields[i].field_name) == 0);
     }
-    const char *other = obscurlane_reason(OBSCURLANE_NOT_ALIKE + 1);
+    const char *other = obscurlane_reason(OBSCURLANE_WRONG_ATTRIBUTES + 1);
     EXPECT(strcmp(obscurlane_reason(UINT8_MAX), other) == 0);
-    for (uint8_t no = 0; no <= OBSCURLANE_NOT_ALIKE; no++) {
+    for (uint8_t no = 0; no <= OBSCURLANE_WRONG_ATTRIBUTES; no++) {
         EXPECT(strcmp(obscurlane_reason(no), other) != 0);
         for (uint8_t before = 0; before < no; before++) {
             EXPECT(strcmp(obscurlane_reason(no), obscurlane_reason(before)) != 0);

@@ -29,7 +29,8 @@ pub(crate) fn length(written: &sys::Written) -> Result<usize, Refusal> {
 ///
 /// # Errors
 ///
-/// Reasons 2 and 5 to 10.
+/// Reasons 1, 2, 5 to 10, and 14. Reason 1 is for a `KEY.1` that would be longer than
+/// [`LONGEST_RECORD`](crate::LONGEST_RECORD), just before 10 and whatever the room.
 #[inline]
 pub fn build(kind: &[u8], bytes: &[u8], lens: &[usize], out: &mut [u8]) -> Result<usize, Refusal> {
     length(&sys::build(kind, bytes, lens, out))
@@ -50,9 +51,27 @@ pub fn build(kind: &[u8], bytes: &[u8], lens: &[usize], out: &mut [u8]) -> Resul
 /// # Ok::<(), obscurlane::Refusal>(())
 /// ```
 ///
+/// A wrapped key, with its attributes as the cipher was given them:
+///
+/// ```
+/// use obscurlane::{build_parts, Kind, Reason, LONGEST_RECORD};
+///
+/// let mut out = [0; LONGEST_RECORD];
+/// let nonce = b"000000000000000000000001";
+/// let list = b"ACT19930101T000000Z;BDT19930101T000000Z;DKG02;KEN255;KRN1;KTC2;SGC0000123456;";
+/// let protected_key = b"D80D0BA61492E51E2AFE96FC69633DB5BE92932DEAECEA6C";
+/// let len = build_parts(Kind::Key, &[nonce, list, protected_key], &mut out)?;
+/// assert!(out[..len].ends_with(b"|4726"));
+///
+/// // the required names begin with ACT
+/// let refusal = build_parts(Kind::Key, &[nonce, &list[20..], protected_key], &mut out).unwrap_err();
+/// assert_eq!(refusal.reason, Reason::WrongAttributes);
+/// # Ok::<(), obscurlane::Refusal>(())
+/// ```
+///
 /// # Errors
 ///
-/// Reasons 5 to 10.
+/// As [`build`], but never reason 2.
 #[cfg(feature = "alloc")]
 pub fn build_parts(kind: Kind, fields: &[&[u8]], out: &mut [u8]) -> Result<usize, Refusal> {
     let lens: Vec<usize> = fields.iter().map(|field| field.len()).collect();

@@ -56,3 +56,13 @@ pub mod response {
     /// MacTag.
     pub const MAC_TAG: usize = 4;
 }
+
+/// The fields of a wrapped vending key: `KEY.1`.
+pub mod key {
+    /// Nonce, which no other key under the same key exchange key has.
+    pub const NONCE: usize = 1;
+    /// Attributes, the whole list: the bytes that go to the cipher.
+    pub const ATTRIBUTES: usize = 2;
+    /// ProtectedKey, the vending key under the key exchange key.
+    pub const PROTECTED_KEY: usize = 3;
+}

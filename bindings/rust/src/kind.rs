@@ -27,6 +27,8 @@ pub enum Kind {
     Request,
     /// `VKLOAD.RESP.1`, a load response.
     Response,
+    /// `KEY.1`, a wrapped vending key.
+    Key,
 }
 
 impl Kind {
@@ -39,6 +41,7 @@ impl Kind {
         Kind::Ecdh,
         Kind::Request,
         Kind::Response,
+        Kind::Key,
     ];
 
     /// The name that stands at the front of a record.
@@ -52,6 +55,7 @@ impl Kind {
             Kind::Ecdh => "PK.ECDH.1",
             Kind::Request => "VKLOAD.REQ.1",
             Kind::Response => "VKLOAD.RESP.1",
+            Kind::Key => "KEY.1",
         }
     }
 
@@ -65,6 +69,7 @@ impl Kind {
             Kind::Ecdsa | Kind::Ecdh => &["Subject", "Q", "Expiry", "Issuer", "Signature"],
             Kind::Request => &["ID_SM", "ID_KMC", "TVP", "HWID", "FWID", "QE", "MacTag"],
             Kind::Response => &["ID_KMC", "ID_SM", "TVP", "MacTag"],
+            Kind::Key => &["Nonce", "Attributes", "ProtectedKey"],
         }
     }
 

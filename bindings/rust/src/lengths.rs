@@ -11,7 +11,9 @@ pub const LONGEST_READ: usize = header::LONGEST_READ;
 pub const LONGEST_IDENT: usize = header::LONGEST_IDENT;
 /// The longest identity that is built or accepted.
 pub const LONGEST_IDENTITY: usize = header::LONGEST_IDENTITY;
-/// The longest record that is built or accepted.
+/// The longest public key that is built or accepted. Only a `KEY.1` can be longer.
+pub const LONGEST_PUBKEY: usize = header::LONGEST_PUBKEY;
+/// The longest record that is built or accepted, a `KEY.1`.
 pub const LONGEST_RECORD: usize = header::LONGEST_RECORD;
 /// The longest SharedInfo.
 pub const LONGEST_SHARED_INFO: usize = header::LONGEST_SHARED_INFO;

@@ -11,6 +11,7 @@
 extern crate alloc;
 
 mod agreement;
+mod attributes;
 mod building;
 mod check;
 pub mod field;
@@ -26,6 +27,7 @@ mod types;
 mod views;
 
 pub use agreement::{centre_text, module_text, shared_info, text_item};
+pub use attributes::{attribute, attribute_named, Card, Cards};
 pub use building::build;
 #[cfg(feature = "alloc")]
 pub use building::build_parts;
@@ -33,11 +35,11 @@ pub use check::{crc_of, Crc};
 pub use files::{count, line_at, lines, Line, Lines, Totals};
 pub use kind::Kind;
 pub use lengths::{
-    LONGEST_CENTRE_TEXT, LONGEST_IDENT, LONGEST_IDENTITY, LONGEST_MODULE_TEXT, LONGEST_READ,
-    LONGEST_RECORD, LONGEST_SHARED_INFO,
+    LONGEST_CENTRE_TEXT, LONGEST_IDENT, LONGEST_IDENTITY, LONGEST_MODULE_TEXT, LONGEST_PUBKEY,
+    LONGEST_READ, LONGEST_RECORD, LONGEST_SHARED_INFO,
 };
 pub use newer::{newer, NewerRefusal};
 pub use record::{identity_field, record_field, Field, Fields, Record};
 pub use refusal::{Reason, Refusal};
 pub use types::{is_hex, is_ident, is_mac, is_point, is_print, is_sig, is_timestamp};
-pub use views::{Identity, InnerIdentity, PublicKey, Request, Response, View};
+pub use views::{Identity, InnerIdentity, PublicKey, Request, Response, View, WrappedKey};

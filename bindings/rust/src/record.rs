@@ -1,7 +1,7 @@
 //! What is read: a record or identity with all its fields, from one reading; and single fields.
 
 use crate::show::Text;
-use crate::{sys, Identity, Kind, PublicKey, Refusal, Request, Response, View};
+use crate::{sys, Identity, Kind, PublicKey, Refusal, Request, Response, View, WrappedKey};
 use core::fmt;
 use core::hash::{Hash, Hasher};
 use core::iter::FusedIterator;
@@ -43,7 +43,7 @@ pub struct Record<'a> {
 }
 
 impl<'a> Record<'a> {
-    /// Reads a record: kinds `PK.ECDSA.1`, `PK.ECDH.1`, `VKLOAD.REQ.1` and `VKLOAD.RESP.1`.
+    /// Reads a record: kinds `PK.ECDSA.1`, `PK.ECDH.1`, `VKLOAD.REQ.1`, `VKLOAD.RESP.1` and `KEY.1`.
     ///
     /// ```
     /// use obscurlane::{Reason, Record};
@@ -53,7 +53,7 @@ impl<'a> Record<'a> {
     ///
     /// # Errors
     ///
-    /// Reasons 1 to 9.
+    /// Reasons 1 to 9, and 14.
     #[inline]
     pub fn read(bytes: &'a [u8]) -> Result<Record<'a>, Refusal> {
         Record::of(bytes, sys::read_record(bytes))
@@ -137,6 +137,7 @@ impl<'a> Record<'a> {
             Kind::Ecdsa | Kind::Ecdh => View::PublicKey(PublicKey::of(self)),
             Kind::Request => View::Request(Request::of(self)),
             Kind::Response => View::Response(Response::of(self)),
+            Kind::Key => View::WrappedKey(WrappedKey::of(self)),
         }
     }
 
@@ -298,8 +299,9 @@ pub fn identity_field(identity: &[u8], wanted: usize) -> Result<&[u8], Refusal> 
     part(identity, &sys::identity_field(identity, wanted))
 }
 
+/// The part of the bytes that stands at a place.
 #[inline]
-fn part<'a>(bytes: &'a [u8], place: &sys::Place) -> Result<&'a [u8], Refusal> {
+pub(crate) fn part<'a>(bytes: &'a [u8], place: &sys::Place) -> Result<&'a [u8], Refusal> {
     Refusal::check(place.no, place.field)?;
     Ok(&bytes[place.start..place.start + place.len])
 }

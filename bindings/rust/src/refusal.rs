@@ -16,7 +16,7 @@ use core::fmt;
 #[repr(u8)]
 #[non_exhaustive]
 pub enum Reason {
-    /// 1: the record or identity to read is longer than 1,024 bytes.
+    /// 1: the record or identity to read is longer than 1,024 bytes. Building: or the record would be.
     TooLong = 1,
     /// 2: what stands before the first mark is no kind that this call reads, or the mark is not its kind's, or there is
     /// none. Building: the kind name is not in the table.
@@ -39,10 +39,13 @@ pub enum Reason {
     ShortOutput = 10,
     /// 11: the last line of a file has bytes and no line feed.
     Unfinished = 11,
-    /// 12: the bytes are no key agreement text, or it has no such item; or the record has no field of that number.
+    /// 12: the bytes are no key agreement text, or it has no such item; or the record has no field of that number, or no
+    /// attribute of that number or name.
     MissingItem = 12,
     /// 13: choosing: kind, Manufacturer or MID of the two Subjects differ.
     NotAlike = 13,
+    /// 14: the attribute list is not one that clause 7.5.1 or Appendix B permits.
+    WrongAttributes = 14,
 }
 
 impl Reason {
@@ -61,6 +64,7 @@ impl Reason {
         Reason::Unfinished,
         Reason::MissingItem,
         Reason::NotAlike,
+        Reason::WrongAttributes,
     ];
 
     /// The number, from 1.
@@ -80,7 +84,7 @@ impl Reason {
     #[must_use]
     pub const fn sentence(self) -> &'static str {
         match self {
-            Reason::TooLong => "the record is longer than 1,024 bytes",
+            Reason::TooLong => "the record is longer than 1,024 bytes, or would be",
             Reason::UnknownKind => "it is of no kind that is read or built here",
             Reason::MissingCheck => {
                 "it does not end in its mark and a check of four HEX characters"
@@ -94,9 +98,12 @@ impl Reason {
             Reason::ShortOutput => "the output is too short",
             Reason::Unfinished => "the last line of the file has no line feed",
             Reason::MissingItem => {
-                "there is no such field or item, or the bytes are no key agreement text"
+                "there is no such field, attribute or item, or the bytes are no key agreement text"
             }
             Reason::NotAlike => "the Subjects of the two keys differ in kind, Manufacturer or MID",
+            Reason::WrongAttributes => {
+                "the attribute list is not one that clause 7.5.1 or Appendix B permits"
+            }
         }
     }
 }

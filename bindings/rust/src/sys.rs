@@ -20,7 +20,7 @@ pub struct Answer {
     pub kinds: [usize; 7],
 }
 
-/// Where one field stands.
+/// Where one field or attribute stands.
 #[repr(C)]
 pub struct Place {
     pub no: u8,
@@ -90,6 +90,13 @@ extern "C" {
     fn obscurlane_read_record(record: *const u8, record_len: usize) -> Answer;
     fn obscurlane_identity_field(identity: *const u8, identity_len: usize, wanted: usize) -> Place;
     fn obscurlane_record_field(record: *const u8, record_len: usize, wanted: usize) -> Place;
+    fn obscurlane_attribute(record: *const u8, record_len: usize, wanted: usize) -> Place;
+    fn obscurlane_attribute_named(
+        record: *const u8,
+        record_len: usize,
+        name: *const u8,
+        name_len: usize,
+    ) -> Place;
 
     fn obscurlane_build(
         kind: *const u8,
@@ -227,6 +234,18 @@ pub fn identity_field(identity: &[u8], wanted: usize) -> Place {
 pub fn record_field(record: &[u8], wanted: usize) -> Place {
     // SAFETY: a slice's pointer and length.
     unsafe { obscurlane_record_field(record.as_ptr(), record.len(), wanted) }
+}
+
+#[inline]
+pub fn attribute(record: &[u8], wanted: usize) -> Place {
+    // SAFETY: a slice's pointer and length.
+    unsafe { obscurlane_attribute(record.as_ptr(), record.len(), wanted) }
+}
+
+#[inline]
+pub fn attribute_named(record: &[u8], name: &[u8]) -> Place {
+    // SAFETY: slices' pointers and lengths, which are only read.
+    unsafe { obscurlane_attribute_named(record.as_ptr(), record.len(), name.as_ptr(), name.len()) }
 }
 
 // ---- building, and the key agreement texts

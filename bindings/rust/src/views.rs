@@ -1,8 +1,8 @@
 //! The fields of a record by name, one struct for each list of fields.
 
-use crate::field::{identity, public_key, request, response};
+use crate::field::{identity, key, public_key, request, response};
 use crate::show::Text;
-use crate::{Kind, Record, Refusal};
+use crate::{Cards, Kind, Record, Refusal};
 use core::fmt;
 
 /// The fields of a record by name: [`Record::view`].
@@ -30,6 +30,8 @@ pub enum View<'a> {
     Request(Request<'a>),
     /// `VKLOAD.RESP.1`.
     Response(Response<'a>),
+    /// `KEY.1`.
+    WrappedKey(WrappedKey<'a>),
 }
 
 /// An identity by its fields.
@@ -193,6 +195,51 @@ impl<'a> Response<'a> {
     }
 }
 
+/// A wrapped vending key by its fields.
+///
+/// ```
+/// use obscurlane::{Record, View};
+///
+/// let key = b"KEY.1|000000000000000000000001|ACT19930101T000000Z;BDT19930101T000000Z;DKG02;KEN255;KRN1;KTC2;\
+///     SGC0000123456;|D80D0BA61492E51E2AFE96FC69633DB5BE92932DEAECEA6C|4726";
+/// let View::WrappedKey(key) = Record::read(key)?.view() else { panic!("no wrapped key") };
+/// assert_eq!(key.nonce, b"000000000000000000000001");
+/// for card in key.cards() {
+///     println!("{} = {}", card.name.escape_ascii(), card.value.escape_ascii());
+/// }
+/// let group = key.cards().find(|card| card.name == b"SGC").map(|card| card.value);
+/// assert_eq!(group, Some(&b"0000123456"[..]));
+/// # Ok::<(), obscurlane::Refusal>(())
+/// ```
+#[derive(Clone, Copy, PartialEq, Eq, Hash)]
+pub struct WrappedKey<'a> {
+    /// Nonce, HEX(24).
+    pub nonce: &'a [u8],
+    /// Attributes, the whole list with every `;`: the bytes that go to the cipher. [`cards`](WrappedKey::cards) has them one
+    /// by one.
+    pub attributes: &'a [u8],
+    /// ProtectedKey, an even number of HEX characters from 32 to 72.
+    pub protected_key: &'a [u8],
+}
+
+impl<'a> WrappedKey<'a> {
+    #[inline]
+    pub(crate) fn of(record: &Record<'a>) -> WrappedKey<'a> {
+        WrappedKey {
+            nonce: record.at(key::NONCE),
+            attributes: record.at(key::ATTRIBUTES),
+            protected_key: record.at(key::PROTECTED_KEY),
+        }
+    }
+
+    /// The attributes one by one, in the order of their names, as parts of the bytes that were read. The list was accepted
+    /// with the record and is only cut at each `;`.
+    #[inline]
+    pub fn cards(&self) -> Cards<'a> {
+        Cards::of(self.attributes)
+    }
+}
+
 // ---- shown as text
 
 impl fmt::Debug for Identity<'_> {
@@ -250,6 +297,16 @@ impl fmt::Debug for Response<'_> {
             .field("id_sm", &self.id_sm)
             .field("tvp", &Text(self.tvp))
             .field("mac_tag", &Text(self.mac_tag))
+            .finish()
+    }
+}
+
+impl fmt::Debug for WrappedKey<'_> {
+    fn fmt(&self, f: &mut fmt::Formatter<'_>) -> fmt::Result {
+        f.debug_struct("WrappedKey")
+            .field("nonce", &Text(self.nonce))
+            .field("attributes", &Text(self.attributes))
+            .field("protected_key", &Text(self.protected_key))
             .finish()
     }
 }

@@ -7,8 +7,9 @@ mod held;
 use compare::kind::Kind;
 use compare::random::Random;
 use compare::refusal::Refusal as Expected;
-use compare::sample::{self, Signed, Subject};
+use compare::sample::{self, Fault, ListFault, Signed, Subject};
 use compare::{agreement, file, record, text};
+use held::attributes::{same_attribute, same_attributes, same_named};
 use held::reading::{same_identity, same_record};
 use held::{
     expect_share, expected, expected_at, expected_line, line_numbers, numbers, of_refusal, place,
@@ -80,7 +81,7 @@ fn reading() {
         seen.add(&same_identity(&bytes));
         seen.add(&same_record(&bytes));
     }
-    seen.expect(0..=9, 9);
+    seen.expect((0..=9).chain([14]), 9);
 }
 
 #[test]
@@ -118,7 +119,54 @@ fn fields() {
     }
 }
 
-/// Fields of a kind, some of them wrong, or one too few or too many.
+/// A wrapped key, whole or with one fault, or anything else that may be read.
+fn any_wrapped_key(random: &mut Random) -> Vec<u8> {
+    let kind = Kind::WrappedKey;
+    match random.below(4) {
+        0 => sample::record(random, kind),
+        1 => {
+            let fault = random.one_of(Fault::of(kind));
+            sample::faulty(random, kind, &[fault])
+        }
+        2 => {
+            let key = sample::record(random, kind);
+            sample::resealed(&sample::damaged_anywhere(random, &key, 1))
+        }
+        _ => sample::anything(random),
+    }
+}
+
+#[test]
+fn attributes() {
+    let mut random = Random::with_seed(14);
+    let mut seen = Seen::default();
+    for _ in 0..rounds() {
+        seen.add(&same_attributes(&any_wrapped_key(&mut random)));
+    }
+    seen.expect([0], 600);
+    seen.expect([1, 2, 3, 4, 5, 6, 14], 9);
+}
+
+#[test]
+fn attributes_that_may_not_be_there() {
+    const NAMES: [&[u8]; 8] = [b"ACT", b"IUT", b"SGN", b"SGC", b"ULM", b"act", b"ACTS", b""];
+    let mut random = Random::with_seed(15);
+    let mut seen = Seen::default();
+    for _ in 0..rounds() {
+        let bytes = any_wrapped_key(&mut random);
+        for wanted in [2, 7, 8, 9, 10, 256, 257, usize::MAX] {
+            seen.add(&same_attribute(&bytes, wanted));
+        }
+        for name in NAMES {
+            seen.add(&same_named(&bytes, name));
+        }
+        let name = random.bytes(3);
+        seen.add(&same_named(&bytes, &name));
+    }
+    seen.expect([0, 12, 14], 600);
+}
+
+/// Fields of a kind, some of them wrong, or one too few or too many; of a wrapped key as many bytes as are read, or about as many.
 fn any_fields(random: &mut Random, kind: Kind) -> Vec<Vec<u8>> {
     let signed = random.one_of(&[Signed::Yes, Signed::No]);
     let mut fields = sample::fields(random, kind, signed);
@@ -129,6 +177,14 @@ fn any_fields(random: &mut Random, kind: Kind) -> Vec<Vec<u8>> {
         2 => fields[index] = sample::record(random, Kind::Smid),
         3 if random.once_in(2) => drop(fields.pop()),
         3 => fields.push(Vec::new()),
+        4 if kind == Kind::WrappedKey => {
+            let length = LONGEST_RECORD - 2 + random.below(5);
+            fields = sample::wrapped_key_fields(random, length);
+        }
+        5 if kind == Kind::WrappedKey => {
+            let fault = random.one_of(&ListFault::ALL);
+            fields[1] = sample::faulty_list(random, fault);
+        }
         _ => {}
     }
     fields
@@ -185,7 +241,7 @@ fn building() {
         let room = random.one_of(&[0, 60, 300, LONGEST_RECORD]);
         seen.add(&Order::any(&mut random).build(room));
     }
-    seen.expect([0, 2, 5, 6, 7, 8, 9, 10], 9);
+    seen.expect([0, 1, 2, 5, 6, 7, 8, 9, 10, 14], 9);
 }
 
 #[test]
@@ -228,7 +284,7 @@ fn building_from_parts() {
         );
         seen.add(&answer);
     }
-    seen.expect([0, 5, 6, 7, 8, 9, 10], 9);
+    seen.expect([0, 1, 5, 6, 7, 8, 9, 10, 14], 9);
 }
 
 type Ours = fn(&[u8], &mut [u8]) -> Result<usize, Refusal>;

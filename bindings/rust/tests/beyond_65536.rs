@@ -3,11 +3,12 @@
 
 mod held;
 
-use compare::kind::Kind;
+use compare::kind::{FieldType, Kind};
 use compare::random::Random;
 use compare::refusal::Refusal as Expected;
 use compare::sample::{self, Signed};
 use compare::{agreement, file, record, text};
+use held::attributes::{same_attribute, same_attributes, same_named};
 use held::reading::{same_identity, same_record};
 use held::{expected, expected_at, line_numbers, numbers, place, same_output};
 use obscurlane::Refusal;
@@ -22,7 +23,7 @@ fn longer(bytes: &[u8]) -> [Vec<u8>; 2] {
 }
 
 /// A record of every kind; a public key is signed.
-fn records() -> [(Kind, Vec<Vec<u8>>); 7] {
+fn records() -> [(Kind, Vec<Vec<u8>>); 8] {
     let mut random = Random::with_seed(71);
     Kind::ALL.map(|kind| (kind, sample::fields(&mut random, kind, Signed::Yes)))
 }
@@ -80,16 +81,18 @@ fn readings() {
         assert_eq!(same_record(&bytes).unwrap_err(), (1, 0));
         assert_eq!(numbers(obscurlane::identity_field(&bytes, 1)), Err((1, 0)));
         assert_eq!(numbers(obscurlane::record_field(&bytes, 1)), Err((1, 0)));
+        assert_eq!(same_attributes(&bytes), Err((1, 0)));
     }
 }
 
 #[test]
-fn wanted_fields_and_items() {
-    let (identity, record) = (of(Kind::Smid), of(Kind::VkloadReq));
+fn wanted_fields_attributes_and_items() {
+    let (identity, record, key) = (of(Kind::Smid), of(Kind::VkloadReq), of(Kind::WrappedKey));
     let text = agreement::join(&[b"V2", b"20180120T090000Z"]);
     for wanted in [1 << 8, MORE, 1 << 32].map(|beyond| beyond + 1) {
         assert_eq!(numbers(obscurlane::identity_field(&identity, wanted)), Err((12, 0)));
         assert_eq!(numbers(obscurlane::record_field(&record, wanted)), Err((12, 0)));
+        assert_eq!(same_attribute(&key, wanted), Err((12, 0)));
         assert_eq!(numbers(obscurlane::text_item(&text, wanted)), Err((12, 0)));
     }
     for text in longer(&text) {
@@ -97,6 +100,9 @@ fn wanted_fields_and_items() {
             let ours = numbers(obscurlane::text_item(&text, wanted)).map(place);
             assert_eq!(ours, expected(agreement::item(&text, wanted as u64)).map(place));
         }
+    }
+    for name in longer(b"ACT") {
+        assert_eq!(same_named(&key, &name), Err((12, 0)));
     }
 }
 
@@ -163,7 +169,11 @@ fn building() {
                 fields[index] = field;
                 assert_eq!(same_build(kind, &fields.concat(), &lens, 1024), Err((5, 0)));
                 let refused = same_build(kind, &fields.concat(), &long_lens, 2 * MORE);
-                assert_eq!(refused.unwrap_err().1, index + 1, "{kind:?}");
+                if kind.fields()[index].field_type == FieldType::Attributes {
+                    assert_eq!(refused, Err((14, 0)), "{kind:?}");
+                } else {
+                    assert_eq!(refused.unwrap_err().1, index + 1, "{kind:?}");
+                }
             }
         }
         for more in [1 << 8, MORE] {
@@ -174,6 +184,21 @@ fn building() {
         for room in [MORE, MORE + needed - 1, MORE + needed] {
             assert_eq!(same_build(kind, &right, &lens, room), Ok(needed));
         }
+    }
+}
+
+/// Permitted attributes that are too many, with every room.
+#[test]
+fn wrapped_keys() {
+    let mut random = Random::with_seed(74);
+    for length in [MORE, MORE + 1, MORE + 300, 2 * MORE] {
+        let fields = sample::wrapped_key_fields(&mut random, length);
+        let lens: Vec<usize> = fields.iter().map(Vec::len).collect();
+        for room in [0, length % MORE, 1024, MORE, length] {
+            let refused = same_build(Kind::WrappedKey, &fields.concat(), &lens, room);
+            assert_eq!(refused, Err((1, 0)), "{length} bytes with a room of {room}");
+        }
+        assert_eq!(same_attributes(&sample::of_kind(Kind::WrappedKey, &fields)), Err((1, 0)));
     }
 }
 

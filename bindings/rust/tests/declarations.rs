@@ -311,7 +311,7 @@ fn hold<T: Ord + std::fmt::Debug>(declared: Vec<T>, exported: Vec<T>) {
 #[test]
 fn the_header_declares_every_function() {
     let mut there: Vec<String> = functions().iter().map(c_declaration).collect();
-    assert_eq!(there.len(), 25);
+    assert_eq!(there.len(), 27);
     there.extend(functions_of_c());
     hold(header_declarations(), there);
 }
@@ -390,11 +390,12 @@ fn numbers_are_the_crates() {
     }
 }
 
-const FIELDS: [(&str, &[Kind]); 4] = [
+const FIELDS: [(&str, &[Kind]); 5] = [
     ("IDENTITY_", &[Kind::Smman, Kind::Smid, Kind::Kmcid]),
     ("PUBKEY_", &[Kind::Ecdsa, Kind::Ecdh]),
     ("REQ_", &[Kind::Request]),
     ("RESP_", &[Kind::Response]),
+    ("KEY_", &[Kind::Key]),
 ];
 
 #[test]

@@ -1,5 +1,5 @@
-//! Every byte value in one place of what is otherwise right, held against `compare/`: in every place of every text type, of a key
-//! agreement text and of a file, and in the kinds of places that a record has.
+//! Every byte value in one place of what is otherwise right, held against `compare/`: in every place of every text type, of an
+//! attribute list, of a key agreement text and of a file, and in the kinds of places that a record has.
 
 mod held;
 
@@ -7,7 +7,9 @@ use compare::kind::{FieldType, Kind};
 use compare::random::Random;
 use compare::record;
 use compare::sample;
+use compare::worked::worked;
 use compare::{agreement, file, text};
+use held::attributes::{same_attributes, same_named};
 use held::reading::{same_identity, same_record};
 use held::{expected, expected_at, line_numbers, numbers, place, same_output, Seen};
 use obscurlane::LONGEST_RECORD;
@@ -75,7 +77,7 @@ fn neighbours_in_texts() {
 }
 
 /// Fields of every kind; a public key is signed.
-fn fields_of_kinds() -> [(Kind, Vec<Vec<u8>>); 7] {
+fn fields_of_kinds() -> [(Kind, Vec<Vec<u8>>); 8] {
     let mut random = Random::with_seed(62);
     Kind::ALL.map(|kind| (kind, sample::longest_fields(&mut random, kind)))
 }
@@ -108,7 +110,7 @@ fn readings() {
             });
         }
     }
-    seen.expect([0, 2, 3, 4, 5, 6, 7], 10);
+    seen.expect([0, 2, 3, 4, 5, 6, 7, 14], 10);
 }
 
 /// In an identity inside a record, its own check and the record's made right again.
@@ -156,6 +158,53 @@ fn building() {
         }
     }
     seen.expect([0, 6, 7], 1000);
+    seen.expect([14], 100);
+}
+
+/// In every place of the lists of the worked example's wrapped keys, read with the right check and built.
+#[test]
+fn attribute_lists() {
+    let mut seen = Seen::default();
+    for name in ["KEY1_1", "KEY1_2"] {
+        let key = worked(name);
+        let [nonce, list, protected_key] =
+            [1, 2, 3].map(|number| record::record_field(&key, number).expect("a field").to_vec());
+        everywhere(&list, |list| {
+            let fields = [&nonce, list, &protected_key];
+            let key = sample::of_kind(Kind::WrappedKey, &fields.map(<[u8]>::to_vec));
+            let read = same_record(&key).map(|_| ());
+            let first = same_attributes(&key).map(|_| ());
+            assert_eq!(first, read);
+            let lens = fields.map(<[u8]>::len);
+            let wide = lens.map(|len| len as u64);
+            let bytes = fields.concat();
+            let built = same_output(
+                LONGEST_RECORD,
+                |out| obscurlane::build(b"KEY.1", &bytes, &lens, out),
+                |out| compare::build::build(b"KEY.1", &bytes, &wide, out),
+                &key,
+            );
+            // A mark more is a field more only to the reader.
+            assert!(built.map(|_| ()) == read || read == Err((5, 0)), "{key:?}");
+            seen.add(&read);
+        });
+    }
+    seen.expect([0, 6, 14], 1000);
+    seen.expect([5], 200);
+}
+
+/// In every place of a wanted name.
+#[test]
+fn names_of_attributes() {
+    let mut seen = Seen::default();
+    for name in ["KEY1_1", "KEY1_2"] {
+        let key = worked(name);
+        for name in [b"ACT", b"KEN", b"SGC", b"SGN"] {
+            everywhere(name, |name| seen.add(&same_named(&key, name)));
+        }
+    }
+    seen.expect([0], 20);
+    seen.expect([12], 5000);
 }
 
 #[test]

@@ -1,7 +1,7 @@
 //! Each `LONGEST_` constant is the length of the longest thing of its name: it is made, and one byte less is no room for it.
 //! What the table of kinds allows is computed by `compare/`.
 
-use compare::kind::Kind;
+use compare::kind::{FieldType, Kind};
 use compare::random::Random;
 use compare::sample;
 use obscurlane::{Reason, Record, Refusal, LONGEST_READ};
@@ -34,12 +34,16 @@ fn idents() {
     assert_eq!(obscurlane::LONGEST_IDENT, compare::text::LONGEST_IDENT);
 }
 
-/// A field longer than the longest of its type is refused, so no record is longer than one of the longest fields.
+/// A field longer than the longest of its type is refused, so no record is longer than one of the longest fields. An attribute list
+/// has no longest length of its own.
 #[test]
 fn no_field_is_longer() {
     for kind in Kind::ALL {
         let fields = sample::longest_fields(&mut Random::with_seed(52), kind);
-        for index in 0..fields.len() {
+        for (index, entry) in kind.fields().iter().enumerate() {
+            if entry.field_type == FieldType::Attributes {
+                continue;
+            }
             let mut longer = fields.clone();
             longer[index].push(b'A');
             let lens: Vec<usize> = longer.iter().map(Vec::len).collect();
@@ -56,7 +60,43 @@ fn records_and_identities() {
         assert_eq!(longest_record(kind).len(), kind.longest(), "{kind:?}");
     }
     assert_eq!(obscurlane::LONGEST_IDENTITY, Kind::longest_of(&Kind::IDENTITIES));
+    assert_eq!(obscurlane::LONGEST_PUBKEY, Kind::longest_of(&Kind::PUBLIC_KEYS));
     assert_eq!(obscurlane::LONGEST_RECORD, Kind::longest_of(&Kind::ALL));
+    for kind in Kind::ALL {
+        let is_within = kind.longest() <= obscurlane::LONGEST_PUBKEY;
+        assert_eq!(is_within, kind != Kind::WrappedKey, "{kind:?}");
+    }
+}
+
+/// One of more bytes is refused whatever the room, and one of as many for its room alone.
+#[test]
+fn wrapped_keys() {
+    let mut random = Random::with_seed(53);
+    let longest = obscurlane::LONGEST_RECORD;
+    for (length, reason) in [
+        (longest - 1, Reason::ShortOutput),
+        (longest, Reason::ShortOutput),
+        (longest + 1, Reason::TooLong),
+        (longest + 2, Reason::TooLong),
+    ] {
+        let fields = sample::wrapped_key_fields(&mut random, length);
+        let lens: Vec<usize> = fields.iter().map(Vec::len).collect();
+        let key = sample::of_kind(Kind::WrappedKey, &fields);
+        let mut out = vec![0; length];
+        for room in [0, 1, length - 1] {
+            let built = obscurlane::build(b"KEY.1", &fields.concat(), &lens, &mut out[..room]);
+            assert_eq!(built, Err(Refusal { reason, field: None }), "{length} in {room}");
+        }
+        let built = obscurlane::build(b"KEY.1", &fields.concat(), &lens, &mut out);
+        let read = Record::read(&key).map(|record| record.kind());
+        if reason == Reason::ShortOutput {
+            assert_eq!((built, out), (Ok(length), key.clone()));
+            assert_eq!(read, Ok(obscurlane::Kind::Key));
+        } else {
+            let refusal = Refusal { reason, field: None };
+            assert_eq!((built, read), (Err(refusal), Err(refusal)));
+        }
+    }
 }
 
 #[test]

@@ -1,7 +1,7 @@
-//! The worked example, and what the crate says of its own names and numbers.
+//! The worked example and that of Appendix A, and what the crate says of its own names and numbers.
 
-use compare::worked::{worked, IDENTITIES, RECORDS};
-use obscurlane::{field, Identity, Kind, Reason, Record, View};
+use compare::worked::{appendix_a, worked, IDENTITIES, RECORDS, WRAPPED_KEYS};
+use obscurlane::{field, Identity, Kind, Reason, Record, View, WrappedKey};
 
 #[test]
 fn every_value_is_accepted() {
@@ -70,6 +70,87 @@ fn public_keys_by_their_names() {
         assert_eq!(issuer, signature.map(|_| (&id_man[..], Kind::Smman)), "{name}");
         assert_eq!(key.signature.map(<[u8]>::to_vec), signature.map(worked), "{name}");
     }
+}
+
+/// Every card by its number and by its name, and the list as the cipher takes it.
+#[test]
+fn wrapped_keys_by_their_names() {
+    for name in WRAPPED_KEYS {
+        let bytes = worked(name);
+        let text = String::from_utf8(bytes.clone()).expect("a text");
+        let parts: Vec<&str> = text.split('|').collect();
+        let View::WrappedKey(key) = Record::read(&bytes).expect(name).view() else {
+            panic!("{name} is no wrapped key");
+        };
+        let WrappedKey { nonce, attributes, protected_key } = key;
+        assert_eq!([nonce, attributes, protected_key], [1, 2, 3].map(|at| parts[at].as_bytes()));
+        assert_eq!(attributes.as_ptr(), bytes[31..].as_ptr());
+
+        let cards: Vec<&str> = parts[2].split_terminator(';').collect();
+        assert_eq!(key.cards().count(), cards.len(), "{name}");
+        for ((wanted, card), found) in (1..).zip(&cards).zip(key.cards()) {
+            let (card_name, value) = card.split_at(3);
+            assert_eq!((&found.name[..], found.value), (card_name.as_bytes(), value.as_bytes()));
+            assert_eq!(obscurlane::attribute(&bytes, wanted), Ok(card.as_bytes()));
+            let named = obscurlane::attribute_named(&bytes, card_name.as_bytes());
+            assert_eq!(named, Ok(card.as_bytes()));
+        }
+        for wanted in [0, cards.len() + 1] {
+            let refusal = obscurlane::attribute(&bytes, wanted).expect_err("no card");
+            assert_eq!((refusal.reason, refusal.field), (Reason::MissingItem, None));
+        }
+    }
+    let bytes = worked("KEY1_1");
+    assert_eq!(obscurlane::attribute_named(&bytes, b"KEN"), Ok(&b"KEN255"[..]));
+    assert_eq!(obscurlane::attribute(&bytes, 7), Ok(&b"SGC0000123456"[..]));
+}
+
+/// Its last line is a sum and has no line feed.
+#[test]
+fn the_file_of_appendix_a() {
+    let file = appendix_a();
+    let answers: Vec<_> = obscurlane::lines(&file).map(|line| line.answer).collect();
+    let (last, records) = answers.split_last().expect("lines");
+    assert_eq!(last.map_err(|refusal| refusal.reason), Err(Reason::Unfinished));
+    assert_eq!(records[0], Ok(Kind::Response));
+    assert_eq!(records[1..], [Ok(Kind::Key); 5]);
+}
+
+/// What reads other kinds alone.
+#[test]
+fn calls_that_take_no_wrapped_key() {
+    let (key, other) = (worked("KEY1_1"), worked("PUBKEY_KMC"));
+    let mut out = [0; obscurlane::LONGEST_MODULE_TEXT];
+    let unknown = Some(Reason::UnknownKind);
+    assert_eq!(Identity::read(&key).err().map(|refusal| refusal.reason), unknown);
+    assert_eq!(obscurlane::identity_field(&key, 1).err().map(|refusal| refusal.reason), unknown);
+    for text in [obscurlane::shared_info, obscurlane::module_text, obscurlane::centre_text] {
+        assert_eq!(text(&key, &mut out).err().map(|refusal| refusal.reason), unknown);
+    }
+    for (first, second) in [(&key, &key), (&key, &other), (&other, &key)] {
+        let refusal = obscurlane::newer(first, second).err();
+        assert_eq!(refusal.map(|refusal| refusal.reason()), unknown);
+    }
+    for name in IDENTITIES.iter().chain(&RECORDS).filter(|name| !WRAPPED_KEYS.contains(name)) {
+        let record = worked(name);
+        let by_number = obscurlane::attribute(&record, 1).err();
+        let by_name = obscurlane::attribute_named(&record, b"ACT").err();
+        assert_eq!(by_number.map(|refusal| refusal.reason), unknown, "{name}");
+        assert_eq!(by_name.map(|refusal| refusal.reason), unknown, "{name}");
+    }
+}
+
+/// A list that no reading has accepted is cut as far as it has cards.
+#[test]
+fn cards_of_any_list() {
+    let cards = |attributes: &'static [u8]| {
+        let key = WrappedKey { nonce: b"", attributes, protected_key: b"" };
+        key.cards().map(|card| (card.name, card.value)).collect::<Vec<_>>()
+    };
+    assert_eq!(cards(b""), []);
+    assert_eq!(cards(b"ACT"), []);
+    assert_eq!(cards(b"AC;DKG02;"), []);
+    assert_eq!(cards(b"ACT;DKG02;KEN"), [(b"ACT", &b""[..]), (b"DKG", b"02")]);
 }
 
 #[test]
@@ -144,6 +225,13 @@ fn what_is_read_is_shown_as_text() {
         "Record { kind: Smman, Manufacturer: \"Prism\", MID: \"A\", GNT: \"20180115T140000Z\", \
          Fingerprint: \"105717ACA4A50852\" }"
     );
+    let bytes = worked("KEY1_1");
+    let View::WrappedKey(key) = Record::read(&bytes).expect("accepted").view() else {
+        panic!("no wrapped key");
+    };
+    let shown = format!("{:?}", key.cards().nth(2));
+    assert_eq!(shown, "Some(Card { name: \"DKG\", value: \"02\" })");
+    assert!(format!("{key:?}").starts_with("WrappedKey { nonce: \"000000000000000000000001\", "));
     let shown = format!("{:?}", obscurlane::line_at(b"a\xFF\n", 0).expect("a line"));
     assert!(
         shown.starts_with("Line { start: 0, bytes: \"a\\xff\", next: 3, answer: Err("),

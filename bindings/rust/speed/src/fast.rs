@@ -4,8 +4,8 @@
 
 use crate::kinds::{Kind, Type, IDENTITIES, RECORDS, WRONG_IDENTITY, WRONG_KIND, WRONG_TEXT};
 use crate::side::{
-    Fields, Line, Reads, Refusal, Side, MISSING_CHECK, MISSING_FIELD, MOST_FIELDS, SHORT_OUTPUT,
-    TOO_LONG, UNFINISHED, UNKNOWN_KIND, UNPAIRED, WRONG_CHECK, WRONG_COUNT,
+    Fields, Line, Reads, Refusal, Side, MISSING_CHECK, MISSING_PART, MOST_FIELDS, SHORT_OUTPUT,
+    TOO_LONG, UNFINISHED, UNKNOWN_KIND, UNPAIRED, WRONG_ATTRIBUTES, WRONG_CHECK, WRONG_COUNT,
 };
 use obscurlane::{LONGEST_IDENT, LONGEST_READ};
 
@@ -68,6 +68,14 @@ const fn value(character: u8) -> u8 {
 /// No early end, so that the loop becomes wide instructions.
 fn are_hexadecimal(text: &[u8]) -> bool {
     text.iter().fold(true, |all, &byte| all & is_hexadecimal(byte))
+}
+
+fn are_decimal(text: &[u8]) -> bool {
+    text.iter().fold(true, |all, &byte| all & byte.is_ascii_digit())
+}
+
+fn are_printable(text: &[u8]) -> bool {
+    text.iter().fold(true, |all, &byte| all & (byte.wrapping_sub(b' ') < 95) & (byte != b'|'))
 }
 
 /// The characters of an IDENT after its first.
@@ -133,6 +141,70 @@ fn is_timestamp(text: &[u8; 16]) -> bool {
         && second < 60
 }
 
+// ---- the attributes of a wrapped key
+
+/// A name as a number, so that names stand in the order of their numbers.
+const fn code([first, second, third]: [u8; 3]) -> u32 {
+    u32::from_be_bytes([0, first, second, third])
+}
+
+const ACT: u32 = code(*b"ACT");
+const BDT: u32 = code(*b"BDT");
+const DKG: u32 = code(*b"DKG");
+const IUT: u32 = code(*b"IUT");
+const KEN: u32 = code(*b"KEN");
+const KRN: u32 = code(*b"KRN");
+const KTC: u32 = code(*b"KTC");
+const SGC: u32 = code(*b"SGC");
+const SGN: u32 = code(*b"SGN");
+
+const REQUIRED: [u32; 7] = [ACT, BDT, DKG, KEN, KRN, KTC, SGC];
+
+/// Whether the value is what its name asks for.
+fn is_value(name: u32, value: &[u8]) -> bool {
+    match name {
+        ACT | BDT | IUT => value.try_into().is_ok_and(is_timestamp),
+        DKG => matches!(value, [b'0'..=b'9', b'0'..=b'9']),
+        KEN => value.len() == 3 && are_decimal(value) && value <= b"255",
+        KRN | KTC => matches!(value, [b'0'..=b'9']),
+        SGC => value.len() == 10 && are_decimal(value),
+        SGN => (1..=99).contains(&value.len()),
+        _ => value.len() <= 252,
+    }
+}
+
+/// The length of the card at the front without its `;`, and its name, if there is one.
+fn card_at(rest: &[u8]) -> Option<(usize, u32)> {
+    let (&name, value) = rest.split_first_chunk()?;
+    let length = find(b';', value).filter(|_| name.iter().all(u8::is_ascii_alphanumeric))?;
+    Some((name.len() + length, code(name)))
+}
+
+/// Whether a list is permitted. Required names ascend as all names do, so that one walk finds them.
+fn are_attributes(mut rest: &[u8]) -> bool {
+    let (mut before, mut found) = (0, 0);
+    while !rest.is_empty() {
+        let Some((length, name)) = card_at(rest) else { return false };
+        if name <= before || !is_value(name, &rest[3..length]) {
+            return false;
+        }
+        found += usize::from(REQUIRED.get(found) == Some(&name));
+        (rest, before) = (&rest[length + 1..], name);
+    }
+    found == REQUIRED.len()
+}
+
+/// The card of this name in a permitted list.
+fn card_named(mut rest: &[u8], wanted: [u8; 3]) -> Option<&[u8]> {
+    while let Some((length, name)) = card_at(rest) {
+        if name >= code(wanted) {
+            return (name == code(wanted)).then(|| &rest[..length]);
+        }
+        rest = &rest[length + 1..];
+    }
+    None
+}
+
 // ---- fields
 
 fn ident_length(rest: &[u8]) -> Option<usize> {
@@ -144,6 +216,21 @@ fn ident_length(rest: &[u8]) -> Option<usize> {
 
 fn hex_length<const LENGTH: usize>(rest: &[u8]) -> Option<usize> {
     rest.first_chunk::<LENGTH>().filter(|text| are_hexadecimal(&text[..])).map(|_| LENGTH)
+}
+
+/// The length of a text that ends where its field does.
+fn length_before(behind: Option<u8>, rest: &[u8]) -> Option<usize> {
+    behind.map_or(Some(rest.len()), |mark| find(mark, rest))
+}
+
+fn printable_length(behind: Option<u8>, rest: &[u8]) -> Option<usize> {
+    length_before(behind, rest).filter(|&length| length > 0 && are_printable(&rest[..length]))
+}
+
+fn protected_length(behind: Option<u8>, rest: &[u8]) -> Option<usize> {
+    let is_sized = |length: usize| (32..=72).contains(&length) && length % 2 == 0;
+    length_before(behind, rest)
+        .filter(|&length| is_sized(length) && are_hexadecimal(&rest[..length]))
 }
 
 /// The length of the field of this type at the front, or the number that it is refused with. What stands behind it is the mark,
@@ -160,6 +247,9 @@ fn field_length(field_type: Type, behind: Option<u8>, rest: &[u8]) -> Result<usi
         Type::SigOrEmpty => hex_length::<192>(rest),
         Type::Identity(permitted) => return identity_length(permitted, behind, rest),
         Type::IssuerOrEmpty => return identity_length(&[Kind::Smman], behind, rest),
+        Type::Nonce => hex_length::<24>(rest),
+        Type::Printable => printable_length(behind, rest),
+        Type::Protected => protected_length(behind, rest),
     };
     length.filter(|&length| rest.get(length).copied() == behind).ok_or(WRONG_TEXT)
 }
@@ -194,6 +284,7 @@ fn title_at(bytes: &[u8], wanted: &[Kind]) -> Option<(Kind, usize)> {
             Kind::Ecdh => b"PK.ECDH.1|",
             Kind::Request => b"VKLOAD.REQ.1|",
             Kind::Response => b"VKLOAD.RESP.1|",
+            Kind::Key => b"KEY.1|",
         }
     };
     let kind = wanted.iter().copied().find(|&kind| bytes.starts_with(title(kind)))?;
@@ -227,7 +318,7 @@ fn read<'a>(bytes: &'a [u8], wanted: &[Kind]) -> Result<(Kind, Fields<'a>), Refu
         .map(|fields| (kind, fields))
 }
 
-/// The fields from left to right, each ended by the mark, and Issuer and Signature together.
+/// The fields from left to right, each ended by the mark, and those that go together.
 fn read_fields(kind: Kind, mut rest: &[u8]) -> Result<Fields<'_>, Refusal> {
     let mut fields: Fields<'_> = [&[]; MOST_FIELDS];
     for (number, &field_type) in (1..).zip(kind.types()) {
@@ -236,15 +327,21 @@ fn read_fields(kind: Kind, mut rest: &[u8]) -> Result<Fields<'_>, Refusal> {
         fields[number - 1] = &rest[..length];
         rest = &rest[length + 1..];
     }
-    match is_paired(kind, &fields) {
-        _ if !rest.is_empty() => Err(WRONG_COUNT),
-        true => Ok(fields),
-        false => Err(UNPAIRED),
+    if !rest.is_empty() {
+        return Err(WRONG_COUNT);
     }
+    check_together(kind, &fields).map(|()| fields)
 }
 
-fn is_paired(kind: Kind, fields: &Fields<'_>) -> bool {
-    !kind.is_public_key() || fields[3].is_empty() == fields[4].is_empty()
+/// Issuer and Signature of a public key; the attributes of a wrapped key.
+fn check_together(kind: Kind, fields: &Fields<'_>) -> Result<(), Refusal> {
+    if kind.is_public_key() && fields[3].is_empty() != fields[4].is_empty() {
+        return Err(UNPAIRED);
+    }
+    if kind == Kind::Key && !are_attributes(fields[1]) {
+        return Err(WRONG_ATTRIBUTES);
+    }
+    Ok(())
 }
 
 /// A wrong number of fields comes before what is wrong with one of them.
@@ -294,7 +391,7 @@ fn permitted<'a>(kind: Kind, mut rest: &'a [u8], lens: &[usize]) -> Result<Field
     for (number, &field_type) in (1..).zip(kind.types()) {
         field_length(field_type, None, fields[number - 1]).map_err(|no| (no, number))?;
     }
-    is_paired(kind, &fields).then_some(fields).ok_or(UNPAIRED)
+    check_together(kind, &fields).map(|()| fields)
 }
 
 fn decoded(point: &[u8]) -> [u8; POINT_BYTES] {
@@ -344,7 +441,13 @@ impl Side for Fast {
     fn record_field(record: &[u8], wanted: usize) -> Result<&[u8], Refusal> {
         let (kind, fields) = read(record, RECORDS)?;
         let index = wanted.checked_sub(1).filter(|&index| index < kind.types().len());
-        index.map(|index| fields[index]).ok_or(MISSING_FIELD)
+        index.map(|index| fields[index]).ok_or(MISSING_PART)
+    }
+
+    fn attribute_named<'a>(record: &'a [u8], name: &[u8]) -> Result<&'a [u8], Refusal> {
+        let (_, fields) = read(record, &[Kind::Key])?;
+        let name = name.try_into().map_err(|_| MISSING_PART)?;
+        card_named(fields[1], name).ok_or(MISSING_PART)
     }
 
     fn line_at(file: &[u8], place: usize) -> Option<Line> {
@@ -360,6 +463,9 @@ impl Side for Fast {
         let kind = Kind::named(name).ok_or(UNKNOWN_KIND)?;
         let fields = permitted(kind, bytes, lens)?;
         let total = name.len() + 1 + bytes.len() + lens.len() + CHECK_LENGTH;
+        if total > LONGEST_READ {
+            return Err(TOO_LONG);
+        }
         let out = out.get_mut(..total).ok_or(SHORT_OUTPUT)?;
         let mut writer = Writer { out, at: 0 };
         for part in [name].iter().chain(&fields[..lens.len()]) {

@@ -3,7 +3,7 @@
 use crate::side::Reads;
 use compare::kind::Kind;
 use compare::random::Random;
-use compare::sample::{self, Signed};
+use compare::sample::{self, Cards, Signed};
 
 /// A record as bytes and as what it is built from.
 pub struct Sample {
@@ -14,15 +14,35 @@ pub struct Sample {
 }
 
 impl Sample {
-    fn new(random: &mut Random, kind: Kind) -> Sample {
-        let signed = random.one_of(&[Signed::Yes, Signed::No]);
-        let fields = sample::fields(random, kind, signed);
+    fn of(kind: Kind, fields: &[Vec<u8>]) -> Sample {
         Sample {
             kind,
-            record: sample::of_kind(kind, &fields),
+            record: sample::of_kind(kind, fields),
             bytes: fields.concat(),
             lens: fields.iter().map(Vec::len).collect(),
         }
+    }
+
+    fn new(random: &mut Random, kind: Kind) -> Sample {
+        let signed = random.one_of(&[Signed::Yes, Signed::No]);
+        Sample::of(kind, &sample::fields(random, kind, signed))
+    }
+
+    /// A wrapped key with the attributes of the documents' examples, 254 to 305 bytes as these have.
+    fn wrapped_key(random: &mut Random) -> Sample {
+        let group = random.between(4, 31);
+        let list = Cards::required(random)
+            .with(b"CLM", sample::hex(random, 8))
+            .with(b"CLU", *b"0")
+            .with(b"EXP", sample::timestamp(random))
+            .with(b"IUT", sample::timestamp(random))
+            .with(b"KCV", sample::hex(random, 6))
+            .with(b"SBM", sample::hex(random, 4))
+            .with(b"SGN", sample::printable(random, group))
+            .with(b"ULM", *b"10000");
+        let digits = random.one_of(&[48, 72]);
+        let fields = [sample::hex(random, 24), list.list(), sample::hex(random, digits)];
+        Sample::of(Kind::WrappedKey, &fields)
     }
 
     /// The call that reads it.
@@ -41,10 +61,12 @@ pub struct Inputs {
     /// The records of the samples, each with a line feed.
     pub file: Vec<u8>,
     pub requests: Vec<Vec<u8>>,
+    pub wrapped_keys: Vec<Sample>,
 }
 
 impl Inputs {
-    pub fn new(random: &mut Random, count: usize) -> Inputs {
+    /// Wrapped keys are drawn by numbers of their own, and all else is as it was without them.
+    pub fn new(random: &mut Random, of_keys: &mut Random, count: usize) -> Inputs {
         let mut samples: Vec<Sample> = (0..count)
             .map(|index| {
                 let kind = match index % 5 {
@@ -63,6 +85,7 @@ impl Inputs {
             file.push(b'\n');
         }
         let requests = (0..count).map(|_| sample::record(random, Kind::VkloadReq)).collect();
-        Inputs { samples, file, requests }
+        let wrapped_keys = (0..count).map(|_| Sample::wrapped_key(of_keys)).collect();
+        Inputs { samples, file, requests, wrapped_keys }
     }
 }

@@ -10,10 +10,11 @@ pub enum Kind {
     Ecdh,
     Request,
     Response,
+    Key,
 }
 
 pub const IDENTITIES: &[Kind] = &[Kind::Smman, Kind::Smid, Kind::Kmcid];
-pub const RECORDS: &[Kind] = &[Kind::Ecdsa, Kind::Ecdh, Kind::Request, Kind::Response];
+pub const RECORDS: &[Kind] = &[Kind::Ecdsa, Kind::Ecdh, Kind::Request, Kind::Response, Kind::Key];
 
 /// What the text of a field must be.
 #[derive(Clone, Copy)]
@@ -26,6 +27,9 @@ pub enum Type {
     SigOrEmpty,
     Identity(&'static [Kind]),
     IssuerOrEmpty,
+    Nonce,
+    Printable,
+    Protected,
 }
 
 const IDENTITY: &[Type] = &[Type::Ident, Type::Ident, Type::Timestamp, Type::Print];
@@ -54,6 +58,7 @@ const REQUEST: &[Type] = &[
 ];
 const RESPONSE: &[Type] =
     &[Type::Identity(&[Kind::Kmcid]), Type::Identity(&[Kind::Smid]), Type::Timestamp, Type::Mac];
+const KEY: &[Type] = &[Type::Nonce, Type::Printable, Type::Protected];
 
 impl Kind {
     pub fn types(self) -> &'static [Type] {
@@ -63,6 +68,7 @@ impl Kind {
             Kind::Ecdh => ECDH,
             Kind::Request => REQUEST,
             Kind::Response => RESPONSE,
+            Kind::Key => KEY,
         }
     }
 
@@ -82,6 +88,7 @@ impl Kind {
             b"PK.ECDH.1" => Kind::Ecdh,
             b"VKLOAD.REQ.1" => Kind::Request,
             b"VKLOAD.RESP.1" => Kind::Response,
+            b"KEY.1" => Kind::Key,
             _ => return None,
         })
     }

@@ -41,6 +41,10 @@ impl Side for Library {
         obscurlane::record_field(record, wanted).map_err(refusal)
     }
 
+    fn attribute_named<'a>(record: &'a [u8], name: &[u8]) -> Result<&'a [u8], Refusal> {
+        obscurlane::attribute_named(record, name).map_err(refusal)
+    }
+
     fn line_at(file: &[u8], place: usize) -> Option<Line> {
         let line = obscurlane::line_at(file, place)?;
         let answer = line.answer.map(|kind| kind as usize).map_err(refusal);

@@ -15,7 +15,7 @@ use compare::random::Random;
 use fast::Fast;
 use inputs::{Inputs, Sample};
 use library::Library;
-use obscurlane::{LONGEST_MODULE_TEXT, LONGEST_RECORD};
+use obscurlane::{LONGEST_MODULE_TEXT, LONGEST_PUBKEY};
 use plain::Plain;
 use same::same_answers;
 use side::{Reads, Side, MOST_FIELDS};
@@ -65,7 +65,7 @@ fn listing<S: Side>(inputs: &Inputs) {
 }
 
 fn building<S: Side>(inputs: &Inputs) {
-    let mut out = [0; LONGEST_RECORD];
+    let mut out = [0; LONGEST_PUBKEY];
     for sample in &inputs.samples {
         let Sample { kind, bytes, lens, .. } = black_box(sample);
         black_box(S::build(kind.name().as_bytes(), bytes, lens, &mut out)).expect("built");
@@ -80,6 +80,19 @@ fn the_three_texts<S: Side>(inputs: &Inputs) {
             black_box(text(black_box(request), &mut out)).expect("a text");
             black_box(&out);
         }
+    }
+}
+
+fn reading_a_wrapped_key<S: Side>(inputs: &Inputs) {
+    for key in &inputs.wrapped_keys {
+        black_box(S::read(Reads::Records, black_box(&key.record))).expect("accepted");
+    }
+}
+
+fn one_attribute_by_name<S: Side>(inputs: &Inputs) {
+    for key in &inputs.wrapped_keys {
+        let name = black_box(b"SGC");
+        black_box(S::attribute_named(black_box(&key.record), name)).expect("an attribute");
     }
 }
 
@@ -101,7 +114,7 @@ macro_rules! row {
     };
 }
 
-const ROWS: [Row; 8] = [
+const ROWS: [Row; 10] = [
     row!("reading", reading),
     row!("reading, all places", reading_all_places),
     row!("seven fields, one reading", seven_fields_one_reading),
@@ -109,6 +122,8 @@ const ROWS: [Row; 8] = [
     row!("listing", listing),
     row!("building", building),
     row!("the three texts", the_three_texts),
+    row!("reading a wrapped key", reading_a_wrapped_key),
+    row!("one attribute by name", one_attribute_by_name),
     row!("the check", the_check),
 ];
 
@@ -149,20 +164,25 @@ fn measure((name, works): Row, sets: &[Inputs]) {
     println!("{:>8.2}{:>8.2}", ratio(1), ratio(2));
 }
 
+/// The bytes of a record on average.
+fn average<'a>(samples: impl Iterator<Item = &'a Sample>) -> usize {
+    samples.map(|sample| sample.record.len()).sum::<usize>() / (SETS * TURN)
+}
+
 fn main() {
-    let mut random = Random::with_seed(2026);
-    let sets: Vec<Inputs> = (0..SETS).map(|_| Inputs::new(&mut random, TURN)).collect();
+    let (mut random, mut of_keys) = (Random::with_seed(2026), Random::with_seed(2029));
+    let sets: Vec<Inputs> =
+        (0..SETS).map(|_| Inputs::new(&mut random, &mut of_keys, TURN)).collect();
     for inputs in &sets {
         same_answers::<Library, Plain>(inputs);
         same_answers::<Library, Fast>(inputs);
     }
     println!("all sides give the same answers, whole and damaged");
-    let samples = sets.iter().flat_map(|inputs| &inputs.samples);
-    let bytes: usize = samples.map(|sample| sample.record.len()).sum();
-    let average = bytes / (SETS * TURN);
     println!(
-        "{} records, {average} bytes each on average; {}",
+        "{} records, {} bytes each on average, and as many wrapped keys of {}; {}",
         SETS * TURN,
+        average(sets.iter().flat_map(|inputs| &inputs.samples)),
+        average(sets.iter().flat_map(|inputs| &inputs.wrapped_keys)),
         std::env::consts::ARCH
     );
     println!("{ROUNDS} rounds of {TURN} records in turns; ns per record: median (tenth .. ninetieth percentile)");
@@ -181,7 +201,8 @@ mod tests {
 
     #[test]
     fn all_sides_give_the_same_answers() {
-        let inputs = Inputs::new(&mut Random::with_seed(2028), 3_000);
+        let (mut random, mut of_keys) = (Random::with_seed(2028), Random::with_seed(2030));
+        let inputs = Inputs::new(&mut random, &mut of_keys, 3_000);
         same_answers::<Library, Plain>(&inputs);
         same_answers::<Library, Fast>(&inputs);
     }

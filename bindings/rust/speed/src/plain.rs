@@ -6,8 +6,8 @@
 
 use crate::kinds::{Kind, Type, IDENTITIES, RECORDS, WRONG_IDENTITY, WRONG_KIND, WRONG_TEXT};
 use crate::side::{
-    Fields, Line, Reads, Refusal, Side, MISSING_CHECK, MISSING_FIELD, MOST_FIELDS, SHORT_OUTPUT,
-    TOO_LONG, UNFINISHED, UNKNOWN_KIND, UNPAIRED, WRONG_CHECK, WRONG_COUNT,
+    Fields, Line, Reads, Refusal, Side, MISSING_CHECK, MISSING_PART, MOST_FIELDS, SHORT_OUTPUT,
+    TOO_LONG, UNFINISHED, UNKNOWN_KIND, UNPAIRED, WRONG_ATTRIBUTES, WRONG_CHECK, WRONG_COUNT,
 };
 use obscurlane::{LONGEST_IDENT, LONGEST_READ};
 
@@ -78,6 +78,56 @@ fn is_timestamp(text: &[u8]) -> bool {
         && two(s1, s2) < 60
 }
 
+fn is_printable(text: &[u8]) -> bool {
+    !text.is_empty() && text.iter().all(|&byte| matches!(byte, b' '..=b'~') && byte != b'|')
+}
+
+/// A key of at most 160 bits, with its tag of 128.
+fn is_protected(text: &[u8]) -> bool {
+    (32..=72).contains(&text.len()) && text.len() % 2 == 0 && is_hex(text.len(), text)
+}
+
+fn are_digits(length: usize, text: &[u8]) -> bool {
+    text.len() == length && text.iter().all(u8::is_ascii_digit)
+}
+
+// ---- the attributes of a wrapped key
+
+const NAME_LENGTH: usize = 3;
+const LONGEST_VALUE: usize = 252;
+
+/// The names that every list has, in their order.
+const REQUIRED: [&[u8]; 7] = [b"ACT", b"BDT", b"DKG", b"KEN", b"KRN", b"KTC", b"SGC"];
+
+/// Whether the value is what its name asks for.
+fn is_value(name: &[u8], value: &[u8]) -> bool {
+    match name {
+        b"ACT" | b"BDT" | b"IUT" => is_timestamp(value),
+        b"DKG" => are_digits(2, value),
+        b"KEN" => are_digits(3, value) && value <= b"255",
+        b"KRN" | b"KTC" => are_digits(1, value),
+        b"SGC" => are_digits(10, value),
+        b"SGN" => (1..=99).contains(&value.len()),
+        _ => value.len() <= LONGEST_VALUE,
+    }
+}
+
+/// Whether a list is permitted. Its names ascend, and so do those that are required: one walk finds them all.
+fn are_attributes(list: &[u8]) -> bool {
+    let [cards @ .., b';'] = list else { return false };
+    let mut required = REQUIRED.iter().peekable();
+    let mut before: &[u8] = b"";
+    for card in cards.split(|&byte| byte == b';') {
+        let Some((name, value)) = card.split_at_checked(NAME_LENGTH) else { return false };
+        if !name.iter().all(u8::is_ascii_alphanumeric) || name <= before || !is_value(name, value) {
+            return false;
+        }
+        required.next_if(|&&wanted| wanted == name);
+        before = name;
+    }
+    required.next().is_none()
+}
+
 // ---- fields
 
 /// At most seven fields, and how many.
@@ -100,7 +150,7 @@ impl<'a> Parts<'a> {
     }
 }
 
-/// Each field by itself from left to right, then Issuer and Signature together.
+/// Each field by itself from left to right, then Issuer and Signature together, or the attributes of a wrapped key.
 fn check_fields(kind: Kind, fields: &[&[u8]]) -> Result<(), Refusal> {
     for (number, (&field_type, field)) in (1..).zip(kind.types().iter().zip(fields)) {
         check_field(field_type, field).map_err(|no| (no, number))?;
@@ -108,6 +158,11 @@ fn check_fields(kind: Kind, fields: &[&[u8]]) -> Result<(), Refusal> {
     if let (true, [.., issuer, signature]) = (kind.is_public_key(), fields) {
         if issuer.is_empty() != signature.is_empty() {
             return Err(UNPAIRED);
+        }
+    }
+    if let (Kind::Key, [_, attributes, _]) = (kind, fields) {
+        if !are_attributes(attributes) {
+            return Err(WRONG_ATTRIBUTES);
         }
     }
     Ok(())
@@ -125,6 +180,9 @@ fn check_field(field_type: Type, field: &[u8]) -> Result<(), u8> {
         Type::Identity(permitted) => return check_identity(permitted, field),
         Type::IssuerOrEmpty if field.is_empty() => true,
         Type::IssuerOrEmpty => return check_identity(&[Kind::Smman], field),
+        Type::Nonce => is_hex(24, field),
+        Type::Printable => is_printable(field),
+        Type::Protected => is_protected(field),
     };
     if fits {
         Ok(())
@@ -266,7 +324,14 @@ impl Side for Plain {
     fn record_field(record: &[u8], wanted: usize) -> Result<&[u8], Refusal> {
         let (_, fields) = read(record, RECORDS)?;
         let index = wanted.checked_sub(1).filter(|&index| index < fields.count);
-        index.map(|index| fields.parts[index]).ok_or(MISSING_FIELD)
+        index.map(|index| fields.parts[index]).ok_or(MISSING_PART)
+    }
+
+    fn attribute_named<'a>(record: &'a [u8], name: &[u8]) -> Result<&'a [u8], Refusal> {
+        let (_, fields) = read(record, &[Kind::Key])?;
+        let mut cards = fields.parts[1].split(|&byte| byte == b';');
+        let is_named = |card: &&[u8]| name.len() == NAME_LENGTH && card.starts_with(name);
+        cards.find(is_named).ok_or(MISSING_PART)
     }
 
     fn line_at(file: &[u8], place: usize) -> Option<Line> {
@@ -300,6 +365,9 @@ impl Side for Plain {
         check_fields(kind, fields)?;
 
         let total = name.len() + 1 + bytes.len() + lens.len() + CHECK_LENGTH;
+        if total > LONGEST_READ {
+            return Err(TOO_LONG);
+        }
         let out = out.get_mut(..total).ok_or(SHORT_OUTPUT)?;
         let mut writer = Writer { out, at: 0 };
         writer.put(name);

@@ -3,8 +3,9 @@
 
 use crate::inputs::{Inputs, Sample};
 use crate::side::{Fields, Reads, Refusal, Side};
+use compare::kind::Kind;
 use compare::random::Random;
-use compare::sample;
+use compare::sample::{self, Fault, ListFault};
 use obscurlane::{LONGEST_MODULE_TEXT, LONGEST_RECORD};
 
 /// The places of the fields, not only their bytes.
@@ -22,6 +23,10 @@ fn same_reading<A: Side, B: Side>(bytes: &[u8]) {
     for wanted in 0..=8 {
         let (one, other) = (A::record_field(bytes, wanted), B::record_field(bytes, wanted));
         assert_eq!(one, other, "field {wanted} of {bytes:?}");
+    }
+    for name in [&b"SGC"[..], b"ACT", b"SGN", b"XYZ", b"SG", b""] {
+        let (one, other) = (A::attribute_named(bytes, name), B::attribute_named(bytes, name));
+        assert_eq!(one, other, "attribute {name:?} of {bytes:?}");
     }
 }
 
@@ -64,10 +69,34 @@ fn same_file<A: Side, B: Side>(file: &[u8]) -> usize {
     lines
 }
 
+/// A wrapped key of these fields, permitted or not, read and built with every sort of room.
+fn same_wrapped_key<A: Side, B: Side>(fields: &[Vec<u8>]) {
+    let key = sample::of_kind(Kind::WrappedKey, fields);
+    same_reading::<A, B>(&key);
+    let lens: Vec<usize> = fields.iter().map(Vec::len).collect();
+    for room in [0, key.len() - 1, key.len()] {
+        same_building::<A, B>(b"KEY.1", &fields.concat(), &lens, room);
+    }
+}
+
+/// A wrapped key with one fault; with one byte changed and the right check; of a list that is not permitted; and of about as many
+/// bytes as are read.
+fn same_wrapped_keys<A: Side, B: Side>(random: &mut Random, key: &[u8]) {
+    let fault = random.one_of(Fault::of(Kind::WrappedKey));
+    same_reading::<A, B>(&sample::faulty(random, Kind::WrappedKey, &[fault]));
+    same_reading::<A, B>(&sample::resealed(&sample::damaged_anywhere(random, key, 1)));
+
+    let fault = random.one_of(&ListFault::ALL);
+    let list = sample::faulty_list(random, fault);
+    same_wrapped_key::<A, B>(&[sample::hex(random, 24), list, sample::hex(random, 48)]);
+    let length = LONGEST_RECORD + random.below(2);
+    same_wrapped_key::<A, B>(&sample::wrapped_key_fields(random, length));
+}
+
 /// Stops where the two differ.
 pub fn same_answers<A: Side, B: Side>(inputs: &Inputs) {
     let mut random = Random::with_seed(2027);
-    for Sample { kind, record, bytes, lens } in &inputs.samples {
+    for Sample { kind, record, bytes, lens } in inputs.samples.iter().chain(&inputs.wrapped_keys) {
         same_reading::<A, B>(record);
         same_reading::<A, B>(&sample::anything(&mut random));
         let name = kind.name().as_bytes();
@@ -83,6 +112,9 @@ pub fn same_answers<A: Side, B: Side>(inputs: &Inputs) {
         (moved[end], moved[end + 1]) = (lens[end] + lens[end + 1], 0);
         same_building::<A, B>(name, bytes, &moved, LONGEST_RECORD);
         same_building::<A, B>(name, bytes, &lens[1..], LONGEST_RECORD);
+    }
+    for key in &inputs.wrapped_keys {
+        same_wrapped_keys::<A, B>(&mut random, &key.record);
     }
     for request in &inputs.requests {
         same_texts::<A, B>(request, LONGEST_MODULE_TEXT);

@@ -11,7 +11,8 @@ pub const WRONG_COUNT: Refusal = (5, 0);
 pub const UNPAIRED: Refusal = (8, 0);
 pub const SHORT_OUTPUT: Refusal = (10, 0);
 pub const UNFINISHED: Refusal = (11, 0);
-pub const MISSING_FIELD: Refusal = (12, 0);
+pub const MISSING_PART: Refusal = (12, 0);
+pub const WRONG_ATTRIBUTES: Refusal = (14, 0);
 
 /// How many fields a record has at most.
 pub const MOST_FIELDS: usize = 7;
@@ -46,6 +47,8 @@ pub trait Side {
     fn read_fields(reads: Reads, bytes: &[u8]) -> Result<(usize, Fields<'_>), Refusal>;
     /// Reads, and hands back one field, counted from 1.
     fn record_field(record: &[u8], wanted: usize) -> Result<&[u8], Refusal>;
+    /// Reads a wrapped key, and hands back the attribute of this name.
+    fn attribute_named<'a>(record: &'a [u8], name: &[u8]) -> Result<&'a [u8], Refusal>;
     fn line_at(file: &[u8], place: usize) -> Option<Line>;
     fn build(name: &[u8], bytes: &[u8], lens: &[usize], out: &mut [u8]) -> Result<usize, Refusal>;
     fn shared_info(request: &[u8], out: &mut [u8]) -> Result<usize, Refusal>;

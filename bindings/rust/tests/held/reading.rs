@@ -4,7 +4,7 @@
 use super::{expected, numbers, place, Numbers};
 use compare::kind::FieldType;
 use compare::record;
-use obscurlane::{Identity, InnerIdentity, PublicKey, Record, Request, Response, View};
+use obscurlane::{Identity, InnerIdentity, PublicKey, Record, Request, Response, View, WrappedKey};
 
 /// A field: its number, its name, its place, and the name of the kind of identity that it is.
 pub type FieldNumbers = (usize, &'static str, (*const u8, usize), Option<&'static str>);
@@ -31,6 +31,9 @@ fn by_name<'a>(record: &Record<'a>) -> Vec<(&'a [u8], Option<obscurlane::Kind>)>
         }
         View::Response(Response { id_kmc, id_sm, tvp, mac_tag }) => {
             vec![inner(id_kmc), inner(id_sm), text(tvp), text(mac_tag)]
+        }
+        View::WrappedKey(WrappedKey { nonce, attributes, protected_key }) => {
+            [nonce, attributes, protected_key].map(text).to_vec()
         }
         other => panic!("{other:?} is not tried"),
     }
