@@ -9,13 +9,11 @@ use native.Mathlib.Numerals.{add-one}
 use lib.ListN.{length, take, drop, getD, length-drop, take-append-drop, List·getD-eq-default}
 use lib.Seq.{length-take-le, take-append-le, drop-append-le, drop-drop}
 use borrow.Author.Tests.{le-leb, lt-leb}
-use denote.Ref.{RefT, now}
 use Rattle.text.specs.Text.{Bytes, between, same}
-use Rattle.text.proofs.Part.{same-part}
 use Rattle.format.specs.Kinds.{Kind, KEY, fieldsOf, keyKinds}
 use Rattle.format.specs.Build.{Built}
 use Rattle.format.specs.Attributes.{nameOf, cardsIn}
-use Rattle.format.specs.Read.{Outcome, accepted, refused, place, readOf}
+use Rattle.format.specs.Read.{Outcome, accepted, refused, readOf}
 use Rattle.format.proofs.Table.{among-one}
 use Rattle.format.proofs.Outcomes.{Honest}
 use Rattle.format.proofs.Exactly.{read-says, its-parts, its-count, its-few}
@@ -26,10 +24,10 @@ use Rattle.places.proofs.Stands.{record-start, record-place, record-field}
 use Rattle.reading.specs.Reading.{answerOf}
 use Rattle.reading.specs.declared.Answer.{Answer}
 use Rattle.reading.proofs.Answers.{Taken, taken, untaken}
-use Rattle.fields.specs.Attributes.{listSaid, cardsSaid, attributePart, attributeNo, attributeStart, namedFrom, numberNamed, AttributeSaid, AttributePlaced}
+use Rattle.fields.specs.Attributes.{listSaid, cardsSaid, attributeNo, attributeStart, namedFrom, numberNamed, AttributePlaced}
 use Rattle.fields.specs.Fields.{startIn}
-use Rattle.fields.specs.Steps.{Handed}
 use Rattle.fields.specs.declared.Place.{Place}
+use Rattle.fields.proofs.Wanted.{placed}
 
 -- ---- the list
 
@@ -76,13 +74,6 @@ none-of-none zero = refl
 none-of-none (suc w) = refl
 
 module _ (s : Bytes) (wanted : ℕ) where
-  placed : (o : Outcome) (n f start len : ℕ) → n ≡ attributeNo o wanted → f ≡ place o → start ≡ attributeStart o wanted
-      → start + len ≤ length s → take len (drop start s) ≡ attributePart o wanted
-      → AttributePlaced o wanted s (record { no = n; field = f; start = start; len = len })
-  placed o n f start len p q b h e =
-      let l : len ≡ length (attributePart o wanted) = sym (length-take-le len (drop start s) (omega (arith, length-drop start s))) ∙ ap length e in
-      record { said = cc; inside = h; bytes = e }
-
   module _ (a : Answer) (e : a ≡ answerOf (readOf keyKinds s)) where
     abbrev At : ℕ → ℕ → ℕ → ℕ → Outcome → Type 0
     At n f start len o = AttributePlaced o wanted s (record { no = n; field = f; start = start; len = len })
@@ -92,7 +83,7 @@ module _ (s : Bytes) (wanted : ℕ) where
     unfolding attributeNo attributeStart listSaid
     place-refused z =
         subst (At (a .no) (a .field) 0 0) (sym (untaken (readOf keyKinds s) a e z))
-        (placed (refused (a .no) (a .field)) (a .no) (a .field) 0 0 refl refl refl (omega arith) (none-of-none wanted))
+        (placed s (a .no) (a .field) 0 0 refl refl refl (omega arith) (none-of-none wanted))
 
     -- an accepted record
     module _ (z : a .no ≡ 0) where
@@ -104,7 +95,7 @@ module _ (s : Bytes) (wanted : ℕ) where
 
       pub place-zero : wanted ≡ 0 → At 12 0 0 0 (readOf keyKinds s)
       unfolding attributeNo attributeStart
-      place-zero h = by-kind 12 0 0 0 (placed (accepted (t .kind) (t .fields)) 12 0 0 0 (rw h) refl (rw h) (omega arith) (rw h))
+      place-zero h = by-kind 12 0 0 0 (placed s 12 0 0 0 (rw h) refl (rw h) (omega arith) (rw h))
 
       -- the list, and i the place in it of the wanted card, as the code has them
       module _ (w : wanted ≡ 0 → ⊥) (list : Bytes) (el : list ≡ listSaid (readOf keyKinds s)) (i : ℕ) (q : i ≡ partStart 59 list (wanted - 1)) where
@@ -120,7 +111,7 @@ module _ (s : Bytes) (wanted : ℕ) where
         place-past h =
             let past : length cards ≤ wanted - 1 = is-not 59 list (wanted - 1) i q h in
             let out : between 1 (length cards) wanted ≡ false = rw (le-leb 1 wanted (omega (arith, w)), lt-leb wanted (length cards) (omega (arith, w, past))) in
-            by-kind 12 0 0 0 (placed (accepted (t .kind) (t .fields)) 12 0 0 0 (rw (← its-list, out)) refl (rw (← its-list, out)) (omega arith) (rw (← its-list) (no-card cards wanted w past)))
+            by-kind 12 0 0 0 (placed s 12 0 0 0 (rw (← its-list, out)) refl (rw (← its-list, out)) (omega arith) (rw (← its-list) (no-card cards wanted w past)))
 
         -- where the card ends, and where the list starts in the record
         module _ (h : i < length list) (end : ℕ) (en : end ≡ nextMark 59 list i) (start : ℕ) (es : start ≡ getD (a .starts) 1 0) where
@@ -157,13 +148,8 @@ module _ (s : Bytes) (wanted : ℕ) where
               sym (part-of-part s start (length list) i (end - i) (omega (arith, card-ends list i h end en)) (within .0)) ∙ ap (λ (x : Bytes). take (end - i) (drop i x)) (within .1) ∙ card in
               let first = record-start k s fs (its-few (t .holds)) (its-parts (t .holds)) 1 (omega (arith, three)) in
               by-kind 0 0 (start + i) (end - i)
-              (placed (accepted k fs) 0 0 (start + i) (end - i) (rw (← its-list, in-range)) refl
+              (placed s 0 0 (start + i) (end - i) (rw (← its-list, in-range)) refl
               (rw (← its-list, in-range) (ap (λ (x : ℕ). x + i) (its-start ∙ first) ∙ ap (λ (x : ℕ). startIn k fs 2 + x) q)) card-within (rw (← its-list) at))
-
--- ---- the part at its place
-
-pub attribute-said : {o : Outcome} {wanted : ℕ} {s r : RefT Bytes} {no field : ℕ} {at : Place} → AttributePlaced o wanted (now s) at → Handed at s r no field → AttributeSaid o wanted s r no field
-attribute-said p h = record { its-part = same-part (ap (λ (x : Place). x .start) (p .said)) (p .bytes) (h .its-part); its-no = h .its-no ∙ ap (λ (x : Place). x .no) (p .said); its-field = h .its-field ∙ ap (λ (x : Place). x .field) (p .said) }
 
 -- ---- by name: a turn of the loop at place i, where a card stands that ends at `end` and has this number
 
@@ -191,6 +177,6 @@ unfolding numberNamed
 named-start list name = refl
 
 -- the number as the code has it, of the list as it has that
-pub named-so : {o : Outcome} {s : Bytes} {w : ℕ} {r : Place} (name list : Bytes) → w ≡ numberNamed name (cardsIn list) → list ≡ listSaid o → AttributePlaced o w s r
+pub named-so : (o : Outcome) (s name list : Bytes) (w : ℕ) (r : Place) → w ≡ numberNamed name (cardsIn list) → list ≡ listSaid o → AttributePlaced o w s r
     → AttributePlaced o (numberNamed name (cardsSaid o)) s r
-named-so name list e l p = rw (← l, ← e) p
+named-so o s name list w r e l p = subst (λ (i : ℕ). AttributePlaced o i s r) (e ∙ ap (λ (x : Bytes). numberNamed name (cardsIn x)) l) p

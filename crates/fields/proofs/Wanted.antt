@@ -25,7 +25,7 @@ use Rattle.table.proofs.Arrays.{count-few}
 use Rattle.places.specs.Places.{startsOf, lensOf}
 use Rattle.places.proofs.Stands.{record-start, record-place}
 use Rattle.reading.specs.Reading.{answerOf}
-use Rattle.fields.specs.Fields.{wantedPart, wantedNo, wantedStart, Placed, FieldSaid}
+use Rattle.fields.specs.Fields.{wantedPart, wantedNo, wantedStart, PartSaid, PlaceSaid, Placed}
 use Rattle.fields.specs.Steps.{Reads, identity, records, Handed}
 use Rattle.reading.specs.declared.Answer.{Answer}
 use Rattle.fields.specs.declared.Place.{Place}
@@ -85,14 +85,14 @@ no-field (accepted k fs) wanted n =
     (λ t. (rw (T-false (between 1 (length fs) wanted) t), outside fs wanted t))
 no-field (refused m i) wanted n = (refl, refl)
 
-module _ (s : Bytes) (wanted : ℕ) where
-  placed : (o : Outcome) (n f start len : ℕ) → n ≡ wantedNo o wanted → f ≡ place o → start ≡ wantedStart o wanted
-      → start + len ≤ length s → take len (drop start s) ≡ wantedPart o wanted
-      → Placed o wanted s (record { no = n; field = f; start = start; len = len })
-  placed o n f start len p q b h e =
-      let l : len ≡ length (wantedPart o wanted) = sym (length-take-le len (drop start s) (omega (arith, length-drop start s))) ∙ ap length e in
-      record { said = cc; inside = h; bytes = e }
+-- a place by its pieces
+pub placed : (s : Bytes) {m g start : ℕ} {part : Bytes} (n f at len : ℕ) → n ≡ m → f ≡ g → at ≡ start → at + len ≤ length s → take len (drop at s) ≡ part
+    → PlaceSaid m g start part s (record { no = n; field = f; start = at; len = len })
+placed s {part = part} n f at len p q b h e =
+    let l : len ≡ length part = sym (length-take-le len (drop at s) (omega (arith, length-drop at s))) ∙ ap length e in
+    record { said = cc; inside = h; bytes = e }
 
+module _ (s : Bytes) (wanted : ℕ) where
   -- a field of an accepted record
   module _ (ks : List Kind) (k : Kind) (fs : List Bytes) (b : Built ks s k fs) where
     record Here (v : ℕ) : Type 0 where
@@ -125,13 +125,13 @@ module _ (s : Bytes) (wanted : ℕ) where
 
   module _ (o : Outcome) (r : Reads s o) (a : Answer) (q : a ≡ answerOf o) (n : ℕ) (e : n ≡ wantedNo o wanted) where
     pub place-none : (n ≡ 0 → ⊥) → Placed o wanted s (record { no = n; field = a .field; start = 0; len = 0 })
-    place-none z = let h = no-field o wanted (λ (y : wantedNo o wanted ≡ 0). z (e ∙ y)) in placed o n (a .field) 0 0 e (told o a q .1) (h .0) (omega arith) (h .1)
+    place-none z = let h = no-field o wanted (λ (y : wantedNo o wanted ≡ 0). z (e ∙ y)) in placed s n (a .field) 0 0 e (told o a q .1) (h .0) (omega arith) (h .1)
 
     -- i and l are the start and the length as the code has them
     pub place-there : n ≡ 0 → (i l : ℕ) → i ≡ getD (a .starts) (wanted - 1) 0 → l ≡ getD (a .lens) (wanted - 1) 0 → Placed o wanted s (record { no = n; field = a .field; start = i; len = l })
-    place-there z i l p u = let h = there-said o (says r .0) (says r .1) a q (sym e ∙ z) i l p u in placed o n (a .field) i l e (told o a q .1) (h .0) (h .1) (h .2)
+    place-there z i l p u = let h = there-said o (says r .0) (says r .1) a q (sym e ∙ z) i l p u in placed s n (a .field) i l e (told o a q .1) (h .0) (h .1) (h .2)
 
 -- ---- the part at a place
 
-pub field-said : {o : Outcome} {wanted : ℕ} {s r : RefT Bytes} {no field : ℕ} {at : Place} → Placed o wanted (now s) at → Handed at s r no field → FieldSaid o wanted s r no field
-field-said p h = record { its-part = same-part (ap (λ (x : Place). x .start) (p .said)) (p .bytes) (h .its-part); its-no = h .its-no ∙ ap (λ (x : Place). x .no) (p .said); its-field = h .its-field ∙ ap (λ (x : Place). x .field) (p .said) }
+pub part-said : {n f start : ℕ} {bytes : Bytes} {s r : RefT Bytes} {no field : ℕ} {at : Place} → PlaceSaid n f start bytes (now s) at → Handed at s r no field → PartSaid n f start bytes s r no field
+part-said p h = record { its-part = same-part (ap (λ (x : Place). x .start) (p .said)) (p .bytes) (h .its-part); its-no = h .its-no ∙ ap (λ (x : Place). x .no) (p .said); its-field = h .its-field ∙ ap (λ (x : Place). x .field) (p .said) }

@@ -1,20 +1,18 @@
 -- What the calls for one attribute of a wrapped key answer: document 02, E1; STS 600-4-2, clause 7.5.1. `readOf keyKinds` of format says the
 -- outcome of reading: a record of another kind answers 2. An attribute is its card: name and value, without the ';' behind it.
 -- Assumes nothing.
-use Prim.Native.Nat.{ℕ, suc, _+_, _-_, _≤_}
+use Prim.Native.Nat.{ℕ, suc, _+_, _-_}
 use Prim.Native.Char.{code}
-use mathlib.Core.Path.{_≡_}
 use mathlib.Core.Bool.{cond}
 use mathlib.Core.List.{List, [], _∷_}
-use lib.ListN.{length, take, drop, getD}
+use lib.ListN.{length, take, getD}
 use denote.Ref.{RefT}
 use Rattle.text.specs.Text.{Bytes, between, same}
-use Rattle.text.specs.Part.{Part}
 use Rattle.numbers.specs.Numbers.{missingItem}
 use Rattle.format.specs.Parts.{joined}
 use Rattle.format.specs.Attributes.{nameOf, cardsIn}
 use Rattle.format.specs.Read.{Outcome, accepted, refused, place}
-use Rattle.fields.specs.Fields.{startIn}
+use Rattle.fields.specs.Fields.{startIn, PartSaid, PlaceSaid}
 use Rattle.fields.specs.declared.Place.{Place}
 
 -- ---- the list, field 2, and its cards; none with a refusal
@@ -54,18 +52,13 @@ namedFrom i n (c ∷ cs) = cond (same (nameOf c) n) i (namedFrom (suc i) n cs)
 unfoldable pub numberNamed : Bytes → List Bytes → ℕ
 numberNamed n cs = namedFrom 1 n cs
 
--- ---- what a call says that was lent s, where reading says o: the attribute as the part r of s that stands there
+-- ---- what a call says that was lent s, where reading says o: as a part, and as start and length
 
-pub record AttributeSaid (o : Outcome) (wanted : ℕ) (s r : RefT Bytes) (no field : ℕ) : Type 0 where
-  pub its-part : Part s (attributeStart o wanted) (attributePart o wanted) r
-  pub its-no : no ≡ attributeNo o wanted
-  pub its-field : field ≡ place o
+abbrev pub AttributeSaid : Outcome → ℕ → RefT Bytes → RefT Bytes → ℕ → ℕ → Type 0
+AttributeSaid o wanted s r n f = PartSaid (attributeNo o wanted) (place o) (attributeStart o wanted) (attributePart o wanted) s r n f
 
--- as start and length; the attribute is what stands there
 abbrev pub attributePlace : Outcome → ℕ → Place
 attributePlace o wanted = record { no = attributeNo o wanted; field = place o; start = attributeStart o wanted; len = length (attributePart o wanted) }
 
-pub record AttributePlaced (o : Outcome) (wanted : ℕ) (s : Bytes) (r : Place) : Type 0 where
-  pub said : r ≡ attributePlace o wanted
-  pub inside : r .start + r .len ≤ length s
-  pub bytes : take (r .len) (drop (r .start) s) ≡ attributePart o wanted
+abbrev pub AttributePlaced : Outcome → ℕ → Bytes → Place → Type 0
+AttributePlaced o wanted s r = PlaceSaid (attributeNo o wanted) (place o) (attributeStart o wanted) (attributePart o wanted) s r

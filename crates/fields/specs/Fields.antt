@@ -35,17 +35,26 @@ unfoldable pub wantedStart : Outcome → ℕ → ℕ
 wantedStart (accepted k fs) wanted = cond (between 1 (length fs) wanted) (startIn k fs wanted) 0
 wantedStart (refused n i) wanted = 0
 
--- what a call says that was lent s, where reading says o: a field as the part r of s that stands there
-pub record FieldSaid (o : Outcome) (wanted : ℕ) (s r : RefT Bytes) (no field : ℕ) : Type 0 where
-  pub its-part : Part s (wantedStart o wanted) (wantedPart o wanted) r
-  pub its-no : no ≡ wantedNo o wanted
-  pub its-field : field ≡ place o
+-- ---- what a call says that was lent s: number n, field number f, and these bytes, which stand there
 
--- a field of s as start and length; the field is what stands there
+-- as the part r of s
+pub record PartSaid (n f start : ℕ) (bytes : Bytes) (s r : RefT Bytes) (no field : ℕ) : Type 0 where
+  pub its-part : Part s start bytes r
+  pub its-no : no ≡ n
+  pub its-field : field ≡ f
+
+-- as start and length; the bytes are what stands there
+pub record PlaceSaid (n f at : ℕ) (part s : Bytes) (r : Place) : Type 0 where
+  pub said : r ≡ record { no = n; field = f; start = at; len = length part }
+  pub inside : r .start + r .len ≤ length s
+  pub bytes : take (r .len) (drop (r .start) s) ≡ part
+
+-- where reading says o: the wanted field
+abbrev pub FieldSaid : Outcome → ℕ → RefT Bytes → RefT Bytes → ℕ → ℕ → Type 0
+FieldSaid o wanted s r n f = PartSaid (wantedNo o wanted) (place o) (wantedStart o wanted) (wantedPart o wanted) s r n f
+
 abbrev pub placeSaid : Outcome → ℕ → Place
 placeSaid o wanted = record { no = wantedNo o wanted; field = place o; start = wantedStart o wanted; len = length (wantedPart o wanted) }
 
-pub record Placed (o : Outcome) (wanted : ℕ) (s : Bytes) (r : Place) : Type 0 where
-  pub said : r ≡ placeSaid o wanted
-  pub inside : r .start + r .len ≤ length s
-  pub bytes : take (r .len) (drop (r .start) s) ≡ wantedPart o wanted
+abbrev pub Placed : Outcome → ℕ → Bytes → Place → Type 0
+Placed o wanted s r = PlaceSaid (wantedNo o wanted) (place o) (wantedStart o wanted) (wantedPart o wanted) s r

@@ -12,20 +12,20 @@ use lib.Dec.{T}
 use borrow.Author.Tests.{le-leb}
 use denote.Ref.{RefT, now}
 use Rattle.text.specs.Text.{Bytes, between, every, printable, same}
-use Rattle.text.specs.Part.{NoPart}
 use Rattle.text.proofs.Tests.{by-test, less-or, T-true, T-false, between-high, same→eq, same-refl}
 use Rattle.text.proofs.Types.{printable-characters}
 use Rattle.text.proofs.Part.{same-part}
 use Rattle.numbers.specs.Numbers.{missingItem}
-use Rattle.format.specs.Kinds.{Kind, KEY, keyKinds}
+use Rattle.format.specs.Kinds.{KEY, keyKinds}
 use Rattle.format.specs.Attributes.{nameOf, areCards, hasName, cardsIn}
 use Rattle.format.specs.Build.{Fits, IsIdentity, Built}
-use Rattle.format.specs.Read.{Outcome, accepted, refused, place, readOf}
+use Rattle.format.specs.Read.{Outcome, accepted, refused, readOf}
 use Rattle.format.proofs.Attributes.{attributes-exact, listed-unique, its-cards, first-card, name-once}
 use Rattle.format.proofs.Fields.{fit-at}
 use Rattle.format.proofs.Exactly.{read-exact}
 use Rattle.fields.specs.Attributes.{listSaid, cardsSaid, attributePart, attributeNo, attributeStart, namedFrom, numberNamed, AttributeSaid, AttributePlaced}
 use Rattle.fields.specs.declared.Place.{Place}
+use Rattle.promises.proofs.Reading.{nothing, nowhere-refused, own-first}
 use Rattle.promises.specs.Attributes.{Wrapped, cardStart, IsCard, CardAt, Attributes}
 
 -- ---- names
@@ -128,34 +128,25 @@ module _ {s : Bytes} {fs cs : List Bytes} (w : Wrapped s fs cs) where
 
 -- ---- with a refusal
 
-no-card : (o : Outcome) (i : ℕ) → (attributeNo o i ≡ 0 → ⊥) → (attributeStart o i ≡ 0) × (attributePart o i ≡ [])
+no-card : (o : Outcome) (i : ℕ) → (attributeNo o i ≡ 0 → ⊥) → (0 ≡ attributeStart o i) × ([] ≡ attributePart o i)
 unfolding attributeNo attributeStart listSaid
 no-card (accepted k fs) i z =
     let cs : List Bytes = cardsIn (getD fs 1 []) in
     by-test (between 1 (length cs) i) (λ t. absurd (z (rw (T-true (between 1 (length cs) i) t))))
     (λ t. (rw (T-false (between 1 (length cs) i) t), outside cs i t))
   where
-    outside : (cs : List Bytes) (j : ℕ) → T (not (between 1 (length cs) j)) → getD ([] ∷ cs) j [] ≡ []
+    outside : (cs : List Bytes) (j : ℕ) → T (not (between 1 (length cs) j)) → [] ≡ getD ([] ∷ cs) j []
     outside cs zero t = refl
     outside cs (suc j) t =
         less-or j (length cs)
         (λ l. absurd (rw (le-leb 1 (suc j) (omega arith), le-leb (suc j) (length cs) l) at t))
-        (λ l. List·getD-eq-default cs [] l)
+        (λ l. sym (List·getD-eq-default cs [] l))
 no-card (refused n f) zero z = (refl, refl)
 no-card (refused n f) (suc i) z = (refl, refl)
 
-nothing : (o : Outcome) (i : ℕ) (lent r : RefT Bytes) (no field : ℕ) → AttributeSaid o i lent r no field → no ≢ 0 → NoPart lent r
-nothing o i lent r m f p n = let h = no-card o i (λ z. n (p .its-no ∙ z)) in same-part (h .0) (h .1) (p .its-part)
-
-nowhere : (o : Outcome) (i : ℕ) (s : Bytes) (r : Place) → AttributePlaced o i s r → r .no ≢ 0 → (r .start ≡ 0) × (r .len ≡ 0)
-nowhere o i s r p n =
-    let h = no-card o i (λ z. n (ap (λ (x : Place). x .no) (p .said) ∙ z)) in
-    (ap (λ (x : Place). x .start) (p .said) ∙ h .0, ap (λ (x : Place). x .len) (p .said) ∙ ap length (h .1))
-
-own-first : (o : Outcome) (i no field : ℕ) → no ≡ attributeNo o i → field ≡ place o
-    → ((n f : ℕ) → o ≡ refused n f → (no ≡ n) × (field ≡ f)) × ((k : Kind) (fs : List Bytes) → o ≡ accepted k fs → field ≡ 0)
+attribute-own : (wanted n i : ℕ) → attributeNo (refused n i) wanted ≡ n
 unfolding attributeNo
-own-first o i m j e f = (λ n g h. (e ∙ ap (λ (x : Outcome). attributeNo x i) h, f ∙ ap place h), λ k fs h. f ∙ ap place h)
+attribute-own wanted n i = refl
 
 -- ---- every wrapped key has such cards
 
@@ -176,12 +167,12 @@ attributes = record {
   place-by-number = λ κs a r s p fs cs w. placed w _ r p;
   by-name = λ κs a r s p fs cs w. by-name w _ _ _ (handed w _ r _ _ p);
   place-by-name = λ κs a r s p fs cs w. by-name w _ _ _ (placed w _ r p);
-  own = λ κs a r s p. own-first _ _ _ _ (p .its-no) (p .its-field);
-  place-own = λ κs a r s p. own-first _ _ _ _ (ap (λ (x : Place). x .no) (p .said)) (ap (λ (x : Place). x .field) (p .said));
-  named-own = λ κs a r s p. own-first _ _ _ _ (p .its-no) (p .its-field);
-  named-place-own = λ κs a r s p. own-first _ _ _ _ (ap (λ (x : Place). x .no) (p .said)) (ap (λ (x : Place). x .field) (p .said));
-  nothing = λ κs a r s p n. nothing _ _ _ _ _ _ p n;
-  nowhere = λ κs a r s p n. nowhere _ _ _ r p n;
-  named-nothing = λ κs a r s p n. nothing _ _ _ _ _ _ p n;
-  named-nowhere = λ κs a r s p n. nowhere _ _ _ r p n;
+  own = λ κs a r s p. own-first (λ o. attributeNo o (a .1 .0)) (attribute-own (a .1 .0)) _ _ _ (p .its-no) (p .its-field);
+  place-own = λ κs a r s p. own-first (λ o. attributeNo o (a .1 .0)) (attribute-own (a .1 .0)) _ _ _ (ap (λ (x : Place). x .no) (p .said)) (ap (λ (x : Place). x .field) (p .said));
+  named-own = λ κs a r s p. own-first (λ o. attributeNo o (numberNamed (now (a .1 .0)) (cardsSaid (readOf keyKinds (now (a .0)))))) (attribute-own (numberNamed (now (a .1 .0)) (cardsSaid (readOf keyKinds (now (a .0)))))) _ _ _ (p .its-no) (p .its-field);
+  named-place-own = λ κs a r s p. own-first (λ o. attributeNo o (numberNamed (now (a .1 .0)) (cardsSaid (readOf keyKinds (now (a .0)))))) (attribute-own (numberNamed (now (a .1 .0)) (cardsSaid (readOf keyKinds (now (a .0)))))) _ _ _ (ap (λ (x : Place). x .no) (p .said)) (ap (λ (x : Place). x .field) (p .said));
+  nothing = λ κs a r s p n. nothing _ _ _ _ (no-card (readOf keyKinds (now (a .0))) (a .1 .0)) _ _ _ _ p n;
+  nowhere = λ κs a r s p n. nowhere-refused _ _ _ _ (no-card (readOf keyKinds (now (a .0))) (a .1 .0)) _ r p n;
+  named-nothing = λ κs a r s p n. nothing _ _ _ _ (no-card (readOf keyKinds (now (a .0))) (numberNamed (now (a .1 .0)) (cardsSaid (readOf keyKinds (now (a .0)))))) _ _ _ _ p n;
+  named-nowhere = λ κs a r s p n. nowhere-refused _ _ _ _ (no-card (readOf keyKinds (now (a .0))) (numberNamed (now (a .1 .0)) (cardsSaid (readOf keyKinds (now (a .0)))))) _ r p n;
 }

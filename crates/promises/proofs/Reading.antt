@@ -1,7 +1,7 @@
 -- The reading promises, from the laws of format and the contracts of reading.
 -- Assumes nothing.
 use Prim.Native.Nat.{ℕ, _+_, _≤_, _<_}
-use mathlib.Core.Path.{_≡_, sym, ap, _∙_}
+use mathlib.Core.Path.{_≡_, refl, sym, ap, _∙_}
 use mathlib.Core.Logic.{_↔_, _≢_}
 use mathlib.Core.Bool.{cond}
 use mathlib.Core.List.{List, [], _∷_}
@@ -9,7 +9,7 @@ use native.Mathlib.Numerals.{add-one}
 use lib.Dec.{T}
 use native.Mathlib.Omega.{arith}
 use lib.ListN.{length, take, drop, getD, replicate, List·getD-eq-default}
-use denote.Ref.{RefT}
+use denote.Ref.{RefT, now}
 use Rattle.text.specs.Text.{Bytes, between, Ident}
 use Rattle.text.specs.Part.{Part, NoPart}
 use Rattle.text.proofs.Tests.{T-true}
@@ -28,7 +28,7 @@ use Rattle.reading.specs.declared.Answer.{Answer}
 use Rattle.reading.specs.Reading.{kindWithin, answerOf}
 use Rattle.reading.proofs.Types.{kinds-at}
 use Rattle.reading.proofs.Answers.{told}
-use Rattle.fields.specs.Fields.{wantedPart, wantedNo, wantedStart, startIn, FieldSaid, Placed}
+use Rattle.fields.specs.Fields.{wantedPart, wantedNo, wantedStart, startIn, PartSaid, PlaceSaid, FieldSaid, Placed}
 use Rattle.fields.specs.declared.Place.{Place}
 use Rattle.fields.proofs.Wanted.{no-field}
 use Rattle.promises.specs.Reading.{Reading}
@@ -92,20 +92,27 @@ no-places : (o : Outcome) (r : Answer) → r ≡ answerOf o → r .no ≢ 0
 no-places (accepted k fs) r e n = absurd (n (ap (λ (a : Answer). a .no) e))
 no-places (refused m i) r e n = (ap (λ (a : Answer). a .kind) e, ap (λ (a : Answer). a .starts) e, ap (λ (a : Answer). a .lens) e, ap (λ (a : Answer). a .kinds) e)
 
-nothing : (o : Outcome) (wanted : ℕ) (lent part : RefT Bytes) (no field : ℕ) → FieldSaid o wanted lent part no field → no ≢ 0 → NoPart lent part
-nothing o wanted lent part m i p n =
-    let h = no-field o wanted (λ z. n (p .its-no ∙ z)) in
-    same-part (sym (h .0)) (sym (h .1)) (p .its-part)
+-- ---- with a refusal: of a part that is said, where nothing stands with another number than 0
 
-nowhere-refused : (o : Outcome) (wanted : ℕ) (s : Bytes) (r : Place) → Placed o wanted s r → r .no ≢ 0 → (r .start ≡ 0) × (r .len ≡ 0)
-nowhere-refused o wanted s r p n =
-    let h = no-field o wanted (λ z. n (ap (λ (x : Place). x .no) (p .said) ∙ z)) in
+abbrev Nothing : ℕ → ℕ → Bytes → Type 0
+Nothing n start bytes = (n ≡ 0 → ⊥) → (0 ≡ start) × ([] ≡ bytes)
+
+pub nothing : (n f start : ℕ) (bytes : Bytes) → Nothing n start bytes → (lent part : RefT Bytes) (no field : ℕ) → PartSaid n f start bytes lent part no field → no ≢ 0 → NoPart lent part
+nothing n f start bytes none lent part m i p z = let h = none (λ e. z (p .its-no ∙ e)) in same-part (sym (h .0)) (sym (h .1)) (p .its-part)
+
+pub nowhere-refused : (n f start : ℕ) (bytes : Bytes) → Nothing n start bytes → (s : Bytes) (r : Place) → PlaceSaid n f start bytes s r → r .no ≢ 0 → (r .start ≡ 0) × (r .len ≡ 0)
+nowhere-refused n f start bytes none s r p z =
+    let h = none (λ e. z (ap (λ (x : Place). x .no) (p .said) ∙ e)) in
     (ap (λ (x : Place). x .start) (p .said) ∙ sym (h .0), ap (λ (x : Place). x .len) (p .said) ∙ sym (ap length (h .1)))
 
-own-first : (o : Outcome) (wanted no field : ℕ) → no ≡ wantedNo o wanted → field ≡ place o
+-- and where g gives a refusal's own number
+pub own-first : (g : Outcome → ℕ) → ((n i : ℕ) → g (refused n i) ≡ n) → (o : Outcome) (no field : ℕ) → no ≡ g o → field ≡ place o
     → ((n i : ℕ) → o ≡ refused n i → (no ≡ n) × (field ≡ i)) × ((k : Kind) (fs : List Bytes) → o ≡ accepted k fs → field ≡ 0)
+own-first g own o m j e f = (λ n i h. (e ∙ ap g h ∙ own n i, f ∙ ap place h), λ k fs h. f ∙ ap place h)
+
+wanted-own : (wanted n i : ℕ) → wantedNo (refused n i) wanted ≡ n
 unfolding wantedNo
-own-first o wanted m j e f = (λ n i h. (e ∙ ap (λ (x : Outcome). wantedNo x wanted) h, f ∙ ap place h), λ k fs h. f ∙ ap place h)
+wanted-own wanted n i = refl
 
 pub reading : Reading
 reading = record {
@@ -119,16 +126,16 @@ reading = record {
   record-no-places = λ κs a r s p n. no-places (readRecord _) r p n;
   identity-fields = λ κs a r s p. hands-back _ (Built identityKinds _) (identity-exact _) (identity-says _) _ _ _ _ _ p;
   record-fields = λ κs a r s p. hands-back _ (Built recordKinds _) (record-exact _) (record-says _) _ _ _ _ _ p;
-  identity-nothing = λ κs a r s p n. nothing _ _ _ _ _ _ p n;
-  record-nothing = λ κs a r s p n. nothing _ _ _ _ _ _ p n;
-  identity-field-own = λ κs a r s p. own-first _ _ _ _ (p .its-no) (p .its-field);
-  record-field-own = λ κs a r s p. own-first _ _ _ _ (p .its-no) (p .its-field);
-  identity-place-own = λ κs a r s p. own-first _ _ _ _ (ap (λ (x : Place). x .no) (p .said)) (ap (λ (x : Place). x .field) (p .said));
-  record-place-own = λ κs a r s p. own-first _ _ _ _ (ap (λ (x : Place). x .no) (p .said)) (ap (λ (x : Place). x .field) (p .said));
+  identity-nothing = λ κs a r s p n. nothing _ _ _ _ (no-field (readIdentity (now (a .0))) (a .1 .0)) _ _ _ _ p n;
+  record-nothing = λ κs a r s p n. nothing _ _ _ _ (no-field (readRecord (now (a .0))) (a .1 .0)) _ _ _ _ p n;
+  identity-field-own = λ κs a r s p. own-first (λ o. wantedNo o (a .1 .0)) (wanted-own (a .1 .0)) _ _ _ (p .its-no) (p .its-field);
+  record-field-own = λ κs a r s p. own-first (λ o. wantedNo o (a .1 .0)) (wanted-own (a .1 .0)) _ _ _ (p .its-no) (p .its-field);
+  identity-place-own = λ κs a r s p. own-first (λ o. wantedNo o (a .1 .0)) (wanted-own (a .1 .0)) _ _ _ (ap (λ (x : Place). x .no) (p .said)) (ap (λ (x : Place). x .field) (p .said));
+  record-place-own = λ κs a r s p. own-first (λ o. wantedNo o (a .1 .0)) (wanted-own (a .1 .0)) _ _ _ (ap (λ (x : Place). x .no) (p .said)) (ap (λ (x : Place). x .field) (p .said));
   identity-points = λ κs a r s p. points-to _ (Built identityKinds _) (identity-exact _) (identity-says _) _ _ r p;
   record-points = λ κs a r s p. points-to _ (Built recordKinds _) (record-exact _) (record-says _) _ _ r p;
-  identity-nowhere = λ κs a r s p n. nowhere-refused _ _ _ r p n;
-  record-nowhere = λ κs a r s p n. nowhere-refused _ _ _ r p n;
+  identity-nowhere = λ κs a r s p n. nowhere-refused _ _ _ _ (no-field (readIdentity (now (a .0))) (a .1 .0)) _ r p n;
+  record-nowhere = λ κs a r s p n. nowhere-refused _ _ _ _ (no-field (readRecord (now (a .0))) (a .1 .0)) _ r p n;
   unique = built-unique;
   longest = built-length;
   longest-other = built-shorter;

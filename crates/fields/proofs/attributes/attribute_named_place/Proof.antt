@@ -18,7 +18,7 @@ place-of-requires : tie.Need-place-of-requires
 place-of-requires c κs = search needs
 
 returns : tie.Need-returns
-returns c = named-so _ _ (c .before .number-named .ensures) (c .before .before .list-of .ensures) (c .place-of .ensures)
+returns c = named-so _ _ _ _ _ _ (c .before .number-named .ensures) (c .before .before .list-of .ensures) (c .place-of .ensures)
 
 pub attribute-named-place-spec : {M : Type 1} → statement M
 attribute-named-place-spec =
