@@ -61,7 +61,7 @@ fn nowhere(no: u8, field: u8) -> crate::Place
 }
 
 // Where the wanted card stands in the record that a reading call answered so.
-fn place_of(answer: reading::Answer, record: &[u8], wanted: usize) -> crate::Place
+fn card_place(answer: reading::Answer, record: &[u8], wanted: usize) -> crate::Place
     requires { ⌜ answer ≡ answerOf (readOf keyKinds (now «record»)) ⌝ }
     ensures { λ r. ⌜ AttributePlaced (readOf keyKinds (now («record» .entry))) wanted (now («record» .entry)) r ⌝ }
 {
@@ -93,8 +93,11 @@ fn place_of(answer: reading::Answer, record: &[u8], wanted: usize) -> crate::Pla
 pub fn attribute_place(record: &[u8], wanted: usize) -> crate::Place
     ensures { λ r. ⌜ AttributePlaced (readOf keyKinds (now («record» .entry))) wanted (now («record» .entry)) r ⌝ }
 {
-    let answer = reading::read_of(table::KEY, table::ROWS, record);
-    place_of(answer, record, wanted)
+    card_place(
+        reading::read_of(table::KEY, table::ROWS, record),
+        record,
+        wanted,
+    )
 }
 
 // The same of the attribute with a name, which is its card's first three characters; 12 where no card has it.
@@ -103,7 +106,7 @@ pub fn attribute_named_place(record: &[u8], name: &[u8]) -> crate::Place
 {
     let answer = reading::read_of(table::KEY, table::ROWS, record);
     let wanted = number_named(list_of(answer, record), name);
-    place_of(answer, record, wanted)
+    card_place(answer, record, wanted)
 }
 
 // The attribute that stands there, as a part of the caller's own bytes; with a refusal an empty one, at their front.

@@ -14,13 +14,13 @@ list-of-requires c κs = search needs
 number-named-requires : tie.Need-number-named-requires
 number-named-requires c κs = search needs
 
-place-of-requires : tie.Need-place-of-requires
-place-of-requires c κs = search needs
+card-place-requires : tie.Need-card-place-requires
+card-place-requires c κs = search needs
 
 returns : tie.Need-returns
-returns c = named-so _ _ _ _ _ _ (c .before .number-named .ensures) (c .before .before .list-of .ensures) (c .place-of .ensures)
+returns c = named-so _ _ _ _ _ _ (c .before .number-named .ensures) (c .before .before .list-of .ensures) (c .card-place .ensures)
 
 pub attribute-named-place-spec : {M : Type 1} → statement M
 attribute-named-place-spec =
     tie.close
-    (tie.spec read-of-requires list-of-requires number-named-requires place-of-requires returns)
+    (tie.spec read-of-requires list-of-requires number-named-requires card-place-requires returns)

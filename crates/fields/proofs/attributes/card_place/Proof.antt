@@ -1,11 +1,11 @@
--- `fields::attributes::place_of` meets its contract: the tests in a row.
+-- `fields::attributes::card_place` meets its contract: the tests in a row.
 -- Assumes nothing.
 use mathlib.Core.Path.{refl}
 use native.Mathlib.Omega.{arith}
 use Rattle.fields.proofs.Cards.{place-refused, place-zero, place-past, card-ends, card-within, place-there}
 use borrow.Author.Needs.{needs}
-use Rattle.fields.proofs.attributes.place_of.Statement.{statement}
-use Rattle.fields.proofs.attributes.place_of.Tie as tie
+use Rattle.fields.proofs.attributes.card_place.Statement.{statement}
+use Rattle.fields.proofs.attributes.card_place.Tie as tie
 
 nowhere-requires : tie.Need-nowhere-requires
 nowhere-requires c κs = search needs
@@ -57,8 +57,8 @@ sub-t19 c = card-ends _ _ (c .before .before .if3 .left) _ (c .before .next-mark
 returns-4 : tie.Need-returns-4
 returns-4 c = place-there _ _ _ (c .before .before .before .before .before .before .before .before .pre) (c .before .before .before .before .before .before .if1 .left) (c .before .before .before .before .before .if2 .left) _ (c .before .before .before .before .list-of .ensures) _ (c .before .before .before .part-start .ensures) (c .before .before .if3 .left) _ (c .before .next-mark .ensures) _ refl
 
-pub place-of-spec : {M : Type 1} → statement M
-place-of-spec =
+pub card-place-spec : {M : Type 1} → statement M
+card-place-spec =
     tie.close
     (tie.spec
     nowhere-requires
