@@ -150,7 +150,7 @@ attribute-own wanted n i = refl
 
 -- ---- every wrapped key has such cards
 
-wrapped : (s : Bytes) (fs : List Bytes) → Built keyKinds s KEY fs → Wrapped s fs (cardsIn (getD fs 1 [])) × T (every printable (getD fs 1 []))
+pub wrapped : (s : Bytes) (fs : List Bytes) → Built keyKinds s KEY fs → Wrapped s fs (cardsIn (getD fs 1 [])) × T (every printable (getD fs 1 []))
 unfolding Fits
 wrapped s fs b = (
   record { its-fields = b; its-cards = its-cards (getD fs 1 []) (b .permitted .attributes) },

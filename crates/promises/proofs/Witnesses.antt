@@ -12,7 +12,8 @@ use denote.Ref.{RefT, ptr, now}
 use lib.Dec.{T, eqb}
 use mir.Facts.{yes-and, yes-eqb}
 use Rattle.text.specs.Text.{Bytes, ascii, every, hexadecimal, TextType, Ident, Timestamp, Point, Sig, Mac, Print, Protected, Hex, isOf, looks, numberFrom, isIdent, isTimestamp, isHex, isPoint, isProtected}
-use Rattle.format.specs.Kinds.{Kind, KMCID, ECDH, REQ, identityKinds, recordKinds, pubkeyKinds}
+use Rattle.format.specs.Kinds.{Kind, KMCID, ECDH, REQ, KEY, identityKinds, recordKinds, pubkeyKinds, keyKinds}
+use Rattle.format.specs.Attributes.{cardsIn}
 use Rattle.format.specs.Build.{recordOf, IsIdentity, Permitted}
 use Rattle.format.specs.Read.{accepted, place, readIdentity, readRecord}
 use Rattle.format.proofs.Exactly.{identity-exact, read-exact, record-exact}
@@ -31,7 +32,9 @@ use Rattle.fields.specs.Fields.{wantedPart, wantedNo, wantedStart}
 use Rattle.promises.specs.Rebuilding as asked
 use Rattle.promises.specs.Rebuilding.{Asked, IdentityField, RecordField}
 use Rattle.promises.specs.Demand3.{Called, none, more}
-use Rattle.promises.specs.Worked.{centreIdFields, centreId, centreKeyFields, centreKey, requestFields, request, fieldsOfWorked, laterIdFields, laterKeyFields, laterKey}
+use Rattle.promises.specs.Worked.{centreIdFields, centreId, centreKeyFields, centreKey, requestFields, request, keyAttributes, keyFields, key, fieldsOfWorked, laterIdFields, laterKeyFields, laterKey}
+use Rattle.promises.specs.Attributes.{Wrapped}
+use Rattle.promises.proofs.Attributes.{wrapped}
 use Rattle.promises.proofs.Permitted.{names-permitted, permitted, unsigned, later-permitted, built-of}
 use Rattle.promises.proofs.DamagedFile.{damaged, caught}
 use Rattle.promises.specs.Witnesses.{Witnesses}
@@ -80,6 +83,12 @@ agreed = record { one = centre; other = later-centre; kinds = refl; manufacturer
 choices : (newer centreKey laterKey ≡ theSecond) × (newer laterKey centreKey ≡ theFirst) × (newer centreKey centreKey ≡ theFirst)
 unfolding centre later-centre key-of centreIdFields laterIdFields alike later numberFrom
 choices = (newer-keys _ _ centre later-centre, newer-keys _ _ later-centre centre, newer-keys _ _ centre centre)
+
+-- ---- a wrapped key
+
+wrapped-key : Wrapped key keyFields (cardsIn keyAttributes) × (length (cardsIn keyAttributes) ≡ 7)
+unfolding key keyFields keyAttributes fieldsOfWorked
+wrapped-key = (wrapped key keyFields (built-of keyKinds KEY keyFields tt (permitted KEY)) .0, refl)
 
 -- ---- calls and steps
 
@@ -168,6 +177,7 @@ witnesses = record {
   identity-asked = λ lent k fs e. ask-all (IdentityField lent) k fs (λ n. rw e at (identity-call lent n)) 0 fs refl;
   record-asked = λ lent k fs e. ask-all (RecordField lent) k fs (λ n. rw e at (record-call lent n)) 0 fs refl;
   requested = built-of (REQ ∷ []) REQ requestFields tt (permitted REQ);
+  wrapped-key = wrapped-key;
   agreed = agreed;
   second-newer = choices .0;
   first-newer = choices .1;

@@ -12,6 +12,7 @@ use Rattle.text.specs.Text.{Bytes, TextType, isOf}
 use Rattle.format.specs.Kinds.{Kind, ECDSA, ECDH, REQ, name, identityKinds, recordKinds, among}
 use Rattle.format.specs.Build.{recordOf, Permitted, Built}
 use Rattle.format.specs.Read.{accepted, readIdentity, readRecord}
+use Rattle.format.specs.Attributes.{cardsIn}
 use Rattle.format.specs.Damage.{Damaged}
 use Rattle.places.specs.Places.{lengths}
 use Rattle.building.specs.Building.{run, Builds}
@@ -21,9 +22,10 @@ use Rattle.files.specs.Walk.{numberOf}
 use Rattle.files.specs.Steps.{Steps}
 use Rattle.newer.specs.Keys.{Agreed}
 use Rattle.newer.specs.Newer.{theFirst, theSecond, newer}
+use Rattle.promises.specs.Attributes.{Wrapped}
 use Rattle.promises.specs.Demand3.{Called}
 use Rattle.promises.specs.Rebuilding.{Asked, IdentityField, RecordField}
-use Rattle.promises.specs.Worked.{fieldsOfWorked, unsignedKeyFields, centreKeyFields, centreKey, laterKey, requestFields, request, soundFile, damagedFile}
+use Rattle.promises.specs.Worked.{fieldsOfWorked, unsignedKeyFields, centreKeyFields, centreKey, laterKey, requestFields, request, keyAttributes, keyFields, key, soundFile, damagedFile}
 
 pub record Witnesses : Type 0 where
   -- every text type has a text
@@ -41,6 +43,8 @@ pub record Witnesses : Type 0 where
   pub record-asked : (lent : RefT Bytes) (k : Kind) (fs : List Bytes) → readRecord (now lent) ≡ accepted k fs → Asked (RecordField lent) 1 fs
   -- there is a request for the texts
   pub requested : Built (REQ ∷ []) request REQ requestFields
+  -- there is a wrapped key for the attribute calls, with its seven cards
+  pub wrapped-key : Wrapped key keyFields (cardsIn keyAttributes) × (length (cardsIn keyAttributes) ≡ 7)
   -- two public keys of one Subject: the second is the newer, the first is, and neither
   pub agreed : Agreed centreKey laterKey
   pub second-newer : newer centreKey laterKey ≡ theSecond

@@ -12,7 +12,7 @@ use lib.Dec.{T, eqb, ltb, eqb→eq, ltb→lt}
 use borrow.Author.Tests.{ne-eqb}
 use Rattle.text.specs.Text.{same, allOf}
 use Rattle.text.proofs.Tests.{allBelow, below, less-or, same→eq}
-use Rattle.format.specs.Kinds.{Kind, SMMAN, name, allKinds, pubkeyKinds, keyKinds, among}
+use Rattle.format.specs.Kinds.{Kind, SMMAN, name, allKinds, pubkeyKinds, among}
 use Rattle.format.proofs.Table.{name-inj, every-kind}
 use Rattle.table.specs.Table.{rowOf, missingRow, rowCount, rowFor, ofRow, isPubkey, rowAmong}
 
@@ -79,13 +79,6 @@ pubkey-rows row =
   where
     past : (n : ℕ) → rowCount ≤ n → (eqb n 3 || eqb n 4) ≡ isPubkey n
     past n l = rw (ne-eqb n 3 (λ z. omega arith), ne-eqb n 4 (λ z. omega arith), past-rows (λ k. among k pubkeyKinds) false n l)
-
-pub key-rows : (row : ℕ) → eqb row 7 ≡ ofRow (λ k. among k keyKinds) false row
-unfolding allBelow ofRow
-key-rows row =
-    less-or row rowCount
-    (λ h. same-bools (eqb row 7) (ofRow (λ k. among k keyKinds) false row) (below rowCount (λ n. Bool·beq (eqb n 7) (ofRow (λ k. among k keyKinds) false n)) tt row h))
-    (λ l. rw (ne-eqb row 7 (λ z. omega arith), past-rows (λ k. among k keyKinds) false row l))
 
 -- no two kinds have one name: a test of each kind against each
 same-names : (k j : Kind) → same (name k) (name j) ≡ eqb (rowOf k) (rowOf j)

@@ -1,13 +1,13 @@
 -- What holds of every text type: its characters are all ident characters, so that it has no mark and no line feed in it, and
 -- its length is one that the type admits.
 -- Assumes nothing.
-use Prim.Native.Nat.{ℕ, _%_, _<_}
+use Prim.Native.Nat.{ℕ, _%_}
 use mathlib.Core.Path.{_≡_, sym, subst}
 use mathlib.Core.Logic.{_⊎_, inl, inr}
 use mathlib.Core.Bool.{Bool, true, not, _&&_, _||_}
 use mathlib.Core.List.{[], _∷_}
 use native.Mathlib.Omega.{arith}
-use lib.Dec.{T, T-not, leb, eqb, eqb→eq, leb→le, le→leb}
+use lib.Dec.{T, T-not, leb, eqb, eqb→eq, le→leb}
 use lib.ListN.{length, take, drop, getD}
 use mir.Facts.{and-yes, yes-and, or-yes}
 use Rattle.text.specs.Text.{Bytes, ascii, between, oneOf, every, without, same, decimal, hexadecimal, alphanumeric, identCharacter, longestIdent, isIdent, fits, looks, isTimestamp, sized, isDigits, isAlphanumeric, printable, isPrintable, isProtected, isHex, isPoint, TextType, Ident, Timestamp, Point, Sig, Mac, Print, Protected, Hex, isOf, shortest, longest}
@@ -57,10 +57,6 @@ hex-characters n s t = and-yes (eqb (length s) n) (every hexadecimal s) t .1
 pub printable-characters : (s : Bytes) → T (isPrintable s) → T (every printable s)
 unfolding isPrintable
 printable-characters s t = and-yes (leb 1 (length s)) (every printable s) t .1
-
-pub printable-some : (s : Bytes) → T (isPrintable s) → 0 < length s
-unfolding isPrintable
-printable-some s t = leb→le 1 (length s) (and-yes (leb 1 (length s)) (every printable s) t .0)
 
 hex-plain : (n : ℕ) (s : Bytes) → T (isHex n s) → T (every identCharacter s)
 hex-plain n s t = every-mono hexadecimal identCharacter hexadecimal-ident s (hex-characters n s t)
