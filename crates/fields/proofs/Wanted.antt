@@ -70,7 +70,7 @@ wanted-few wanted row z h = rw (le-leb 1 wanted (omega (arith, z)), le-leb wante
 -- ---- where the field stands
 
 -- a number out of range: nothing, and no-field
-outside : (fs : List Bytes) (w : ℕ) → T (not (between 1 (length fs) w)) → [] ≡ getD ([] ∷ fs) w []
+pub outside : (fs : List Bytes) (w : ℕ) → T (not (between 1 (length fs) w)) → [] ≡ getD ([] ∷ fs) w []
 outside fs zero h = refl
 outside fs (suc w) h =
     less-or w (length fs)

@@ -37,24 +37,20 @@ module _ (P : ℕ → ℕ → Type 0) (z : P 0 0) where
   answered (accepted k fs) h = h
   answered (refused n i) h = h
 
+  or-missing : (b : Bool) → P missingItem 0 → P (cond b 0 missingItem) 0
+  or-missing true more = z
+  or-missing false more = more
+
   -- one field: 12 besides
   pub wanted-answered : (o : Outcome) (wanted : ℕ) → Of o → P missingItem 0 → P (wantedNo o wanted) (place o)
   unfolding wantedNo
-  wanted-answered (accepted k fs) wanted h more = go (between 1 (length fs) wanted)
-    where
-      go : (b : Bool) → P (cond b 0 missingItem) 0
-      go true = z
-      go false = more
+  wanted-answered (accepted k fs) wanted h more = or-missing (between 1 (length fs) wanted) more
   wanted-answered (refused n i) wanted h more = h
 
   -- one attribute: 12 besides
   pub attribute-answered : (o : Outcome) (wanted : ℕ) → Of o → P missingItem 0 → P (attributeNo o wanted) (place o)
   unfolding attributeNo
-  attribute-answered (accepted k fs) wanted h more = go (between 1 (length (cardsSaid (accepted k fs))) wanted)
-    where
-      go : (b : Bool) → P (cond b 0 missingItem) 0
-      go true = z
-      go false = more
+  attribute-answered (accepted k fs) wanted h more = or-missing (between 1 (length (cardsSaid (accepted k fs))) wanted) more
   attribute-answered (refused n i) wanted h more = h
 
   -- a text: 10 besides

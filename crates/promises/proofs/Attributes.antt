@@ -3,16 +3,15 @@
 use Prim.Native.Nat.{ℕ, zero, suc, _+_, _<_}
 use mathlib.Core.Path.{_≡_, refl, sym, ap, _∙_}
 use mathlib.Core.Logic.{_≢_}
-use mathlib.Core.Bool.{true, false, true≢false, not, cond}
+use mathlib.Core.Bool.{true, false, true≢false, cond}
 use mathlib.Core.List.{List, [], _∷_}
 use native.Mathlib.Omega.{arith}
 use native.Mathlib.Nat.{add-zero}
-use lib.ListN.{length, getD, List·getD-eq-default}
+use lib.ListN.{length, getD}
 use lib.Dec.{T}
-use borrow.Author.Tests.{le-leb}
 use denote.Ref.{RefT, now}
 use Rattle.text.specs.Text.{Bytes, between, every, printable, same}
-use Rattle.text.proofs.Tests.{by-test, less-or, T-true, T-false, between-high, same→eq, same-refl}
+use Rattle.text.proofs.Tests.{by-test, T-true, T-false, between-high, same→eq, same-refl}
 use Rattle.text.proofs.Types.{printable-characters}
 use Rattle.text.proofs.Part.{same-part}
 use Rattle.numbers.specs.Numbers.{missingItem}
@@ -25,6 +24,7 @@ use Rattle.format.proofs.Fields.{fit-at}
 use Rattle.format.proofs.Exactly.{read-exact}
 use Rattle.fields.specs.Attributes.{listSaid, cardsSaid, attributePart, attributeNo, attributeStart, namedFrom, numberNamed, AttributeSaid, AttributePlaced}
 use Rattle.fields.specs.declared.Place.{Place}
+use Rattle.fields.proofs.Wanted.{outside}
 use Rattle.promises.proofs.Reading.{nothing, nowhere-refused, own-first}
 use Rattle.promises.specs.Attributes.{Wrapped, cardStart, IsCard, CardAt, Attributes}
 
@@ -134,13 +134,6 @@ no-card (accepted k fs) i z =
     let cs : List Bytes = cardsIn (getD fs 1 []) in
     by-test (between 1 (length cs) i) (λ t. absurd (z (rw (T-true (between 1 (length cs) i) t))))
     (λ t. (rw (T-false (between 1 (length cs) i) t), outside cs i t))
-  where
-    outside : (cs : List Bytes) (j : ℕ) → T (not (between 1 (length cs) j)) → [] ≡ getD ([] ∷ cs) j []
-    outside cs zero t = refl
-    outside cs (suc j) t =
-        less-or j (length cs)
-        (λ l. absurd (rw (le-leb 1 (suc j) (omega arith), le-leb (suc j) (length cs) l) at t))
-        (λ l. sym (List·getD-eq-default cs [] l))
 no-card (refused n f) zero z = (refl, refl)
 no-card (refused n f) (suc i) z = (refl, refl)
 
