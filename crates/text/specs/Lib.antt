@@ -1,3 +1,4 @@
+pub mod Calendar
 pub mod Text
 pub mod Base16
 pub mod Later

@@ -1,4 +1,4 @@
--- The text types: document 01, "Text types", and document 02, E1; STS 600-4-2, clauses 5.1.1 to 5.1.4, 7.5 and Appendix B.
+-- The text types: document 01, "Text types", and document 02, E1 and E2; STS 600-4-2, clauses 5.1.1 to 5.1.4, 7.5 and Appendix B.
 -- A text is a list of bytes, and a type is a test of texts.
 -- Assumes nothing.
 use Prim.Native.Nat.{ℕ, _+_, _-_, _*_, _%_}
@@ -8,6 +8,7 @@ use mathlib.Core.Bool.{Bool, true, false, cond, not, _&&_, _||_}
 use mathlib.Core.List.{List, [], _∷_}
 use lib.ListN.{length, take, drop, getD}
 use lib.Dec.{leb, ltb, eqb}
+use Rattle.text.specs.Calendar.{daysOfMonth}
 
 abbrev pub Bytes : Type 0
 Bytes = List ℕ
@@ -95,7 +96,7 @@ identCharacter c = alphanumeric c || oneOf (ascii "_-.,") c
 unfoldable pub isIdent : Bytes → Bool
 isIdent s = allOf (between 1 longestIdent (length s) ∷ alphanumeric (getD s 0 0) ∷ every identCharacter (drop 1 s) ∷ [])
 
--- ---- TIMESTAMP (clause 5.1.4)
+-- ---- TIMESTAMP (clause 5.1.4; document 02, E2)
 
 -- in a pattern T and Z stand for themselves, and any other letter for a decimal digit
 abbrev pub fits : ℕ → ℕ → Bool
@@ -133,13 +134,13 @@ minute s = number (part 11 2 s)
 abbrev pub second : Bytes → ℕ
 second s = number (part 13 2 s)
 
--- every part in its range
+-- every part in its range, and the day one that exists in its month
 abbrev pub timestampTests : Bytes → List Bool
 timestampTests s =
     looks (ascii "YYYYMMDDThhmmssZ") s
     ∷ between 1 9999 (year s)
     ∷ between 1 12 (month s)
-    ∷ between 1 31 (day s)
+    ∷ between 1 (daysOfMonth (year s) (month s)) (day s)
     ∷ between 0 23 (hour s)
     ∷ between 0 59 (minute s)
     ∷ between 0 59 (second s)

@@ -1,8 +1,9 @@
-// TIMESTAMP (STS 600-4-2, clause 5.1.4).
+// TIMESTAMP (STS 600-4-2, clause 5.1.4; document 02, E2).
 ghost use mathlib.Core.Path.{_≡_};
 ghost use Prim.Native.Nat.{_+_, _-_, _≤_, _<_};
 ghost use lib.ListN.{length};
-ghost use Rattle.text.specs.Text.{after, between, fits, looks, number, part, year, isTimestamp};
+ghost use Rattle.text.specs.Calendar.{daysOfMonth};
+ghost use Rattle.text.specs.Text.{after, between, fits, looks, number, part, year, month, day, isTimestamp};
 
 // The byte c stands where a pattern has p: T and Z for themselves, any other letter for a digit.
 fn does_fit(p: u8, c: u8) -> bool
@@ -59,11 +60,27 @@ fn is_two_between(low: usize, high: usize, s: &[u8], i: usize) -> bool
     crate::alphabet::is_between(low, high, two(s, i))
 }
 
+fn year_of(s: &[u8]) -> usize
+    requires { ⌜ 4 ≤ length (now s) ⌝ }
+    ensures { λ r. ⌜ r ≡ year (now (s .entry)) ⌝ }
+{
+    100 * two(s, 0) + two(s, 2)
+}
+
 fn is_year(s: &[u8]) -> bool
     requires { ⌜ 4 ≤ length (now s) ⌝ }
     ensures { λ r. ⌜ r ≡ between 1 9999 (year (now (s .entry))) ⌝ }
 {
-    crate::alphabet::is_between(1, 9999, 100 * two(s, 0) + two(s, 2))
+    crate::alphabet::is_between(1, 9999, year_of(s))
+}
+
+// The day is one that exists in its month.
+fn is_day(s: &[u8]) -> bool
+    requires { ⌜ 8 ≤ length (now s) ⌝ }
+    ensures { λ r. ⌜ r ≡ between 1 (daysOfMonth (year (now (s .entry))) (month (now (s .entry)))) (day (now (s .entry))) ⌝ }
+{
+    let last = crate::calendar::days_of_month(year_of(s), two(s, 4));
+    is_two_between(1, last, s, 6)
 }
 
 // TIMESTAMP: YYYYMMDDThhmmssZ, every part in its range.
@@ -79,7 +96,7 @@ pub fn is_timestamp(s: &[u8]) -> bool
     if !is_two_between(1, 12, s, 4) {
         return false;
     }
-    if !is_two_between(1, 31, s, 6) {
+    if !is_day(s) {
         return false;
     }
     if !is_two_between(0, 23, s, 9) {

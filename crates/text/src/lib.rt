@@ -2,6 +2,7 @@
 // slice and answers; none has a `requires`. There is no table of digits.
 mod alphabet;
 mod base16;
+mod calendar;
 mod date;
 mod wrapped;
 

@@ -30,13 +30,13 @@ past3 : (c : tie.Else3) → isTimestamp (now (c .before .before .before .before 
 past3 c = past2 (c .before .before) ∙ and-on _ _ (sym (c .before .is-two-between .ensures) ∙ not-false _ (c .if3 .left))
 
 past4 : (c : tie.Else4) → isTimestamp (now (c .before .before .before .before .before .before .before .before .before .before .args .s)) ≡ left 4 (now (c .before .before .before .before .before .before .before .before .before .before .args .s))
-past4 c = past3 (c .before .before) ∙ and-on _ _ (sym (c .before .is-two-between2 .ensures) ∙ not-false _ (c .if4 .left))
+past4 c = past3 (c .before .before) ∙ and-on _ _ (sym (c .before .is-day .ensures) ∙ not-false _ (c .if4 .left))
 
 past5 : (c : tie.Else5) → isTimestamp (now (c .before .before .before .before .before .before .before .before .before .before .before .before .args .s)) ≡ left 5 (now (c .before .before .before .before .before .before .before .before .before .before .before .before .args .s))
-past5 c = past4 (c .before .before) ∙ and-on _ _ (sym (c .before .is-two-between3 .ensures) ∙ not-false _ (c .if5 .left))
+past5 c = past4 (c .before .before) ∙ and-on _ _ (sym (c .before .is-two-between2 .ensures) ∙ not-false _ (c .if5 .left))
 
 past6 : (c : tie.Else6) → isTimestamp (now (c .before .before .before .before .before .before .before .before .before .before .before .before .before .before .args .s)) ≡ left 6 (now (c .before .before .before .before .before .before .before .before .before .before .before .before .before .before .args .s))
-past6 c = past5 (c .before .before) ∙ and-on _ _ (sym (c .before .is-two-between4 .ensures) ∙ not-false _ (c .if6 .left))
+past6 c = past5 (c .before .before) ∙ and-on _ _ (sym (c .before .is-two-between3 .ensures) ∙ not-false _ (c .if6 .left))
 
 -- past the pattern: 16 bytes
 long : (c : tie.Else1) → length (now (c .before .before .before .before .args .s)) ≡ 16
@@ -66,29 +66,29 @@ is-two-between-requires c κs = omega (arith, long (c .before .before))
 returns-3 : tie.Need-returns-3
 returns-3 c = sym (past2 (c .before .before) ∙ and-stop _ _ (sym (c .before .is-two-between .ensures) ∙ not-true _ (c .if3 .taken)))
 
-is-two-between-requires-2 : tie.Need-is-two-between-requires-2
-is-two-between-requires-2 c κs = omega (arith, long (c .before .before .before .before))
+is-day-requires : tie.Need-is-day-requires
+is-day-requires c κs = omega (arith, long (c .before .before .before .before))
 
 returns-4 : tie.Need-returns-4
-returns-4 c = sym (past3 (c .before .before) ∙ and-stop _ _ (sym (c .before .is-two-between2 .ensures) ∙ not-true _ (c .if4 .taken)))
+returns-4 c = sym (past3 (c .before .before) ∙ and-stop _ _ (sym (c .before .is-day .ensures) ∙ not-true _ (c .if4 .taken)))
 
-is-two-between-requires-3 : tie.Need-is-two-between-requires-3
-is-two-between-requires-3 c κs = omega (arith, long (c .before .before .before .before .before .before))
+is-two-between-requires-2 : tie.Need-is-two-between-requires-2
+is-two-between-requires-2 c κs = omega (arith, long (c .before .before .before .before .before .before))
 
 returns-5 : tie.Need-returns-5
-returns-5 c = sym (past4 (c .before .before) ∙ and-stop _ _ (sym (c .before .is-two-between3 .ensures) ∙ not-true _ (c .if5 .taken)))
+returns-5 c = sym (past4 (c .before .before) ∙ and-stop _ _ (sym (c .before .is-two-between2 .ensures) ∙ not-true _ (c .if5 .taken)))
 
-is-two-between-requires-4 : tie.Need-is-two-between-requires-4
-is-two-between-requires-4 c κs = omega (arith, long (c .before .before .before .before .before .before .before .before))
+is-two-between-requires-3 : tie.Need-is-two-between-requires-3
+is-two-between-requires-3 c κs = omega (arith, long (c .before .before .before .before .before .before .before .before))
 
 returns-6 : tie.Need-returns-6
-returns-6 c = sym (past5 (c .before .before) ∙ and-stop _ _ (sym (c .before .is-two-between4 .ensures) ∙ not-true _ (c .if6 .taken)))
+returns-6 c = sym (past5 (c .before .before) ∙ and-stop _ _ (sym (c .before .is-two-between3 .ensures) ∙ not-true _ (c .if6 .taken)))
 
-is-two-between-requires-5 : tie.Need-is-two-between-requires-5
-is-two-between-requires-5 c κs = omega (arith, long (c .before .before .before .before .before .before .before .before .before .before))
+is-two-between-requires-4 : tie.Need-is-two-between-requires-4
+is-two-between-requires-4 c κs = omega (arith, long (c .before .before .before .before .before .before .before .before .before .before))
 
 returns-7 : tie.Need-returns-7
-returns-7 c = c .is-two-between5 .ensures ∙ sym (past6 (c .before) ∙ and-true _)
+returns-7 c = c .is-two-between4 .ensures ∙ sym (past6 (c .before) ∙ and-true _)
 
 pub is-timestamp-spec : {M : Type 1} → statement M
 is-timestamp-spec =
@@ -101,11 +101,11 @@ is-timestamp-spec =
     returns-2
     is-two-between-requires
     returns-3
-    is-two-between-requires-2
+    is-day-requires
     returns-4
-    is-two-between-requires-3
+    is-two-between-requires-2
     returns-5
-    is-two-between-requires-4
+    is-two-between-requires-3
     returns-6
-    is-two-between-requires-5
+    is-two-between-requires-4
     returns-7)
