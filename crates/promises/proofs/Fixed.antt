@@ -1,4 +1,4 @@
--- What document 01 fixes, each computed by the checker.
+-- What documents 01 and 02 fix, each computed by the checker.
 -- Assumes nothing.
 use mathlib.Core.Path.{refl}
 use mathlib.Core.List.{List, [], _∷_, _++_}
@@ -17,7 +17,7 @@ use Rattle.subjects.specs.Subjects.{alike}
 use Rattle.newer.specs.Newer.{newer}
 use Rattle.promises.specs.Values.{Value, AllCome, admittedFrom}
 use Rattle.promises.specs.Worked.{manufacturerIdFields, manufacturerId, moduleIdFields, moduleId, centreIdFields, centreId, manufacturerKeyFields, manufacturerKey, moduleKeyFields, moduleKey, centreKeyFields, centreKey, requestFields, request, responseFields, response, keyAttributes, keyFields, key, longAttributes}
-use Rattle.promises.specs.Fixed.{rows, alphabets, limits, labels, checks, numbers, building, texts, others, lists, keys, longKeys, fixed}
+use Rattle.promises.specs.Fixed.{rows, alphabets, limits, labels, checks, numbers, building, texts, others, lists, keys, longKeys, days, dates, fixed}
 
 -- two sets of values are one
 both : (vs us : List Value) → AllCome vs → AllCome us → AllCome (vs ++ us)
@@ -72,10 +72,20 @@ all-long-keys : AllCome longKeys
 unfolding longKeys longAttributes build buildOf buildAs manufacturerIdFields manufacturerId moduleIdFields moduleId centreIdFields centreId manufacturerKeyFields moduleKeyFields moduleKey centreKeyFields centreKey requestFields request responseFields response keyAttributes keyFields key recordOf withCheck checkText hexDigit crcOf addAll add bitSteps bitStep isIdent isTimestamp looks numberFrom isDigits isAlphanumeric isHex isPoint isPrintable isProtected isOctet isCard areAttributes checkNo identityAnswer fieldAnswer wholeAnswer judged readAs readOver readIdentity readOf readRecord
 all-long-keys = (refl, (refl, (refl, (refl, (refl, (refl, tt))))))
 
+all-days : AllCome days
+unfolding days isTimestamp looks numberFrom
+all-days = (refl, (refl, (refl, (refl, (refl, (refl, (refl, (refl, (refl, (refl, (refl, (refl, (refl, (refl, (refl, (refl, (refl, (refl, (refl, (refl, (refl, (refl, (refl, (refl, (refl, (refl, (refl, (refl, (refl, (refl, tt))))))))))))))))))))))))))))))
+
+all-dates : AllCome dates
+unfolding dates build buildOf buildAs moduleIdFields moduleId centreIdFields centreId centreKeyFields requestFields responseFields keyFields recordOf withCheck checkText hexDigit crcOf addAll add bitSteps bitStep isIdent isTimestamp looks numberFrom isDigits isAlphanumeric isHex isPoint isPrintable isProtected isOctet isCard areAttributes checkNo identityAnswer fieldAnswer wholeAnswer judged readAs readOver readIdentity readOf readRecord
+all-dates = (refl, (refl, (refl, (refl, (refl, (refl, (refl, (refl, (refl, (refl, (refl, (refl, (refl, (refl, (refl, tt)))))))))))))))
+
 pub all-fixed : AllCome fixed
 unfolding fixed
 all-fixed =
-    both (rows ++ alphabets ++ limits ++ labels ++ checks ++ numbers ++ building ++ texts ++ others ++ lists ++ keys) longKeys
+    both (rows ++ alphabets ++ limits ++ labels ++ checks ++ numbers ++ building ++ texts ++ others ++ lists ++ keys ++ longKeys ++ days) dates
+    (both (rows ++ alphabets ++ limits ++ labels ++ checks ++ numbers ++ building ++ texts ++ others ++ lists ++ keys ++ longKeys) days
+    (both (rows ++ alphabets ++ limits ++ labels ++ checks ++ numbers ++ building ++ texts ++ others ++ lists ++ keys) longKeys
     (both (rows ++ alphabets ++ limits ++ labels ++ checks ++ numbers ++ building ++ texts ++ others ++ lists) keys
     (both (rows ++ alphabets ++ limits ++ labels ++ checks ++ numbers ++ building ++ texts ++ others) lists
     (both (rows ++ alphabets ++ limits ++ labels ++ checks ++ numbers ++ building ++ texts) others
@@ -85,4 +95,4 @@ all-fixed =
     (both (rows ++ alphabets ++ limits ++ labels) checks
     (both (rows ++ alphabets ++ limits) labels
     (both (rows ++ alphabets) limits
-    (both rows alphabets all-rows all-alphabets) all-limits) all-labels) all-checks) all-numbers) all-building) all-texts) all-others) all-lists) all-keys) all-long-keys
+    (both rows alphabets all-rows all-alphabets) all-limits) all-labels) all-checks) all-numbers) all-building) all-texts) all-others) all-lists) all-keys) all-long-keys) all-days) all-dates

@@ -1,9 +1,9 @@
 -- What documents 01 and 02 fix beside 01's starred values: the table, the alphabets, the limits, the labels, 003's checks, the numbers, and
--- examples of each number and of their order; of attribute lists both sides of each rule. A definition that is changed together with the code changes here too, and that is seen.
+-- examples of each number and of their order; of attribute lists and of days both sides of each rule. A definition that is changed together with the code changes here too, and that is seen.
 -- proofs/Fixed.antt proves `AllCome fixed` by computing each.
 -- Assumes nothing.
 use Prim.Native.Char.{code}
-use mathlib.Core.Bool.{true, false}
+use mathlib.Core.Bool.{Bool, true, false}
 use mathlib.Core.List.{List, [], _∷_, _++_}
 use lib.ListN.{take, drop, replicate, set}
 use Rattle.numbers.specs.Numbers.{tooLong, unknownKind, missingCheck, wrongCheck, wrongCount, wrongText, wrongIdentity, unpaired, wrongKind, shortOutput, unfinished, missingItem, notAlike, wrongAttributes}
@@ -24,7 +24,7 @@ use Rattle.format.specs.Files.{lineFeed, lineAt}
 use Rattle.files.specs.Walk.{lineSaid, numberOf}
 use Rattle.newer.specs.Newer.{newer, choiceNo}
 use Rattle.promises.specs.Values.{Value, number, bytes, test, types, admitted}
-use Rattle.promises.specs.Worked.{manufacturerId, moduleIdFields, moduleId, centreId, manufacturerKeyFields, manufacturerKey, moduleKey, centreKeyFields, centreKey, requestFields, request, response, keyAttributes, keyFields, key, longAttributes}
+use Rattle.promises.specs.Worked.{manufacturerId, moduleIdFields, moduleId, centreId, manufacturerKeyFields, manufacturerKey, moduleKey, centreKeyFields, centreKey, requestFields, request, responseFields, response, keyAttributes, keyFields, key, longAttributes}
 
 -- ---- "Seven kinds of record": names, marks and field types, row by row
 
@@ -289,5 +289,78 @@ longKeys =
     ∷ bytes (buildKey (longAttributes 89)) (0 ∷ 0 ∷ [])
     ∷ []
 
+-- ---- document 02, E2: both sides of the end of every month, and of the rule for 29 February
+
+abbrev pub date : Bytes → Bool
+date s = isTimestamp (s ++ ascii "T000000Z")
+
+unfoldable pub days : List Value
+days =
+    test (date (ascii "20230131")) true
+    ∷ test (date (ascii "20230132")) false
+    ∷ test (date (ascii "20230228")) true
+    ∷ test (date (ascii "20230229")) false
+    ∷ test (date (ascii "20230331")) true
+    ∷ test (date (ascii "20230332")) false
+    ∷ test (date (ascii "20230430")) true
+    ∷ test (date (ascii "20230431")) false
+    ∷ test (date (ascii "20230531")) true
+    ∷ test (date (ascii "20230532")) false
+    ∷ test (date (ascii "20230630")) true
+    ∷ test (date (ascii "20230631")) false
+    ∷ test (date (ascii "20230731")) true
+    ∷ test (date (ascii "20230732")) false
+    ∷ test (date (ascii "20230831")) true
+    ∷ test (date (ascii "20230832")) false
+    ∷ test (date (ascii "20230930")) true
+    ∷ test (date (ascii "20230931")) false
+    ∷ test (date (ascii "20231031")) true
+    ∷ test (date (ascii "20231032")) false
+    ∷ test (date (ascii "20231130")) true
+    ∷ test (date (ascii "20231131")) false
+    ∷ test (date (ascii "20231231")) true
+    ∷ test (date (ascii "20231232")) false
+    ∷ test (date (ascii "19960229")) true
+    ∷ test (date (ascii "20000229")) true
+    ∷ test (date (ascii "24000229")) true
+    ∷ test (date (ascii "20000230")) false
+    ∷ test (date (ascii "19000229")) false
+    ∷ test (date (ascii "21000229")) false
+    ∷ []
+
+-- 003's records with another date, and its first wrapped key with other values of ACT and BDT and a card more
+abbrev pub madeAt : Bytes → Bytes
+madeAt gnt = recordOf SMID (set moduleIdFields 2 gnt)
+
+abbrev pub keyAt : Bytes → Bytes → Bytes → Bytes
+keyAt act bdt card =
+    recordOf KEY (withList (ascii "ACT" ++ act ++ ascii ";BDT" ++ bdt ++ ascii ";DKG02;" ++ card ++ ascii "KEN255;KRN1;KTC2;SGC0000123456;"))
+
+abbrev pub april31 : Bytes
+april31 = ascii "20230431T000000Z"
+
+abbrev pub leapDay : Bytes
+leapDay = ascii "20000229T000000Z"
+
+-- wherever a date stands: 6 with its field's number, inside an identity field 7, in an attribute list 14; EXP is no name whose value is a date
+unfoldable pub dates : List Value
+dates =
+    bytes (said (readIdentity (madeAt april31))) (6 ∷ 3 ∷ [])
+    ∷ bytes (said (readIdentity (madeAt leapDay))) (0 ∷ 0 ∷ [])
+    ∷ bytes (said (readRecord (recordOf RESP (set responseFields 1 (madeAt april31))))) (7 ∷ 2 ∷ [])
+    ∷ bytes (said (readRecord (recordOf RESP (set responseFields 1 (madeAt leapDay))))) (0 ∷ 0 ∷ [])
+    ∷ bytes (said (readRecord (recordOf ECDH (set centreKeyFields 2 april31)))) (6 ∷ 3 ∷ [])
+    ∷ bytes (said (readRecord (recordOf ECDH (set centreKeyFields 2 leapDay)))) (0 ∷ 0 ∷ [])
+    ∷ bytes (said (readRecord (recordOf REQ (set requestFields 2 april31)))) (6 ∷ 3 ∷ [])
+    ∷ bytes (said (readRecord (recordOf REQ (set requestFields 2 leapDay)))) (0 ∷ 0 ∷ [])
+    ∷ bytes (said (readRecord (recordOf RESP (set responseFields 2 april31)))) (6 ∷ 3 ∷ [])
+    ∷ bytes (saidOf (build (name SMID) (run (set moduleIdFields 2 april31)) (lengths moduleIdFields) 60)) (6 ∷ 3 ∷ [])
+    ∷ bytes (saidOf (build (name SMID) (run (set moduleIdFields 2 leapDay)) (lengths moduleIdFields) 60)) (0 ∷ 0 ∷ [])
+    ∷ bytes (said (readRecord (keyAt april31 leapDay []))) (14 ∷ 0 ∷ [])
+    ∷ bytes (said (readRecord (keyAt leapDay april31 []))) (14 ∷ 0 ∷ [])
+    ∷ bytes (said (readRecord (keyAt leapDay leapDay (ascii "IUT20230431T000000Z;")))) (14 ∷ 0 ∷ [])
+    ∷ bytes (said (readRecord (keyAt leapDay leapDay (ascii "EXP20230431T000000Z;IUT20000229T000000Z;")))) (0 ∷ 0 ∷ [])
+    ∷ []
+
 unfoldable pub fixed : List Value
-fixed = rows ++ alphabets ++ limits ++ labels ++ checks ++ numbers ++ building ++ texts ++ others ++ lists ++ keys ++ longKeys
+fixed = rows ++ alphabets ++ limits ++ labels ++ checks ++ numbers ++ building ++ texts ++ others ++ lists ++ keys ++ longKeys ++ days ++ dates
