@@ -104,10 +104,10 @@ fn show(label: &[u8], s: &[u8]) {
 
 // Room for the input, which has no more lines than it has bytes. The length is stated because a proof that looked at this
 // many zeros would be slow.
-const ROOM: usize = 131072;
+const ROOM: usize = 196608;
 
 fn room() -> [u8; ROOM]
-    ensures { λ r. ⌜ 131072 ≡ length r ⌝ }
+    ensures { λ r. ⌜ 196608 ≡ length r ⌝ }
 {
     [0; ROOM]
 }

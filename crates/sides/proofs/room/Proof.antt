@@ -7,7 +7,7 @@ use Rattle.sides.proofs.room.Statement.{statement}
 use Rattle.sides.proofs.room.Tie as tie
 
 returns : tie.Need-returns
-returns c = sym (length-replicate {A = ℕ} 131072 0)
+returns c = sym (length-replicate {A = ℕ} 196608 0)
 
 pub room-spec : {M : Type 1} → statement M
 room-spec = tie.close (tie.spec returns)

@@ -9,7 +9,7 @@ abbrev Inv-loop : tie.InvT-loop
 Inv-loop input line₀ line = Unit {0}
 
 abbrev μ-loop : tie.MeasureT-loop
-μ-loop input line₀ line = 131072 - line
+μ-loop input line₀ line = 196608 - line
 
 loop-holds : tie.Need-loop-holds Inv-loop μ-loop
 loop-holds c = search needs
