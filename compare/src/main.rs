@@ -18,7 +18,7 @@ const LEAST: usize = 20;
 /// The numbers given back: 0 to 14.
 const NUMBERS: usize = 15;
 /// What `crates/cases` has room for.
-const LONGEST_CASE_FILE: usize = 1_572_864;
+const LONGEST_CASE_FILE: usize = 2_097_152;
 
 /// The two files, and how often each call and each number occurs.
 struct Written {

@@ -35,20 +35,30 @@ pub fn is_ident(text: &[u8]) -> bool {
     }
 }
 
-/// TIMESTAMP: `YYYYMMDDThhmmssZ`; every month has 31 days, and there is no year 0000.
+/// TIMESTAMP: `YYYYMMDDThhmmssZ`; there is no year 0000, and the day is one of its month.
 pub fn is_timestamp(text: &[u8]) -> bool {
     let &[y1, y2, y3, y4, m1, m2, d1, d2, b'T', h1, h2, i1, i2, s1, s2, b'Z'] = text else {
         return false;
     };
-    let within = |digits: &[u8], least: u32, most: u32| {
-        decimal(digits).is_some_and(|number| (least..=most).contains(&number))
+    let within = |digits: &[u8], least: usize, most: usize| {
+        let number = decimal(digits).map(|number| number as usize);
+        number.filter(|number| (least..=most).contains(number))
     };
-    within(&[y1, y2, y3, y4], 1, 9999)
-        && within(&[m1, m2], 1, 12)
-        && within(&[d1, d2], 1, 31)
-        && within(&[h1, h2], 0, 23)
-        && within(&[i1, i2], 0, 59)
-        && within(&[s1, s2], 0, 59)
+    let (Some(year), Some(month)) = (within(&[y1, y2, y3, y4], 1, 9999), within(&[m1, m2], 1, 12))
+    else {
+        return false;
+    };
+    within(&[d1, d2], 1, days_of(year, month)).is_some()
+        && within(&[h1, h2], 0, 23).is_some()
+        && within(&[i1, i2], 0, 59).is_some()
+        && within(&[s1, s2], 0, 59).is_some()
+}
+
+/// The days of a month, 1 to 12, by the Gregorian calendar.
+pub fn days_of(year: usize, month: usize) -> usize {
+    const IN_A_COMMON_YEAR: [usize; 12] = [31, 28, 31, 30, 31, 30, 31, 31, 30, 31, 30, 31];
+    let is_leap = year % 4 == 0 && (year % 100 != 0 || year % 400 == 0);
+    IN_A_COMMON_YEAR[month - 1] + usize::from(is_leap && month == 2)
 }
 
 /// The number that a few decimal digits write, if that is what they are.

@@ -73,7 +73,7 @@ fn timestamps() {
         "00010101T000000Z",
         "99991231T115959Z",
         "99991231T235959Z",
-        "20180231T230000Z",
+        "20180228T230000Z",
         "20180101T005900Z",
     ] {
         assert!(is_timestamp(good.as_bytes()), "{good}");
@@ -85,6 +85,7 @@ fn timestamps() {
         "20181301T000000Z",
         "20180100T000000Z",
         "20180132T000000Z",
+        "20180231T230000Z",
         "20180101T240000Z",
         "20180101T006000Z",
         "20180101T000060Z",
@@ -97,6 +98,55 @@ fn timestamps() {
     ] {
         assert!(!is_timestamp(bad.as_bytes()), "{bad}");
     }
+}
+
+/// Request E2's days, and both ends of every month.
+#[test]
+fn days_that_exist() {
+    let is_date = |date: &str| is_timestamp(format!("{date}T000000Z").as_bytes());
+    let lasts = [31, 28, 31, 30, 31, 30, 31, 31, 30, 31, 30, 31];
+    for (month, last) in (1..).zip(lasts) {
+        for (day, exists) in [(0, false), (1, true), (last, true), (last + 1, false)] {
+            let date = format!("2023{month:02}{day:02}");
+            assert_eq!(is_date(&date), exists, "{date}");
+        }
+    }
+    for leap in ["00040229", "19960229", "20000229", "24000229"] {
+        assert!(is_date(leap), "{leap}");
+    }
+    for other in ["20230431", "01000229", "19000229", "20230229", "21000229", "20000230"] {
+        assert!(!is_date(other), "{other}");
+    }
+}
+
+/// Every day from the first to the last, counted by a rule without months of their own lengths: a year
+/// from March on has 153 days in every five months.
+#[test]
+fn all_days_in_a_row() {
+    const DAYS_OF_400_YEARS: usize = 146_097;
+    let mut number = 306;
+    let mut first = number;
+    for year in 1..=9999 {
+        for month in 1..=12 {
+            for day in 1..=31 {
+                let text = format!("{year:04}{month:02}{day:02}T000000Z");
+                if is_timestamp(text.as_bytes()) {
+                    assert_eq!(number, days_since_march_of_year_0(year, month, day), "{text}");
+                    number += 1;
+                }
+            }
+        }
+        if year % 400 == 0 {
+            assert_eq!(number - first, DAYS_OF_400_YEARS, "{year}");
+            first = number;
+        }
+    }
+    assert_eq!(number - 306, 3_652_059);
+}
+
+fn days_since_march_of_year_0(year: usize, month: usize, day: usize) -> usize {
+    let (year, month) = if month > 2 { (year, month - 3) } else { (year - 1, month + 9) };
+    365 * year + year / 4 - year / 100 + year / 400 + (153 * month + 2) / 5 + day - 1
 }
 
 #[test]

@@ -5,6 +5,7 @@ mod agreement;
 mod alphabets;
 mod attributes;
 mod building;
+mod dates;
 mod fields;
 mod files;
 mod lists;
@@ -44,6 +45,7 @@ pub fn all() -> Vec<Case> {
         wrapped::add,
         lists::add,
         attributes::add,
+        dates::add,
     ];
     let mut plan = Plan { cases: Vec::new(), random: Random::with_seed(0) };
     for (seed, add) in (1..).zip(groups) {

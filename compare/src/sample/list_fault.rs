@@ -1,6 +1,7 @@
 //! Attribute lists that are not permitted, though every byte in them is.
 
 use super::cards::{decimal, printable, unknown_name, Cards};
+use super::missing_day;
 use crate::attributes::{Content, CARD_END, KNOWN, LONGEST_VALUE, NAME_LENGTH};
 use crate::random::Random;
 
@@ -99,6 +100,7 @@ fn with_other_cards(random: &mut Random, fault: ListFault) -> Vec<u8> {
 /// A value that is nearly of this content.
 fn wrong_value(random: &mut Random, content: Content) -> Vec<u8> {
     match content {
+        Content::Timestamp if random.once_in(4) => missing_day(random),
         Content::Timestamp => {
             let nearly = ["", "20180101T240000Z", "20180132T000000Z", "20180101T000000"];
             random.one_of(&nearly).into()

@@ -22,7 +22,7 @@ use crate::kind::{FieldType, Kind};
 use crate::random::Random;
 use crate::record::LONGEST_READ;
 use crate::text::{
-    check_text, LONGEST_IDENT, LONGEST_PROTECTED, MAC_DIGITS, NONCE_DIGITS, POINT_DIGITS,
+    check_text, days_of, LONGEST_IDENT, LONGEST_PROTECTED, MAC_DIGITS, NONCE_DIGITS, POINT_DIGITS,
     PRINT_DIGITS, SHORTEST_PROTECTED, SIG_DIGITS,
 };
 
@@ -51,13 +51,29 @@ pub fn any_ident(random: &mut Random) -> Vec<u8> {
 
 /// A TIMESTAMP; each part is at a limit now and then.
 pub fn timestamp(random: &mut Random) -> Vec<u8> {
-    let mut part = |least: usize, most: usize| match random.below(8) {
+    let (year, month) = (part(random, 1, 9999), part(random, 1, 12));
+    let day = part(random, 1, days_of(year, month));
+    at_some_time(random, year, month, day)
+}
+
+/// A text that would be a TIMESTAMP if every month had 31 days.
+pub fn missing_day(random: &mut Random) -> Vec<u8> {
+    let (year, month) = (part(random, 1, 9999), random.one_of(&[2, 2, 4, 6, 9, 11]));
+    let day = part(random, days_of(year, month) + 1, 31);
+    at_some_time(random, year, month, day)
+}
+
+/// A number from `least` to `most`; one of the two now and then.
+fn part(random: &mut Random, least: usize, most: usize) -> usize {
+    match random.below(8) {
         0 => least,
         1 => most,
         _ => random.between(least, most),
-    };
-    let (year, month, day) = (part(1, 9999), part(1, 12), part(1, 31));
-    let (hour, minute, second) = (part(0, 23), part(0, 59), part(0, 59));
+    }
+}
+
+fn at_some_time(random: &mut Random, year: usize, month: usize, day: usize) -> Vec<u8> {
+    let (hour, minute, second) = (part(random, 0, 23), part(random, 0, 59), part(random, 0, 59));
     format!("{year:04}{month:02}{day:02}T{hour:02}{minute:02}{second:02}Z").into()
 }
 
@@ -262,6 +278,7 @@ mod tests {
     use super::*;
     use crate::build::build;
     use crate::record::read;
+    use crate::text::is_timestamp;
 
     #[test]
     fn samples_are_accepted_and_the_builder_gives_the_same_bytes() {
@@ -282,6 +299,17 @@ mod tests {
                 assert_eq!(built, Ok(record.len()));
                 assert_eq!(output, record);
             }
+        }
+    }
+
+    #[test]
+    fn nothing_but_the_day_is_wrong_where_a_day_is_missing() {
+        let mut random = Random::with_seed(8);
+        for _ in 0..500 {
+            let mut text = missing_day(&mut random);
+            assert!(!is_timestamp(&text) && text[6..8] <= b"31"[..], "{text:?}");
+            text[6..8].copy_from_slice(b"01");
+            assert!(is_timestamp(&text), "{text:?}");
         }
     }
 

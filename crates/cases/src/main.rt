@@ -12,10 +12,10 @@ ghost use mathlib.Core.Path.{_≡_};
 ghost use lib.ListN.{length};
 
 // Room for the case file. The length is stated because a proof that looked at this many zeros would be slow.
-fn room() -> [u8; 1572864]
-    ensures { λ r. ⌜ 1572864 ≡ length r ⌝ }
+fn room() -> [u8; 2097152]
+    ensures { λ r. ⌜ 2097152 ≡ length r ⌝ }
 {
-    [0; 1572864]
+    [0; 2097152]
 }
 
 // One case, by its head: the call, its number n, and its label and its strings a, b and c. An output that is lent has n
