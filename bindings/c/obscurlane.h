@@ -37,9 +37,9 @@
 #include <stddef.h>
 #include <stdint.h>
 
-#define OBSCURLANE_VERSION "0.3.0"
+#define OBSCURLANE_VERSION "0.4.0"
 #define OBSCURLANE_VERSION_MAJOR 0
-#define OBSCURLANE_VERSION_MINOR 3
+#define OBSCURLANE_VERSION_MINOR 4
 #define OBSCURLANE_VERSION_PATCH 0
 
 #ifdef __cplusplus
@@ -331,7 +331,8 @@ uint16_t obscurlane_crc_end(uint16_t state);
 /* IDENT: 1 to OBSCURLANE_LONGEST_IDENT characters, the first alphanumeric, the others alphanumeric or one of _ - . , */
 bool obscurlane_is_ident(const uint8_t *s, size_t s_len);
 
-/* TIMESTAMP: YYYYMMDDThhmmssZ; year from 0001, month 01 to 12, day 01 to 31, hour 00 to 23, minute and second 00 to 59. */
+/* TIMESTAMP: YYYYMMDDThhmmssZ; year from 0001, month 01 to 12, a day that exists in that month of that year by the Gregorian
+ * calendar, hour 00 to 23, minute and second 00 to 59. So 20230431T000000Z is none, and 20000229T000000Z is one. */
 bool obscurlane_is_timestamp(const uint8_t *s, size_t s_len);
 
 /* HEX(n): exactly n characters 0-9 and A-F. Small letters are refused. */

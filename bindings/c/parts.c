@@ -25,6 +25,7 @@ static void types(void)
     EXPECT(!obscurlane_is_ident(BYTES("")) && !obscurlane_is_ident(BYTES("_A")));
     EXPECT(obscurlane_is_timestamp(BYTES("20180120T235959Z")));
     EXPECT(!obscurlane_is_timestamp(BYTES("20180120T240000Z")));
+    EXPECT(obscurlane_is_timestamp(BYTES("99991231T115959Z")));
     EXPECT(obscurlane_is_print(BYTES("320C265FDC769D3E")) && !obscurlane_is_print(BYTES("320C265FDC769D3")));
     EXPECT(obscurlane_is_hex(2, BYTES("0A")) && !obscurlane_is_hex(2, BYTES("0a")));
     EXPECT(obscurlane_is_hex(0, BYTES("")) && !obscurlane_is_hex(3, BYTES("0A")));
@@ -39,6 +40,71 @@ static void types(void)
     EXPECT(obscurlane_is_mac(digits, 48) && !obscurlane_is_mac(digits, 49));
     digits[1] = '2';
     EXPECT(!obscurlane_is_point(digits, 194));
+}
+
+/* ---- days: both sides of every month's end, and 29 February */
+
+static bool exists(int year, int month, int day)
+{
+    char text[40];
+    int length = snprintf(text, sizeof text, "%04d%02d%02dT000000Z", year, month, day);
+    EXPECT(length == 16);
+    return obscurlane_is_timestamp((const uint8_t *)text, 16);
+}
+
+static void days(void)
+{
+    static const int lasts[] = {31, 28, 31, 30, 31, 30, 31, 31, 30, 31, 30, 31};
+    for (int month = 1; month <= 12; month++) {
+        int last = lasts[month - 1];
+        EXPECT(!exists(2023, month, 0) && exists(2023, month, 1));
+        EXPECT(exists(2023, month, last) && !exists(2023, month, last + 1));
+    }
+    EXPECT(exists(1996, 2, 29) && exists(2000, 2, 29) && exists(2400, 2, 29));
+    EXPECT(!exists(1900, 2, 29) && !exists(2023, 2, 29) && !exists(2100, 2, 29) && !exists(2000, 2, 30));
+}
+
+/* Reads a worked record in which a text took the place of one as long, with the check made right again. */
+static obscurlane_answer read_with(const char *worked, const char *old, const char *text)
+{
+    char record[OBSCURLANE_LONGEST_READ];
+    size_t length = strlen(worked), check = length - 4;
+    memcpy(record, worked, length + 1);
+    memcpy(strstr(record, old), text, strlen(text));
+    EXPECT(strlen(old) == strlen(text) && length < sizeof record);
+    (void)snprintf(record + check, 5, "%04X", (unsigned)obscurlane_crc_of((const uint8_t *)record, check));
+    return strncmp(worked, "SMID.1:", 7) == 0 ? obscurlane_read_identity((const uint8_t *)record, length)
+                                              : obscurlane_read_record((const uint8_t *)record, length);
+}
+
+#define GNT_SM "20180120T090000Z"
+#define INSIDE ":" GNT_SM ":320C265FDC769D3E:8EFF"
+
+/* Wherever a date stands: one that does not exist, one that does, and the number and the field's of the first. */
+static const struct {
+    const char *worked, *old, *missing, *there;
+    uint8_t no, field;
+} dates[] = {
+    {WORKED_ID_SM, GNT_SM, "20230431T000000Z", "20000229T000000Z", OBSCURLANE_WRONG_TEXT, OBSCURLANE_IDENTITY_GNT},
+    {WORKED_RESPONSE, INSIDE, ":20230431T000000Z:320C265FDC769D3E:8449", ":20000229T000000Z:320C265FDC769D3E:4E84",
+     OBSCURLANE_WRONG_IDENTITY, OBSCURLANE_RESP_ID_SM},
+    {WORKED_RESPONSE, "20180125T150000Z", "20230431T000000Z", "20000229T000000Z", OBSCURLANE_WRONG_TEXT, OBSCURLANE_RESP_TVP},
+    {WORKED_REQUEST, "20180125T150000Z", "20230431T000000Z", "20000229T000000Z", OBSCURLANE_WRONG_TEXT, OBSCURLANE_REQ_TVP},
+    {WORKED_KEY_CENTRE, "20210110T120000Z", "20230431T000000Z", "20000229T000000Z", OBSCURLANE_WRONG_TEXT,
+     OBSCURLANE_PUBKEY_EXPIRY},
+    {WORKED_WRAPPED_1, "ACT19930101", "ACT20230431", "ACT20000229", OBSCURLANE_WRONG_ATTRIBUTES, 0},
+    {WORKED_WRAPPED_1, "BDT19930101", "BDT20230431", "BDT20000229", OBSCURLANE_WRONG_ATTRIBUTES, 0},
+    {WORKED_WRAPPED_2, "IUT20990101", "IUT20230431", "IUT20000229", OBSCURLANE_WRONG_ATTRIBUTES, 0},
+};
+
+static void missing_days(void)
+{
+    for (size_t i = 0; i < COUNT_OF(dates); i++) {
+        obscurlane_answer said = read_with(dates[i].worked, dates[i].old, dates[i].missing);
+        EXPECT(said.no == dates[i].no && said.field == dates[i].field && said.kind == OBSCURLANE_KIND_NONE);
+        EXPECT(read_with(dates[i].worked, dates[i].old, dates[i].there).no == OBSCURLANE_ACCEPTED);
+    }
+    EXPECT(read_with(WORKED_WRAPPED_2, "EXP20990101", "EXP20230431").no == OBSCURLANE_ACCEPTED);
 }
 
 /* ---- files */
@@ -198,6 +264,8 @@ void call_parts(void)
 {
     check();
     types();
+    days();
+    missing_days();
     files();
     names();
     version();

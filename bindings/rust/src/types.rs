@@ -15,11 +15,12 @@ pub fn is_ident(text: &[u8]) -> bool {
     sys::is_ident(text)
 }
 
-/// TIMESTAMP: `YYYYMMDDThhmmssZ`, every part in its range; every month has 31 days.
+/// TIMESTAMP: `YYYYMMDDThhmmssZ`, every part in its range, and the day one that exists in its month by the Gregorian calendar.
 ///
 /// ```
 /// assert!(obscurlane::is_timestamp(b"20180120T235959Z"));
 /// assert!(!obscurlane::is_timestamp(b"20180120T240000Z"));
+/// assert!(!obscurlane::is_timestamp(b"20230431T000000Z"));
 /// ```
 #[must_use]
 #[inline]

@@ -32,9 +32,10 @@ fn text_types() {
     let mut accepted = 0;
     for _ in 0..rounds() {
         let length = random.one_of(&[0, 1, 4, 16, 48, 192, 194]);
-        let whole = match random.below(5) {
+        let whole = match random.below(6) {
             0 => sample::point(&mut random),
             1 => sample::timestamp(&mut random),
+            5 => sample::missing_day(&mut random),
             2 => sample::hex(&mut random, length),
             3 => {
                 let length = random.between(1, text::LONGEST_IDENT + 2);

@@ -43,7 +43,14 @@ fn text_types() {
     let mut random = Random::with_seed(61);
     let idents = [1, 2, 3, text::LONGEST_IDENT].map(|length| sample::ident(&mut random, length));
     same_type(obscurlane::is_ident, text::is_ident, &idents);
-    let times = ["00010101T000000Z", "20180120T090000Z", "19991231T235959Z", "20181029T195959Z"];
+    let times = [
+        "00010101T000000Z",
+        "20180120T090000Z",
+        "19991231T235959Z",
+        "20181029T195959Z",
+        "20000229T000000Z",
+        "20230430T235959Z",
+    ];
     same_type(obscurlane::is_timestamp, text::is_timestamp, &times.map(Into::into));
     same_type(obscurlane::is_point, text::is_point, &[sample::point(&mut random)]);
     let mut digits = |length: usize| [sample::hex(&mut random, length)];
@@ -62,8 +69,9 @@ fn text_types() {
 fn neighbours_in_texts() {
     type Type = fn(&[u8]) -> bool;
     let point = sample::point(&mut Random::with_seed(65));
-    let types: [(Type, Type, &[u8], usize); 3] = [
+    let types: [(Type, Type, &[u8], usize); 4] = [
         (obscurlane::is_timestamp, text::is_timestamp, b"20181231T235959Z", 16),
+        (obscurlane::is_timestamp, text::is_timestamp, b"20000229T235959Z", 8),
         (obscurlane::is_ident, text::is_ident, b"Ab0", 3),
         (obscurlane::is_point, text::is_point, &point, 3),
     ];

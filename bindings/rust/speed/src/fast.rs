@@ -135,10 +135,19 @@ fn is_timestamp(text: &[u8; 16]) -> bool {
     };
     (high, low) != (0, 0)
         && (1..=12).contains(&month)
-        && (1..=31).contains(&day)
+        && (1..=days_of(high, low, month)).contains(&day)
         && hour < 24
         && minute < 60
         && second < 60
+}
+
+/// The days of a month in the year of these four digits: one that ends a century is leap by its first two.
+fn days_of(high: u8, low: u8, month: u8) -> u8 {
+    let is_leap = if low == 0 { high % 4 == 0 } else { low % 4 == 0 };
+    match month {
+        2 => 28 + u8::from(is_leap),
+        _ => 30 + (month + month / 8) % 2,
+    }
 }
 
 // ---- the attributes of a wrapped key

@@ -69,13 +69,24 @@ fn is_timestamp(text: &[u8]) -> bool {
     };
     let digits = [y1, y2, y3, y4, m1, m2, d1, d2, h1, h2, i1, i2, s1, s2];
     let two = |high: u8, low: u8| 10 * (high - b'0') + (low - b'0');
+    let year = || 100 * u16::from(two(y1, y2)) + u16::from(two(y3, y4));
     digits.iter().all(u8::is_ascii_digit)
-        && (two(y1, y2), two(y3, y4)) != (0, 0)
+        && year() != 0
         && (1..=12).contains(&two(m1, m2))
-        && (1..=31).contains(&two(d1, d2))
+        && (1..=days_of(year(), two(m1, m2))).contains(&two(d1, d2))
         && two(h1, h2) < 24
         && two(i1, i2) < 60
         && two(s1, s2) < 60
+}
+
+fn days_of(year: u16, month: u8) -> u8 {
+    let is_leap = (year % 4 == 0 && year % 100 != 0) || year % 400 == 0;
+    match month {
+        2 if is_leap => 29,
+        2 => 28,
+        4 | 6 | 9 | 11 => 30,
+        _ => 31,
+    }
 }
 
 fn is_printable(text: &[u8]) -> bool {
