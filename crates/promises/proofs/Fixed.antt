@@ -19,80 +19,74 @@ use Rattle.promises.specs.Values.{Value, AllCome, admittedFrom}
 use Rattle.promises.specs.Worked.{manufacturerIdFields, manufacturerId, moduleIdFields, moduleId, centreIdFields, centreId, manufacturerKeyFields, manufacturerKey, moduleKeyFields, moduleKey, centreKeyFields, centreKey, requestFields, request, responseFields, response, keyAttributes, keyFields, key, longAttributes}
 use Rattle.promises.specs.Fixed.{rows, alphabets, limits, labels, checks, numbers, building, texts, others, lists, keys, longKeys, days, dates, fixed}
 
--- two sets of values are one
+-- two sets of values are one; a record, so that the checker finds which two
+record Come (vs : List Value) : Type 0 where
+  come : AllCome vs
+
 both : (vs us : List Value) → AllCome vs → AllCome us → AllCome (vs ++ us)
 both [] us p q = q
 both (v ∷ vs) us p q = (p .0, both vs us (p .1) q)
 
-all-rows : AllCome rows
+infixl 65 _and_
+_and_ : {vs us : List Value} → Come vs → Come us → Come (vs ++ us)
+_and_ {vs} {us} p q = record { come = both vs us (p .come) (q .come) }
+
+all-rows : Come rows
 unfolding rows
-all-rows = (refl, (refl, (refl, (refl, (refl, (refl, (refl, (refl, (refl, (refl, (refl, (refl, (refl, (refl, (refl, (refl, (refl, (refl, tt))))))))))))))))))
+all-rows = record { come = (refl, (refl, (refl, (refl, (refl, (refl, (refl, (refl, (refl, (refl, (refl, (refl, (refl, (refl, (refl, (refl, (refl, (refl, tt)))))))))))))))))) }
 
-all-alphabets : AllCome alphabets
+all-alphabets : Come alphabets
 unfolding alphabets admittedFrom isIdent isTimestamp looks numberFrom isHex isPrintable
-all-alphabets = (refl, (refl, (refl, (refl, (refl, (refl, (refl, (refl, (refl, (refl, (refl, (refl, (refl, (refl, (refl, (refl, (refl, (refl, tt))))))))))))))))))
+all-alphabets = record { come = (refl, (refl, (refl, (refl, (refl, (refl, (refl, (refl, (refl, (refl, (refl, (refl, (refl, (refl, (refl, (refl, (refl, (refl, tt)))))))))))))))))) }
 
-all-limits : AllCome limits
+all-limits : Come limits
 unfolding limits isIdent isTimestamp looks numberFrom isHex isPoint isProtected readRecord readOf readIdentity readOver
-all-limits = (refl, (refl, (refl, (refl, (refl, (refl, (refl, (refl, (refl, (refl, (refl, (refl, (refl, (refl, (refl, (refl, (refl, (refl, (refl, (refl, (refl, (refl, (refl, (refl, tt))))))))))))))))))))))))
+all-limits = record { come = (refl, (refl, (refl, (refl, (refl, (refl, (refl, (refl, (refl, (refl, (refl, (refl, (refl, (refl, (refl, (refl, (refl, (refl, (refl, (refl, (refl, (refl, (refl, (refl, tt)))))))))))))))))))))))) }
 
-all-labels : AllCome labels
+all-labels : Come labels
 unfolding labels requestFields
-all-labels = (refl, (refl, (refl, tt)))
+all-labels = record { come = (refl, (refl, (refl, tt))) }
 
-all-checks : AllCome checks
+all-checks : Come checks
 unfolding checks keyAttributes keyFields key manufacturerIdFields manufacturerId moduleIdFields moduleId centreIdFields centreId manufacturerKeyFields manufacturerKey moduleKeyFields moduleKey centreKeyFields centreKey requestFields request responseFields response recordOf withCheck checkText hexDigit crcOf addAll add bitSteps bitStep
-all-checks = (refl, (refl, (refl, (refl, (refl, (refl, (refl, (refl, (refl, tt)))))))))
+all-checks = record { come = (refl, (refl, (refl, (refl, (refl, (refl, (refl, (refl, (refl, tt))))))))) }
 
-all-numbers : AllCome numbers
+all-numbers : Come numbers
 unfolding numbers manufacturerIdFields manufacturerId moduleIdFields moduleId centreIdFields centreId manufacturerKeyFields centreKeyFields centreKey recordOf withCheck checkText hexDigit crcOf addAll add bitSteps bitStep isIdent isTimestamp looks numberFrom isHex isPoint checkNo identityAnswer fieldAnswer wholeAnswer judged readAs readOver readIdentity readOf readRecord
-all-numbers = (refl, (refl, (refl, (refl, (refl, (refl, (refl, (refl, (refl, (refl, (refl, (refl, (refl, (refl, tt))))))))))))))
+all-numbers = record { come = (refl, (refl, (refl, (refl, (refl, (refl, (refl, (refl, (refl, (refl, (refl, (refl, (refl, (refl, tt)))))))))))))) }
 
-all-building : AllCome building
+all-building : Come building
 unfolding building build buildOf buildAs manufacturerIdFields manufacturerId moduleIdFields moduleId centreIdFields centreId manufacturerKeyFields moduleKeyFields moduleKey centreKeyFields centreKey requestFields request responseFields response recordOf withCheck checkText hexDigit crcOf addAll add bitSteps bitStep isIdent isTimestamp looks numberFrom isHex isPoint checkNo identityAnswer fieldAnswer wholeAnswer judged readAs readOver readIdentity readOf readRecord
-all-building = (refl, (refl, (refl, (refl, (refl, (refl, (refl, (refl, tt))))))))
+all-building = record { come = (refl, (refl, (refl, (refl, (refl, (refl, (refl, (refl, tt)))))))) }
 
-all-texts : AllCome texts
+all-texts : Come texts
 unfolding texts sharedInfo moduleText centreText manufacturerIdFields manufacturerId moduleIdFields moduleId centreIdFields centreId manufacturerKeyFields moduleKeyFields moduleKey centreKeyFields centreKey requestFields request responseFields response recordOf withCheck checkText hexDigit crcOf addAll add bitSteps bitStep isIdent isTimestamp looks numberFrom isHex isPoint checkNo identityAnswer fieldAnswer wholeAnswer judged readAs readOver readIdentity readOf readRecord
-all-texts = (refl, (refl, (refl, (refl, tt))))
+all-texts = record { come = (refl, (refl, (refl, (refl, tt)))) }
 
-all-others : AllCome others
+all-others : Come others
 unfolding others wantedNo lineAt lineOf newer alike manufacturerIdFields manufacturerId moduleIdFields moduleId centreIdFields centreId manufacturerKeyFields moduleKeyFields moduleKey centreKeyFields centreKey requestFields request responseFields response recordOf withCheck checkText hexDigit crcOf addAll add bitSteps bitStep isIdent isTimestamp looks numberFrom isHex isPoint checkNo identityAnswer fieldAnswer wholeAnswer judged readAs readOver readIdentity readOf readRecord
-all-others = (refl, (refl, (refl, (refl, (refl, (refl, (refl, (refl, tt))))))))
+all-others = record { come = (refl, (refl, (refl, (refl, (refl, (refl, (refl, (refl, tt)))))))) }
 
-all-lists : AllCome lists
+all-lists : Come lists
 unfolding lists keyAttributes isTimestamp looks numberFrom isDigits isAlphanumeric isOctet isCard areAttributes
-all-lists = (refl, (refl, (refl, (refl, (refl, (refl, (refl, (refl, (refl, (refl, (refl, (refl, (refl, (refl, (refl, (refl, (refl, (refl, (refl, (refl, (refl, (refl, (refl, (refl, (refl, (refl, (refl, (refl, (refl, (refl, (refl, (refl, (refl, tt)))))))))))))))))))))))))))))))))
+all-lists = record { come = (refl, (refl, (refl, (refl, (refl, (refl, (refl, (refl, (refl, (refl, (refl, (refl, (refl, (refl, (refl, (refl, (refl, (refl, (refl, (refl, (refl, (refl, (refl, (refl, (refl, (refl, (refl, (refl, (refl, (refl, (refl, (refl, (refl, tt))))))))))))))))))))))))))))))))) }
 
-all-keys : AllCome keys
+all-keys : Come keys
 unfolding keys newer alike sharedInfo listSaid attributeNo numberNamed manufacturerIdFields manufacturerId moduleIdFields moduleId centreIdFields centreId manufacturerKeyFields moduleKeyFields moduleKey centreKeyFields centreKey requestFields request responseFields response keyAttributes keyFields key recordOf withCheck checkText hexDigit crcOf addAll add bitSteps bitStep isIdent isTimestamp looks numberFrom isDigits isAlphanumeric isHex isPoint isPrintable isProtected isOctet isCard areAttributes checkNo identityAnswer fieldAnswer wholeAnswer judged readAs readOver readIdentity readOf readRecord
-all-keys = (refl, (refl, (refl, (refl, (refl, (refl, (refl, (refl, (refl, (refl, (refl, (refl, (refl, (refl, (refl, tt)))))))))))))))
+all-keys = record { come = (refl, (refl, (refl, (refl, (refl, (refl, (refl, (refl, (refl, (refl, (refl, (refl, (refl, (refl, (refl, tt))))))))))))))) }
 
-all-long-keys : AllCome longKeys
+all-long-keys : Come longKeys
 unfolding longKeys longAttributes build buildOf buildAs manufacturerIdFields manufacturerId moduleIdFields moduleId centreIdFields centreId manufacturerKeyFields moduleKeyFields moduleKey centreKeyFields centreKey requestFields request responseFields response keyAttributes keyFields key recordOf withCheck checkText hexDigit crcOf addAll add bitSteps bitStep isIdent isTimestamp looks numberFrom isDigits isAlphanumeric isHex isPoint isPrintable isProtected isOctet isCard areAttributes checkNo identityAnswer fieldAnswer wholeAnswer judged readAs readOver readIdentity readOf readRecord
-all-long-keys = (refl, (refl, (refl, (refl, (refl, (refl, tt))))))
+all-long-keys = record { come = (refl, (refl, (refl, (refl, (refl, (refl, tt)))))) }
 
-all-days : AllCome days
+all-days : Come days
 unfolding days isTimestamp looks numberFrom
-all-days = (refl, (refl, (refl, (refl, (refl, (refl, (refl, (refl, (refl, (refl, (refl, (refl, (refl, (refl, (refl, (refl, (refl, (refl, (refl, (refl, (refl, (refl, (refl, (refl, (refl, (refl, (refl, (refl, (refl, (refl, tt))))))))))))))))))))))))))))))
+all-days = record { come = (refl, (refl, (refl, (refl, (refl, (refl, (refl, (refl, (refl, (refl, (refl, (refl, (refl, (refl, (refl, (refl, (refl, (refl, (refl, (refl, (refl, (refl, (refl, (refl, (refl, (refl, (refl, (refl, (refl, (refl, tt)))))))))))))))))))))))))))))) }
 
-all-dates : AllCome dates
+all-dates : Come dates
 unfolding dates build buildOf buildAs moduleIdFields moduleId centreIdFields centreId centreKeyFields requestFields responseFields keyFields recordOf withCheck checkText hexDigit crcOf addAll add bitSteps bitStep isIdent isTimestamp looks numberFrom isDigits isAlphanumeric isHex isPoint isPrintable isProtected isOctet isCard areAttributes checkNo identityAnswer fieldAnswer wholeAnswer judged readAs readOver readIdentity readOf readRecord
-all-dates = (refl, (refl, (refl, (refl, (refl, (refl, (refl, (refl, (refl, (refl, (refl, (refl, (refl, (refl, (refl, tt)))))))))))))))
+all-dates = record { come = (refl, (refl, (refl, (refl, (refl, (refl, (refl, (refl, (refl, (refl, (refl, (refl, (refl, (refl, (refl, tt))))))))))))))) }
 
 pub all-fixed : AllCome fixed
 unfolding fixed
-all-fixed =
-    both (rows ++ alphabets ++ limits ++ labels ++ checks ++ numbers ++ building ++ texts ++ others ++ lists ++ keys ++ longKeys ++ days) dates
-    (both (rows ++ alphabets ++ limits ++ labels ++ checks ++ numbers ++ building ++ texts ++ others ++ lists ++ keys ++ longKeys) days
-    (both (rows ++ alphabets ++ limits ++ labels ++ checks ++ numbers ++ building ++ texts ++ others ++ lists ++ keys) longKeys
-    (both (rows ++ alphabets ++ limits ++ labels ++ checks ++ numbers ++ building ++ texts ++ others ++ lists) keys
-    (both (rows ++ alphabets ++ limits ++ labels ++ checks ++ numbers ++ building ++ texts ++ others) lists
-    (both (rows ++ alphabets ++ limits ++ labels ++ checks ++ numbers ++ building ++ texts) others
-    (both (rows ++ alphabets ++ limits ++ labels ++ checks ++ numbers ++ building) texts
-    (both (rows ++ alphabets ++ limits ++ labels ++ checks ++ numbers) building
-    (both (rows ++ alphabets ++ limits ++ labels ++ checks) numbers
-    (both (rows ++ alphabets ++ limits ++ labels) checks
-    (both (rows ++ alphabets ++ limits) labels
-    (both (rows ++ alphabets) limits
-    (both rows alphabets all-rows all-alphabets) all-limits) all-labels) all-checks) all-numbers) all-building) all-texts) all-others) all-lists) all-keys) all-long-keys) all-days) all-dates
+all-fixed = (all-rows and all-alphabets and all-limits and all-labels and all-checks and all-numbers and all-building and all-texts and all-others and all-lists and all-keys and all-long-keys and all-days and all-dates) .come
