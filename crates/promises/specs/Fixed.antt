@@ -8,7 +8,7 @@ use mathlib.Core.List.{List, [], _∷_, _++_}
 use lib.ListN.{take, drop, replicate, set}
 use Rattle.numbers.specs.Numbers.{tooLong, unknownKind, missingCheck, wrongCheck, wrongCount, wrongText, wrongIdentity, unpaired, wrongKind, shortOutput, unfinished, missingItem, notAlike, wrongAttributes}
 use Rattle.text.specs.Text.{Bytes, ascii, isIdent, isTimestamp, isHex, isPrintable, Ident, Timestamp, Point, Sig, Mac, Print, Protected, Hex, isOf}
-use Rattle.format.specs.Kinds.{SMMAN, SMID, KMCID, ECDSA, ECDH, REQ, RESP, KEY, Field, Text, Printable, Identity, OrEmpty, name, mark, fieldsOf, keyKinds}
+use Rattle.format.specs.Kinds.{Kind, SMMAN, SMID, KMCID, ECDSA, ECDH, REQ, RESP, KEY, Field, Text, Printable, Identity, OrEmpty, name, mark, fieldsOf, keyKinds}
 use Rattle.format.specs.Attributes.{areAttributes}
 use Rattle.format.specs.Build.{recordOf}
 use Rattle.format.specs.Read.{Outcome, answer, place, check, readIdentity, readOf, readRecord}
@@ -328,38 +328,40 @@ days =
     ∷ test (date (ascii "21000229")) false
     ∷ []
 
--- 003's records with another date, and its first wrapped key with other values of ACT and BDT and a card more
-abbrev pub madeAt : Bytes → Bytes
-madeAt gnt = recordOf SMID (set moduleIdFields 2 gnt)
-
-abbrev pub keyAt : Bytes → Bytes → Bytes → Bytes
-keyAt act bdt card =
-    recordOf KEY (withList (ascii "ACT" ++ act ++ ascii ";BDT" ++ bdt ++ ascii ";DKG02;" ++ card ++ ascii "KEN255;KRN1;KTC2;SGC0000123456;"))
-
 abbrev pub april31 : Bytes
 april31 = ascii "20230431T000000Z"
 
 abbrev pub leapDay : Bytes
 leapDay = ascii "20000229T000000Z"
 
--- wherever a date stands: 6 with its field's number, inside an identity field 7, in an attribute list 14; EXP is no name whose value is a date
+-- 003's identity of the module with another GNT; its first list of attributes with other values of ACT and BDT, and a card more
+abbrev pub madeAt : Bytes → Bytes
+madeAt gnt = recordOf SMID (set moduleIdFields 2 gnt)
+
+abbrev pub listAt : Bytes → Bytes → Bytes → Bytes
+listAt act bdt card = ascii "ACT" ++ act ++ ascii ";BDT" ++ bdt ++ ascii ";DKG02;" ++ card ++ ascii "KEN255;KRN1;KTC2;SGC0000123456;"
+
+abbrev pub built : Kind → List Bytes → Bytes
+built k fs = saidOf (build (name k) (run fs) (lengths fs) 0)
+
+-- wherever a date stands, read and built: 6 with its field's number, inside an identity field 7, and no permitted list of attributes; of EXP no date is asked
 unfoldable pub dates : List Value
 dates =
     bytes (said (readIdentity (madeAt april31))) (6 ∷ 3 ∷ [])
     ∷ bytes (said (readIdentity (madeAt leapDay))) (0 ∷ 0 ∷ [])
     ∷ bytes (said (readRecord (recordOf RESP (set responseFields 1 (madeAt april31))))) (7 ∷ 2 ∷ [])
-    ∷ bytes (said (readRecord (recordOf RESP (set responseFields 1 (madeAt leapDay))))) (0 ∷ 0 ∷ [])
-    ∷ bytes (said (readRecord (recordOf ECDH (set centreKeyFields 2 april31)))) (6 ∷ 3 ∷ [])
-    ∷ bytes (said (readRecord (recordOf ECDH (set centreKeyFields 2 leapDay)))) (0 ∷ 0 ∷ [])
-    ∷ bytes (said (readRecord (recordOf REQ (set requestFields 2 april31)))) (6 ∷ 3 ∷ [])
-    ∷ bytes (said (readRecord (recordOf REQ (set requestFields 2 leapDay)))) (0 ∷ 0 ∷ [])
     ∷ bytes (said (readRecord (recordOf RESP (set responseFields 2 april31)))) (6 ∷ 3 ∷ [])
-    ∷ bytes (saidOf (build (name SMID) (run (set moduleIdFields 2 april31)) (lengths moduleIdFields) 60)) (6 ∷ 3 ∷ [])
-    ∷ bytes (saidOf (build (name SMID) (run (set moduleIdFields 2 leapDay)) (lengths moduleIdFields) 60)) (0 ∷ 0 ∷ [])
-    ∷ bytes (said (readRecord (keyAt april31 leapDay []))) (14 ∷ 0 ∷ [])
-    ∷ bytes (said (readRecord (keyAt leapDay april31 []))) (14 ∷ 0 ∷ [])
-    ∷ bytes (said (readRecord (keyAt leapDay leapDay (ascii "IUT20230431T000000Z;")))) (14 ∷ 0 ∷ [])
-    ∷ bytes (said (readRecord (keyAt leapDay leapDay (ascii "EXP20230431T000000Z;IUT20000229T000000Z;")))) (0 ∷ 0 ∷ [])
+    ∷ bytes (said (readRecord (recordOf RESP (set (set responseFields 1 (madeAt leapDay)) 2 leapDay)))) (0 ∷ 0 ∷ [])
+    ∷ bytes (built SMID (set moduleIdFields 2 april31)) (6 ∷ 3 ∷ [])
+    ∷ bytes (built SMID (set moduleIdFields 2 leapDay)) (10 ∷ 0 ∷ [])
+    ∷ bytes (built REQ (set requestFields 0 (madeAt april31))) (7 ∷ 1 ∷ [])
+    ∷ bytes (built REQ (set requestFields 2 april31)) (6 ∷ 3 ∷ [])
+    ∷ bytes (built ECDH (set centreKeyFields 2 april31)) (6 ∷ 3 ∷ [])
+    ∷ bytes (built ECDH (set centreKeyFields 2 leapDay)) (10 ∷ 0 ∷ [])
+    ∷ test (areAttributes (listAt leapDay leapDay (ascii "EXP20230431T000000Z;IUT20000229T000000Z;"))) true
+    ∷ test (areAttributes (listAt april31 leapDay [])) false
+    ∷ test (areAttributes (listAt leapDay april31 [])) false
+    ∷ test (areAttributes (listAt leapDay leapDay (ascii "IUT20230431T000000Z;"))) false
     ∷ []
 
 unfoldable pub fixed : List Value
