@@ -83,7 +83,7 @@ fn is_day(s: &[u8]) -> bool
     is_two_between(1, last, s, 6)
 }
 
-// TIMESTAMP: YYYYMMDDThhmmssZ, every part in its range.
+// TIMESTAMP: YYYYMMDDThhmmssZ, every part in its range, the day by its month and year.
 pub fn is_timestamp(s: &[u8]) -> bool
     ensures { λ r. ⌜ r ≡ isTimestamp (now (s .entry)) ⌝ }
 {
