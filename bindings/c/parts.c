@@ -69,9 +69,10 @@ static obscurlane_answer read_with(const char *worked, const char *old, const ch
 {
     char record[OBSCURLANE_LONGEST_READ];
     size_t length = strlen(worked), check = length - 4;
+    const char *place = strstr(worked, old);
+    EXPECT(place != NULL && strlen(old) == strlen(text) && length < sizeof record);
     memcpy(record, worked, length + 1);
-    memcpy(strstr(record, old), text, strlen(text));
-    EXPECT(strlen(old) == strlen(text) && length < sizeof record);
+    memcpy(record + (place - worked), text, strlen(text));
     (void)snprintf(record + check, 5, "%04X", (unsigned)obscurlane_crc_of((const uint8_t *)record, check));
     return strncmp(worked, "SMID.1:", 7) == 0 ? obscurlane_read_identity((const uint8_t *)record, length)
                                               : obscurlane_read_record((const uint8_t *)record, length);

@@ -119,13 +119,13 @@ fn days_that_exist() {
     }
 }
 
-/// Every day from the first to the last, counted by a rule without months of their own lengths: a year
-/// from March on has 153 days in every five months.
+/// Every day from the first to the last, counted by a rule that knows no month's length: from March on,
+/// every five months have 153 days.
 #[test]
 fn all_days_in_a_row() {
     const DAYS_OF_400_YEARS: usize = 146_097;
-    let mut number = 306;
-    let mut first = number;
+    let first_of_all = days_since_march_of_year_0(1, 1, 1);
+    let (mut number, mut first) = (first_of_all, first_of_all);
     for year in 1..=9999 {
         for month in 1..=12 {
             for day in 1..=31 {
@@ -141,7 +141,7 @@ fn all_days_in_a_row() {
             first = number;
         }
     }
-    assert_eq!(number - 306, 3_652_059);
+    assert_eq!(number - first_of_all, 3_652_059);
 }
 
 fn days_since_march_of_year_0(year: usize, month: usize, day: usize) -> usize {

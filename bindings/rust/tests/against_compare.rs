@@ -35,9 +35,9 @@ fn text_types() {
         let whole = match random.below(6) {
             0 => sample::point(&mut random),
             1 => sample::timestamp(&mut random),
-            5 => sample::missing_day(&mut random),
-            2 => sample::hex(&mut random, length),
-            3 => {
+            2 => sample::missing_day(&mut random),
+            3 => sample::hex(&mut random, length),
+            4 => {
                 let length = random.between(1, text::LONGEST_IDENT + 2);
                 sample::ident(&mut random, length)
             }

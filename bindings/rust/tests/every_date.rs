@@ -1,5 +1,5 @@
-//! Every date there could be, held against `compare/`. Whether a day exists depends on its month and year together, so that places tried one by one would
-//! not tell.
+//! Every date there could be, held against `compare/`. Whether a day exists depends on its month and its year, so that places
+//! tried one by one would not tell.
 
 use compare::text;
 

@@ -25,6 +25,7 @@ const INSIDE: [Place; 8] = [
 ];
 const EXPIRY: [Place; 2] = [(Kind::PkEcdsa, 2), (Kind::PkEcdh, 2)];
 const TVP: [Place; 2] = [(Kind::VkloadReq, 2), (Kind::VkloadResp, 2)];
+const PLACES: [&[Place]; 4] = [&OF_IDENTITIES, &INSIDE, &EXPIRY, &TVP];
 
 /// The day of the request, and a day that only leap years have.
 const MISSING: &str = "20230431T000000Z";
@@ -39,7 +40,7 @@ pub fn add(plan: &mut Plan) {
 }
 
 /// The last day of every month and the one behind it; 29 February of years by 4, by 100 and by 400; and
-/// the last day that document 01 names.
+/// document 01's last of all days.
 fn dates() -> Vec<String> {
     let lasts = [31, 28, 31, 30, 31, 30, 31, 31, 30, 31, 30, 31];
     let ends = (1..).zip(lasts).flat_map(|(month, last)| {
@@ -50,7 +51,8 @@ fn dates() -> Vec<String> {
     ends.chain(leaps).chain(["99991231T115959Z".into()]).collect()
 }
 
-/// Short fields with this date in one place: by itself, or as the GNT of an identity that is right otherwise.
+/// Short fields with this date in one place: by itself, or as the GNT of an identity that is right
+/// otherwise.
 fn dated(plan: &mut Plan, (kind, index): Place, date: &[u8]) -> Vec<Vec<u8>> {
     let signed = Signed::to_fill(kind, index);
     let mut fields = sample::short_fields(&mut plan.random, kind, signed);
@@ -78,14 +80,15 @@ impl Plan {
 fn every_date(plan: &mut Plan) {
     for (turn, date) in dates().into_iter().enumerate() {
         plan.call(Op::Timestamp, &date[..]);
-        for places in [&OF_IDENTITIES[..], &INSIDE, &EXPIRY, &TVP] {
+        for places in PLACES {
             plan.date(places[turn % places.len()], &date);
         }
     }
 }
 
+/// Every place, with a day that does not exist and with one that does.
 fn every_place(plan: &mut Plan) {
-    for place in [&OF_IDENTITIES[..], &INSIDE, &EXPIRY, &TVP].concat() {
+    for place in PLACES.concat() {
         for date in [MISSING, LEAP] {
             plan.date(place, date);
         }
@@ -136,8 +139,9 @@ fn other_calls(plan: &mut Plan) {
     }
 }
 
+/// Any days that do not exist.
 fn drawn(plan: &mut Plan) {
-    for place in [&OF_IDENTITIES[..], &INSIDE, &EXPIRY, &TVP].concat() {
+    for place in PLACES.concat() {
         let date = sample::missing_day(&mut plan.random);
         plan.call(Op::Timestamp, &date[..]);
         plan.date(place, date);

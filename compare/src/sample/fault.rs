@@ -113,12 +113,10 @@ fn wrong_of_type(random: &mut Random, field_type: FieldType) -> Vec<u8> {
             let long: String = letters.take(LONGEST_IDENT + 1).collect();
             random.one_of(&["_A", "A B", "A\u{e9}", &long, ""]).into()
         }
-        FieldType::Timestamp => match random.below(4) {
-            0 => missing_day(random),
-            _ => {
-                random.one_of(&["20180101T240000Z", "20180132T000000Z", "00000101T000000Z"]).into()
-            }
-        },
+        FieldType::Timestamp if random.once_in(4) => missing_day(random),
+        FieldType::Timestamp => {
+            random.one_of(&["20180101T240000Z", "20180132T000000Z", "00000101T000000Z"]).into()
+        }
         FieldType::Attributes => {
             let list = of_type(random, field_type);
             let strange = random.one_of(b"\0\t\x1F\x7F\x80\xE9\xFF");
