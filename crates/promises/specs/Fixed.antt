@@ -341,10 +341,11 @@ madeAt gnt = recordOf SMID (set moduleIdFields 2 gnt)
 abbrev pub listAt : Bytes → Bytes → Bytes → Bytes
 listAt act bdt card = ascii "ACT" ++ act ++ ascii ";BDT" ++ bdt ++ ascii ";DKG02;" ++ card ++ ascii "KEN255;KRN1;KTC2;SGC0000123456;"
 
+-- without room, so that a permitted list of fields answers 10, the last number
 abbrev pub built : Kind → List Bytes → Bytes
 built k fs = saidOf (build (name k) (run fs) (lengths fs) 0)
 
--- wherever a date stands, read and built: 6 with its field's number, inside an identity field 7, and no permitted list of attributes; of EXP no date is asked
+-- wherever a date stands, read and built: 6 with its field's number, inside an identity field 7, as ACT, BDT or IUT 14; of EXP no date is asked
 unfoldable pub dates : List Value
 dates =
     bytes (said (readIdentity (madeAt april31))) (6 ∷ 3 ∷ [])
@@ -358,10 +359,10 @@ dates =
     ∷ bytes (built REQ (set requestFields 2 april31)) (6 ∷ 3 ∷ [])
     ∷ bytes (built ECDH (set centreKeyFields 2 april31)) (6 ∷ 3 ∷ [])
     ∷ bytes (built ECDH (set centreKeyFields 2 leapDay)) (10 ∷ 0 ∷ [])
-    ∷ test (areAttributes (listAt leapDay leapDay (ascii "EXP20230431T000000Z;IUT20000229T000000Z;"))) true
-    ∷ test (areAttributes (listAt april31 leapDay [])) false
-    ∷ test (areAttributes (listAt leapDay april31 [])) false
-    ∷ test (areAttributes (listAt leapDay leapDay (ascii "IUT20230431T000000Z;"))) false
+    ∷ bytes (built KEY (withList (listAt april31 leapDay []))) (14 ∷ 0 ∷ [])
+    ∷ bytes (built KEY (withList (listAt leapDay april31 []))) (14 ∷ 0 ∷ [])
+    ∷ bytes (built KEY (withList (listAt leapDay leapDay (ascii "IUT20230431T000000Z;")))) (14 ∷ 0 ∷ [])
+    ∷ bytes (built KEY (withList (listAt leapDay leapDay (ascii "EXP20230431T000000Z;IUT20000229T000000Z;")))) (10 ∷ 0 ∷ [])
     ∷ []
 
 unfoldable pub fixed : List Value
