@@ -1,6 +1,7 @@
 // Writing into a lent output, one piece after another.
 ghost use mathlib.Core.Path.{_≡_};
 ghost use mathlib.Core.List.{[], _∷_};
+ghost use Rattle.text.specs.Base16.{base16};
 ghost use Rattle.put.specs.Put.{Puts};
 ghost use Rattle.put.specs.Made.{denied, says};
 
@@ -44,4 +45,24 @@ pub fn put_byte(out: &mut [u8], at: usize, byte: u8) -> usize
     ensures { λ r. ⌜ Puts (now (out .entry)) at (byte ∷ []) (now (out .exit)) r ⌝ }
 {
     put(out, at, &[byte])
+}
+
+// The same for the hexadecimal characters of the bytes, two for each.
+pub fn put_hex(out: &mut [u8], at: usize, bytes: &[u8]) -> usize
+    ensures { λ r. ⌜ Puts (now (out .entry)) at (base16 (now (bytes .entry))) (now (out .exit)) r ⌝ }
+{
+    if out.len() < at {
+        return at;
+    }
+    if (out.len() - at) / 2 < bytes.len() {
+        return at;
+    }
+    let mut i = 0;
+    while i < bytes.len() {
+        let place = at + 2 * i;
+        out[place] = text::hex_digit(bytes[i] / 16);
+        out[place + 1] = text::hex_digit(bytes[i] % 16);
+        i += 1;
+    }
+    at + 2 * i
 }

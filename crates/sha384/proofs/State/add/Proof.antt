@@ -1,0 +1,115 @@
+-- `sha384::State::add` meets its contract.
+-- Assumes nothing.
+use Prim.Native.Nat.{_-_, _%_}
+use mathlib.Core.Path.{_≡_, refl}
+use native.Mathlib.Omega.{arith}
+use lib.ListN.{length, length-take}
+use Rattle.sha384.proofs.Added.{whole-fits, added-short, added-long}
+use borrow.Author.Needs.{needs}
+use Rattle.sha384.proofs.State.add.Statement.{statement}
+use Rattle.sha384.proofs.State.add.Tie as tie
+
+array-share-prefix-waiting : tie.Need-array-share-prefix-waiting
+array-share-prefix-waiting c = let l : length (c .before .before .before .before .args .self .block) ≡ 128 = search needs in omega (arith, l)
+
+slice-aggregate-block-of : tie.Need-slice-aggregate-block-of
+slice-aggregate-block-of c = let l : length (c .before .before .before .before .before .args .self .block) ≡ 128 = search needs in simp length-take (omega (arith, l))
+
+block-of-requires : tie.Need-block-of-requires
+block-of-requires c κs = let l : length (c .before .before .before .before .before .args .self .block) ≡ 128 = search needs in simp length-take (omega (arith, l))
+
+plus-requires : tie.Need-plus-requires
+plus-requires c κs = search needs
+
+higher-requires : tie.Need-higher-requires
+higher-requires c κs = search needs
+
+sub-room : tie.Need-sub-room
+sub-room c = search needs
+
+slice-aggregate-put : tie.Need-slice-aggregate-put
+slice-aggregate-put c = search needs
+
+put-requires : tie.Need-put-requires
+put-requires c κs = search needs
+
+returns : tie.Need-returns
+returns c = added-short (c .before .before .before .before .before .before .before .before .before .before .before .before .args .self) (c .before .before .before .before .before .before .before .before .before .before .before .before .args .bytes .now) (search needs) (c .before .before .before .before .before .plus .ensures) (c .before .before .before .before .higher .ensures) (c .before .before .before .if1 .taken) (c .before .before .before .before .before .before .block-of .ensures) (c .before .put .ensures)
+
+slice-aggregate-put-2 : tie.Need-slice-aggregate-put-2
+slice-aggregate-put-2 c = search needs
+
+slice-aggregate-put-3 : tie.Need-slice-aggregate-put-3
+slice-aggregate-put-3 c = simp length-take (omega arith)
+
+put-requires-2 : tie.Need-put-requires-2
+put-requires-2 c κs = search needs
+
+sub-whole : tie.Need-sub-whole
+sub-whole c = search needs
+
+mul-whole : tie.Need-mul-whole
+mul-whole c = record { fits = whole-fits (length (c .before .before .before .before .before .before .before .before .before .before .before .before .before .args .bytes .now)) (128 - c .before .before .before .before .before .before .before .before .before .before .before .before .before .args .self .low % 128) (search needs) }
+
+add-whole : tie.Need-add-whole
+add-whole c = search needs
+
+slice-aggregate-hash-both : tie.Need-slice-aggregate-hash-both
+slice-aggregate-hash-both c = search needs
+
+sub-hash-both : tie.Need-sub-hash-both
+sub-hash-both c = search needs
+
+part-hash-both-start : tie.Need-part-hash-both-start
+part-hash-both-start c = search needs
+
+part-hash-both-end : tie.Need-part-hash-both-end
+part-hash-both-end c = search needs
+
+hash-both-requires : tie.Need-hash-both-requires
+hash-both-requires c κs = search needs
+
+sub-block-of : tie.Need-sub-block-of
+sub-block-of c = search needs
+
+part-block-of-start : tie.Need-part-block-of-start
+part-block-of-start c = search needs
+
+part-block-of-end : tie.Need-part-block-of-end
+part-block-of-end c = search needs
+
+block-of-requires-2 : tie.Need-block-of-requires-2
+block-of-requires-2 c κs = search needs
+
+returns-2 : tie.Need-returns-2
+returns-2 c = added-long (c .before .before .before .before .before .before .before .before .before .before .before .before .before .before .before .before .before .before .args .self) (c .before .before .before .before .before .before .before .before .before .before .before .before .before .before .before .before .before .before .args .bytes .now) (search (needs, c .before .before .before .before .before .before .before .before .before .before .before .before .before .before .before .before .before .before .good)) (c .before .before .before .before .before .before .before .before .before .before .before .plus .ensures) (c .before .before .before .before .before .before .before .before .before .before .higher .ensures) (c .before .before .before .before .before .before .before .before .before .if1 .left) (c .before .before .before .before .before .before .before .before .before .before .before .before .block-of .ensures) (c .before .before .before .before .before .before .put2 .ensures) refl refl (c .before .before .hash-both .ensures) (c .block-of2 .ensures)
+
+pub add-spec : {M : Type 1} → statement M
+add-spec =
+    tie.close
+    (tie.spec
+    array-share-prefix-waiting
+    slice-aggregate-block-of
+    block-of-requires
+    plus-requires
+    higher-requires
+    sub-room
+    slice-aggregate-put
+    put-requires
+    returns
+    slice-aggregate-put-2
+    slice-aggregate-put-3
+    put-requires-2
+    sub-whole
+    mul-whole
+    add-whole
+    slice-aggregate-hash-both
+    sub-hash-both
+    part-hash-both-start
+    part-hash-both-end
+    hash-both-requires
+    sub-block-of
+    part-block-of-start
+    part-block-of-end
+    block-of-requires-2
+    returns-2)

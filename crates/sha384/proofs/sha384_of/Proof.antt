@@ -1,0 +1,26 @@
+-- `sha384::sha384_of` meets its contract.
+-- Assumes nothing.
+use Prim.Native.Nat.{ℕ}
+use mathlib.Core.Path.{ap, _∙_}
+use mathlib.Core.List.{List}
+use Rattle.sha384.specs.declared.State.{State}
+use Rattle.sha384.specs.State.{added, ended}
+use Rattle.sha384.proofs.Pieces.{ended-once}
+use borrow.Author.Needs.{needs}
+use Rattle.sha384.proofs.sha384_of.Statement.{statement}
+use Rattle.sha384.proofs.sha384_of.Tie as tie
+
+begin-requires : tie.Need-begin-requires
+begin-requires c κs = search needs
+
+add-requires : tie.Need-add-requires
+add-requires c κs = search needs
+
+end-requires : tie.Need-end-requires
+end-requires c κs = search needs
+
+returns : tie.Need-returns
+returns c = c .end .ensures ∙ ap ended (c .before .add .ensures ∙ ap (λ (s : State). added s (c .before .before .before .before .args .bytes .now)) (c .before .before .begin .ensures)) ∙ ended-once (c .before .before .before .before .args .bytes .now)
+
+pub sha384-of-spec : {M : Type 1} → statement M
+sha384-of-spec = tie.close (tie.spec begin-requires add-requires end-requires returns)
