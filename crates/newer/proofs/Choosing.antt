@@ -27,7 +27,7 @@ use Rattle.newer.specs.Newer.{Decision, theFirst, theSecond, noChoice, s
 use Rattle.newer.specs.declared.Choice.{Choice}
 use Rattle.newer.specs.Keys.{Key, gntOf}
 use Rattle.newer.specs.Steps.{Named}
-use Rattle.newer.proofs.Keys.{key, its-subject}
+use Rattle.subjects.proofs.Keys.{key, its-field}
 
 -- ---- by the two Subjects
 
@@ -79,10 +79,10 @@ module _ (a b : Bytes) (r : Answer) (e : r ≡ answerOf (readOf pubkeyKinds a)) 
       named s k u q = record { who = k .who; names = k .names; known = rw q (k .known) }
 
       first-subject : i ≡ subject (first-key .fields)
-      first-subject = ei ∙ its-subject a first-key r e
+      first-subject = ei ∙ its-field a first-key r e 0
 
       second-subject : j ≡ subject (second-key .fields)
-      second-subject = ej ∙ its-subject b second-key t f
+      second-subject = ej ∙ its-field b second-key t f 0
 
       pub first-named : Named i
       first-named = named a first-key i first-subject

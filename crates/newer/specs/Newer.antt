@@ -4,8 +4,6 @@
 use Prim.Native.Nat.{ℕ}
 use mathlib.Core.Path.{_≡_}
 use mathlib.Core.Bool.{cond}
-use mathlib.Core.List.{List, []}
-use lib.ListN.{getD}
 use denote.Ref.{RefT}
 use Rattle.text.specs.Text.{Bytes}
 use Rattle.text.specs.Part.{NoPart}
@@ -14,11 +12,8 @@ use Rattle.numbers.specs.Numbers.{notAlike}
 use Rattle.format.specs.Kinds.{pubkeyKinds}
 use Rattle.format.specs.Read.{Outcome, accepted, refused, readIdentity, readOf}
 use Rattle.subjects.specs.Subjects.{gnt, alike}
+pub use Rattle.subjects.specs.Keys.{subject}
 use Rattle.newer.specs.declared.Choice.{Choice}
-
--- the Subject of a public key
-abbrev pub subject : List Bytes → Bytes
-subject fs = getD fs 0 []
 
 -- ---- the choice
 

@@ -5,7 +5,6 @@ ghost use Rattle.format.specs.Kinds.{pubkeyKinds};
 ghost use Rattle.format.specs.Read.{readIdentity, readOf};
 ghost use Rattle.places.specs.Places.{fieldAt};
 ghost use Rattle.reading.specs.Reading.{answerOf};
-ghost use Rattle.subjects.specs.Subjects.{identityPart};
 ghost use Rattle.newer.specs.Newer.{bySubjects, newer, choiceSaid, Chosen};
 ghost use Rattle.newer.specs.Steps.{Named};
 
@@ -28,12 +27,6 @@ pub struct Choice {
 
 // ---- what is compared
 
-fn gnt_of<'a>(identity: &'a [u8]) -> &'a [u8]
-    ensures { λ r. ⌜ now r ≡ identityPart (now (identity .entry)) 3 ⌝ }
-{
-    frame::part(b':', frame::body_of(identity), table::IDENTITY_GNT)
-}
-
 // By the Subjects of two accepted keys: 13 where they are not alike; otherwise the one with the later GNT, the first when
 // equal.
 fn by_subjects(first: &[u8], second: &[u8]) -> Choice
@@ -46,7 +39,10 @@ fn by_subjects(first: &[u8], second: &[u8]) -> Choice
             which: NEITHER,
         };
     }
-    if text::is_later(gnt_of(second), gnt_of(first)) {
+    if text::is_later(
+        subjects::field_in(second, table::IDENTITY_GNT),
+        subjects::field_in(first, table::IDENTITY_GNT),
+    ) {
         return Choice {
             no: numbers::ACCEPTED,
             field: 0,

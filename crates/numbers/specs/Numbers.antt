@@ -43,3 +43,6 @@ notAlike = 13
 
 abbrev pub wrongAttributes : ℕ
 wrongAttributes = 14
+
+abbrev pub wrongFingerprint : ℕ
+wrongFingerprint = 15

@@ -29,3 +29,5 @@ pub const MISSING_ITEM: u8 = 12;
 pub const NOT_ALIKE: u8 = 13;
 
 pub const WRONG_ATTRIBUTES: u8 = 14;
+
+pub const WRONG_FINGERPRINT: u8 = 15;

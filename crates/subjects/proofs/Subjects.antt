@@ -8,18 +8,23 @@ use mathlib.Core.Bool.{true}
 use mathlib.Core.List.{List, []}
 use lib.ListN.{getD}
 use lib.Dec.{T, lit<}
+use native.Mathlib.Nat.{zero-add}
+use denote.Ref.{RefT, now}
+use Prim.Native.Char.{code}
 use mir.Facts.{and-yes}
 use Rattle.text.specs.Text.{Bytes, same, isTimestamp}
+use Rattle.text.specs.Part.{Part}
 use Rattle.text.proofs.Tests.{same→eq, same-refl, T-true}
 use Rattle.format.specs.Kinds.{Kind, name, identityKinds}
 use Rattle.format.specs.Build.{Fits, IsIdentity, Built}
-use Rattle.format.specs.Read.{accepted, title, readIdentity}
+use Rattle.format.specs.Read.{accepted, title, body, readIdentity}
 use Rattle.format.proofs.Table.{name-inj, identity-row}
 use Rattle.format.proofs.Parts.{built-title}
 use Rattle.format.proofs.Fields.{fit-at}
 use Rattle.format.proofs.Exactly.{identity-exact, its-fields}
+use Rattle.frame.specs.Frame.{partOf, IsPart}
 use Rattle.frame.proofs.Parts.{field-part}
-use Rattle.subjects.specs.Subjects.{manufacturer, mid, gnt, alike, identityPart, areAlike}
+use Rattle.subjects.specs.Subjects.{manufacturer, mid, gnt, alike, identityPart, IsIdentityPart, areAlike}
 
 -- ---- an accepted identity
 
@@ -27,7 +32,7 @@ module _ (i : Bytes) {k : Kind} {fs : List Bytes} (e : readIdentity i ≡ accept
   built : Built identityKinds i k fs
   built = identity-exact i k fs .0 e
 
-  identity-title : title i ≡ name k
+  pub identity-title : title i ≡ name k
   identity-title = ap title (built .built) ∙ built-title k fs .0
 
   pub identity-field : (j : ℕ) → identityPart i (suc j) ≡ getD fs j []
@@ -63,3 +68,11 @@ module _ (j k : Kind) (fs gs : List Bytes) where
         (name-inj j k (same→eq _ _ (t₁ .0)), same→eq _ _ (t₂ .0), same→eq _ _ (t₂ .1)),
     λ (kinds, manufacturers, mids). rw (kinds, manufacturers, mids) (simp same-self tt),
   )
+
+-- ---- where a field stands: the body, of which it is a part, begins where the identity does
+
+pub field-of-body : {s b r : RefT Bytes} (n : ℕ) → Part s 0 (body (now s)) b → IsPart (code ":") b n r → IsIdentityPart s n r
+field-of-body {s} {b} {r} n p q = record {
+  stands = q .stands ∙ rw (p .stands, p .holds) (rw zero-add);
+  holds = q .holds ∙ ap (λ (x : Bytes). partOf (code ":") x n) (p .holds);
+}

@@ -5,10 +5,12 @@ use Prim.Native.Char.{code}
 use mathlib.Core.Bool.{Bool, _&&_}
 use mathlib.Core.List.{List, []}
 use lib.ListN.{getD}
+use denote.Ref.{RefT, now}
 use Rattle.text.specs.Text.{Bytes, same}
+use Rattle.text.specs.Part.{Part}
 use Rattle.format.specs.Kinds.{Kind, name}
 use Rattle.format.specs.Read.{title, body}
-use Rattle.frame.specs.Frame.{partOf}
+use Rattle.frame.specs.Frame.{partOf, partPlace}
 
 -- ---- of an identity that is accepted, by its fields
 
@@ -30,6 +32,10 @@ alike j fs k gs = same (name j) (name k) && (same (manufacturer fs) (manufacture
 -- field n, from 1
 abbrev pub identityPart : Bytes → ℕ → Bytes
 identityPart s n = partOf (code ":") (body s) n
+
+-- r is field n of s, where it stands
+abbrev pub IsIdentityPart : RefT Bytes → ℕ → RefT Bytes → Type 0
+IsIdentityPart s n r = Part s (partPlace (code ":") (body (now s)) n) (identityPart (now s) n) r
 
 -- the two agree in what stands before the first mark, in field 1 and in field 2
 unfoldable pub areAlike : Bytes → Bytes → Bool

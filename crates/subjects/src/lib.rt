@@ -1,16 +1,13 @@
-// Whether two identities name one Subject: document 01, "Files of records and the newer key", number 13. They agree in kind,
-// Manufacturer and MID; GNT and Fingerprint may differ. The call takes any bytes and has no `requires`.
+// The Subject of a public key, an identity: its fields, and whether two identities name one Subject (document 01, "Files of
+// records and the newer key", number 13): they agree in kind, Manufacturer and MID; GNT and Fingerprint may differ. The calls
+// take any bytes and have no `requires`.
 ghost use mathlib.Core.Path.{_≡_};
 ghost use Rattle.text.specs.Text.{same};
-ghost use Rattle.subjects.specs.Subjects.{identityPart, areAlike};
+ghost use Rattle.subjects.specs.Subjects.{identityPart, IsIdentityPart, areAlike};
 
-const MANUFACTURER: usize = 1;
-
-const MID: usize = 2;
-
-// Field n, from 1, of an identity.
-fn field_in<'a>(identity: &'a [u8], n: usize) -> &'a [u8]
-    ensures { λ r. ⌜ now r ≡ identityPart (now (identity .entry)) n ⌝ }
+// Field n, from 1, of an identity; an empty part at its front where there is none.
+pub fn field_in<'a>(identity: &'a [u8], n: usize) -> &'a [u8]
+    ensures { λ r. ⌜ IsIdentityPart (identity .entry) n r ⌝ }
 {
     frame::part(b':', frame::body_of(identity), n)
 }
@@ -30,8 +27,8 @@ pub fn are_alike(s: &[u8], t: &[u8]) -> bool
     if !text::are_same(frame::title_of(s), frame::title_of(t)) {
         return false;
     }
-    if !do_agree(s, t, MANUFACTURER) {
+    if !do_agree(s, t, table::IDENTITY_MANUFACTURER) {
         return false;
     }
-    do_agree(s, t, MID)
+    do_agree(s, t, table::IDENTITY_MID)
 }

@@ -15,20 +15,20 @@ are-alike-requires c κs = search needs
 returns : tie.Need-returns
 returns c = λ p q. said-unlike _ _ p q (sym (c .before .are-alike .ensures) ∙ not-true _ (c .if1 .taken))
 
-gnt-of-requires : tie.Need-gnt-of-requires
-gnt-of-requires c κs = search needs
+field-in-requires : tie.Need-field-in-requires
+field-in-requires c κs = search needs
 
-gnt-of-requires-2 : tie.Need-gnt-of-requires-2
-gnt-of-requires-2 c κs = search needs
+field-in-requires-2 : tie.Need-field-in-requires-2
+field-in-requires-2 c κs = search needs
 
 is-later-requires : tie.Need-is-later-requires
 is-later-requires c κs = search needs
 
 returns-2 : tie.Need-returns-2
-returns-2 c = λ p q. said-alike _ _ p q (sym (c .before .before .before .before .before .are-alike .ensures) ∙ not-false _ (c .before .before .before .before .if1 .left)) true (sym (c .before .is-later .ensures ∙ ap₂ after (c .before .before .before .gnt-of .ensures) (c .before .before .gnt-of2 .ensures)) ∙ c .if2 .taken)
+returns-2 c = λ p q. said-alike _ _ p q (sym (c .before .before .before .before .before .are-alike .ensures) ∙ not-false _ (c .before .before .before .before .if1 .left)) true (sym (c .before .is-later .ensures ∙ ap₂ after (c .before .before .before .field-in .ensures .holds) (c .before .before .field-in2 .ensures .holds)) ∙ c .if2 .taken)
 
 returns-3 : tie.Need-returns-3
-returns-3 c = λ p q. said-alike _ _ p q (sym (c .before .before .before .before .before .are-alike .ensures) ∙ not-false _ (c .before .before .before .before .if1 .left)) false (sym (c .before .is-later .ensures ∙ ap₂ after (c .before .before .before .gnt-of .ensures) (c .before .before .gnt-of2 .ensures)) ∙ c .if2 .left)
+returns-3 c = λ p q. said-alike _ _ p q (sym (c .before .before .before .before .before .are-alike .ensures) ∙ not-false _ (c .before .before .before .before .if1 .left)) false (sym (c .before .is-later .ensures ∙ ap₂ after (c .before .before .before .field-in .ensures .holds) (c .before .before .field-in2 .ensures .holds)) ∙ c .if2 .left)
 
 pub by-subjects-spec : {M : Type 1} → statement M
 by-subjects-spec =
@@ -36,8 +36,8 @@ by-subjects-spec =
     (tie.spec
     are-alike-requires
     returns
-    gnt-of-requires
-    gnt-of-requires-2
+    field-in-requires
+    field-in-requires-2
     is-later-requires
     returns-2
     returns-3)

@@ -16,7 +16,7 @@ are-same-requires : tie.Need-are-same-requires
 are-same-requires c κs = search needs
 
 returns : tie.Need-returns
-returns c = c .are-same .ensures ∙ ap₂ same (c .before .before .field-in .ensures) (c .before .field-in2 .ensures)
+returns c = c .are-same .ensures ∙ ap₂ same (c .before .before .field-in .ensures .holds) (c .before .field-in2 .ensures .holds)
 
 pub do-agree-spec : {M : Type 1} → statement M
 do-agree-spec =

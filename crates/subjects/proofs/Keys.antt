@@ -1,7 +1,9 @@
--- What is known of an accepted public key: its Subject is an accepted identity and stands where the code looks for it.
+-- What is known of an accepted public key: its Subject is an accepted identity, and its fields stand where the code looks for them.
 -- Assumes nothing.
+use Prim.Native.Nat.{ℕ, suc}
 use mathlib.Core.Path.{_≡_, ap, _∙_}
-use mathlib.Core.List.{List}
+use mathlib.Core.List.{List, []}
+use lib.ListN.{getD}
 use lib.Dec.{lit<}
 use Rattle.text.specs.Text.{Bytes}
 use Rattle.format.specs.Kinds.{Kind, pubkeyKinds}
@@ -14,8 +16,7 @@ use Rattle.places.specs.Places.{fieldAt}
 use Rattle.places.proofs.Stands.{record-field}
 use Rattle.reading.specs.Reading.{answerOf}
 use Rattle.reading.specs.declared.Answer.{Answer}
-use Rattle.newer.specs.Newer.{subject}
-use Rattle.newer.specs.Keys.{Key}
+use Rattle.subjects.specs.Keys.{subject, Key}
 
 pub key : (s : Bytes) (k : Kind) (fs : List Bytes) → readOf pubkeyKinds s ≡ accepted k fs → Key s
 unfolding Fits
@@ -25,7 +26,8 @@ key s k fs e =
     let asked = ask-complete (inner .0) (subject fs) (inner .2) in
     record { kind = k; fields = fs; is = e; who = inner .0; names = asked .0; known = asked .1 }
 
-pub its-subject : (s : Bytes) (k : Key s) (r : Answer) → r ≡ answerOf (readOf pubkeyKinds s) → fieldAt s (r .starts) (r .lens) 1 ≡ subject (k .fields)
-its-subject s k r e =
+-- the field of number suc j
+pub its-field : (s : Bytes) (k : Key s) (r : Answer) → r ≡ answerOf (readOf pubkeyKinds s) → (j : ℕ) → fieldAt s (r .starts) (r .lens) (suc j) ≡ getD (k .fields) j []
+its-field s k r e j =
     let b = read-exact pubkeyKinds s (k .kind) (k .fields) .0 (k .is) in
-    ap (λ (x : Answer). fieldAt s (x .starts) (x .lens) 1) (e ∙ ap answerOf (k .is)) ∙ record-field (k .kind) s (k .fields) (its-few b) (its-parts b) 1
+    ap (λ (x : Answer). fieldAt s (x .starts) (x .lens) (suc j)) (e ∙ ap answerOf (k .is)) ∙ record-field (k .kind) s (k .fields) (its-few b) (its-parts b) (suc j)

@@ -1,0 +1,111 @@
+// The Fingerprint in the Subject of a public key: document 02, E3; STS 600-4-2, clauses 6.1 and 7.1. It is checked, or the one
+// that is right is written. The calls take any bytes and have no `requires`; the record's own refusals come first. What is
+// hashed goes into the hash from where it stands in the record.
+ghost use mathlib.Core.Path.{_≡_};
+ghost use lib.ListN.{length};
+ghost use Rattle.text.specs.Text.{ascii};
+ghost use Rattle.sha384.specs.Sha384.{sha384};
+ghost use Rattle.sha384.specs.State.{added};
+ghost use Rattle.places.specs.Places.{fieldAt};
+ghost use Rattle.put.specs.Made.{Writes};
+ghost use Rattle.fingerprint.specs.Fingerprint.{printOf, checkFingerprint, writeFingerprint};
+ghost use Rattle.fingerprint.specs.Steps.{textAt};
+
+// A Fingerprint has so many characters: those of the hash's first bytes.
+const CHARACTERS: usize = 16;
+
+const BYTES: usize = 8;
+
+// What a check answers: its number, and the field's number, 0 where none is named.
+#[repr(C)]
+pub struct Checked {
+    pub no: u8,
+    pub field: u8,
+}
+
+// ---- the hash
+
+// With a piece and the mark after it.
+fn add_piece(state: sha384::State, piece: &[u8]) -> sha384::State
+    ensures { λ r. ⌜ r ≡ added (added state (now (piece .entry))) (ascii ":") ⌝ }
+{
+    state.add(piece).add(b":")
+}
+
+// Of the Subject's kind name, Manufacturer, MID and GNT, and of Q's characters, each followed by ':'.
+fn hash_of(subject: &[u8], q: &[u8]) -> [u8; 48]
+    ensures { λ r. ⌜ r ≡ sha384 (textAt (now (subject .entry)) (now (q .entry))) ⌝ }
+{
+    let manufacturer = subjects::field_in(subject, table::IDENTITY_MANUFACTURER);
+    let mid = subjects::field_in(subject, table::IDENTITY_MID);
+    let gnt = subjects::field_in(subject, table::IDENTITY_GNT);
+    let kind = add_piece(sha384::State::begin(), frame::title_of(subject));
+    let named = add_piece(add_piece(kind, manufacturer), mid);
+    add_piece(add_piece(named, gnt), q).end()
+}
+
+// The Fingerprint that is right for the public key whose fields stand at these places.
+fn right_print(key: &[u8], starts: &[usize; 7], lens: &[usize; 7]) -> [u8; 16]
+    ensures { λ r. ⌜ r ≡ printOf (textAt (fieldAt (now (key .entry)) (now (starts .entry)) (now (lens .entry)) 1) (fieldAt (now (key .entry)) (now (starts .entry)) (now (lens .entry)) 2)) ⌝ }
+{
+    let hash = hash_of(
+        places::field_at(key, starts, lens, table::PUBKEY_SUBJECT),
+        places::field_at(key, starts, lens, table::PUBKEY_Q),
+    );
+    let mut print = [0u8; 16];
+    put::put_hex(&mut print, 0, &hash[..BYTES]);
+    print
+}
+
+// ---- the calls
+
+// 15 where the Fingerprint in the Subject of an accepted public key is not the right one; any other kind answers 2 in its place.
+pub fn check_fingerprint(record: &[u8]) -> Checked
+    ensures { λ r. ⌜ r ≡ checkFingerprint (now («record» .entry)) ⌝ }
+{
+    let answer = reading::read_of(table::ECDSA, table::REQ, record);
+    if answer.no != numbers::ACCEPTED {
+        return Checked {
+            no: answer.no,
+            field: answer.field,
+        };
+    }
+    let starts = answer.starts;
+    let lens = answer.lens;
+    let right = right_print(record, &starts, &lens);
+    let subject = places::field_at(record, &starts, &lens, table::PUBKEY_SUBJECT);
+    let print = subjects::field_in(subject, table::IDENTITY_FINGERPRINT);
+    if text::are_same(print, &right) {
+        return Checked {
+            no: numbers::ACCEPTED,
+            field: 0,
+        };
+    }
+    Checked {
+        no: numbers::WRONG_FINGERPRINT,
+        field: 0,
+    }
+}
+
+// Writes the sixteen characters that are right, whatever stands in the Subject, from the front of a lent output; or refuses,
+// 10 last, and leaves it untouched.
+pub fn write_fingerprint(record: &[u8], out: &mut [u8]) -> put::Written
+    ensures { λ r. ⌜ Writes (writeFingerprint (now («record» .entry)) (length (now (out .entry)))) (now (out .entry)) (now (out .exit)) r ⌝ }
+{
+    let answer = reading::read_of(table::ECDSA, table::REQ, record);
+    if answer.no != numbers::ACCEPTED {
+        return put::refuse(answer.no, answer.field);
+    }
+    if out.len() < CHARACTERS {
+        return put::refuse(numbers::SHORT_OUTPUT, 0);
+    }
+    let starts = answer.starts;
+    let lens = answer.lens;
+    let right = right_print(record, &starts, &lens);
+    let len = put::put(out, 0, &right);
+    put::Written {
+        no: numbers::ACCEPTED,
+        field: 0,
+        len,
+    }
+}
