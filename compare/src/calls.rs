@@ -2,7 +2,8 @@
 
 use crate::cases::{Answer, Case};
 use compare::crc::crc16;
-use compare::{agreement, attributes, build, file, newer, record, text};
+use compare::sha384::sha384;
+use compare::{agreement, attributes, build, file, fingerprint, newer, record, text};
 
 /// One call of the library.
 pub struct Call {
@@ -79,6 +80,12 @@ calls! {
     };
     AttributeNamedPlace "attribute_named_place" |case| {
         case.place(attributes::attribute_named(&case.a, &case.b))
+    };
+    Sha384 "sha384_of" |case| case.values(&sha384(&case.a).map(u64::from));
+    Sha384State "State::begin,add,end" |case| case.values(&sha384(&case.a).map(u64::from));
+    CheckFingerprint "check_fingerprint" |case| case.verdict(fingerprint::check(&case.a));
+    WriteFingerprint "write_fingerprint" |case| {
+        case.output(|output| fingerprint::write(&case.a, output))
     };
 }
 

@@ -128,6 +128,11 @@ impl Case {
         self.said(text, &numbers, Some(number))
     }
 
+    /// The answer of a call that only says whether it refuses.
+    pub fn verdict(&self, answer: Result<(), Refusal>) -> Answer {
+        self.outcome(b"", answer, &[])
+    }
+
     /// The answer of a reading call: the kind; of all fields the starts, the lengths, and the kinds of
     /// the identities among them.
     pub fn read(&self, read: Result<Record, Refusal>) -> Answer {
@@ -236,6 +241,7 @@ pub fn lent_before() -> [u8; 1024] {
 #[cfg(test)]
 mod tests {
     use super::*;
+    use compare::sha384::sha384;
     use compare::text::check_text;
     use compare::worked::worked;
 
@@ -252,6 +258,10 @@ mod tests {
         assert_eq!(Op::Build.call().name(), "build");
         assert_eq!(Op::Attribute.number(), 28);
         assert_eq!(Op::AttributeNamedPlace.number(), 31);
+        assert_eq!(Op::Sha384.number(), 32);
+        assert_eq!(Op::Sha384State.number(), 33);
+        assert_eq!(Op::CheckFingerprint.number(), 34);
+        assert_eq!(Op::WriteFingerprint.number(), 35);
     }
 
     #[test]
@@ -289,6 +299,30 @@ mod tests {
         assert_eq!(line(Op::Attribute, 8, [&key, no, no]), "attribute  12 0 0 65535");
         let absent = line(Op::AttributeNamedPlace, 0, [&key, b"KE", no]);
         assert_eq!(absent, "attribute_named_place 12 0 0 0");
+    }
+
+    #[test]
+    fn a_hash_is_the_numbers_of_its_bytes() {
+        let no: &[u8] = &[];
+        let hash: String = sha384(b"abc").iter().map(|byte| format!(" {byte}")).collect();
+        assert!(hash.starts_with(" 203 0 117 63 ") && hash.ends_with(" 37 167"));
+        assert_eq!(line(Op::Sha384, 0, [b"abc", no, no]), format!("sha384_of{hash}"));
+        for n in 0..5 {
+            let by_state = line(Op::Sha384State, n, [b"abc", no, no]);
+            assert_eq!(by_state, format!("State::begin,add,end{hash}"));
+        }
+    }
+
+    #[test]
+    fn a_fingerprint_is_checked_or_written() {
+        let no: &[u8] = &[];
+        let key = worked("PUBKEY_KMC");
+        assert_eq!(line(Op::CheckFingerprint, 0, [&key, no, no]), "check_fingerprint 0 0");
+        assert_eq!(line(Op::CheckFingerprint, 0, [b"x", no, no]), "check_fingerprint 2 0");
+        let written = format!("write_fingerprint 0 0 16 {}", crc16(b"4712CFF444570C8A"));
+        assert_eq!(line(Op::WriteFingerprint, 16, [&key, no, no]), written);
+        let short = format!("write_fingerprint 10 0 0 {}", crc16(&lent_before()[..15]));
+        assert_eq!(line(Op::WriteFingerprint, 15, [&key, no, no]), short);
     }
 
     #[test]

@@ -2,9 +2,9 @@
 //!
 //! It covers identities, public keys, load requests, load responses and wrapped keys: reading,
 //! checking and building them, the attributes of a wrapped key, the three key agreement texts of a
-//! load request, the walk over a file of records and its list, and the choice of the newer of two
-//! public keys. What it takes inside is its own: only the library's calls for users and its lister
-//! are answered.
+//! load request, the walk over a file of records and its list, the choice of the newer of two public
+//! keys, SHA-384, and the Fingerprint of a public key. What it takes inside is its own: only the
+//! library's calls for users and its lister are answered.
 //!
 //! It shares no line with the library that it is held against, and it is written for plain
 //! reading rather than for proof: slices, iterators, `Result`. Two implementations that come from
@@ -23,6 +23,8 @@
 //! | [`mod@file`] | files of records |
 //! | [`listing`] | the list of a file, and the file that the lister is run on |
 //! | [`newer`] | the chooser |
+//! | [`sha384`] | SHA-384 |
+//! | [`fingerprint`] | fingerprints of public keys |
 //! | [`random`] | the numbers that inputs are drawn by |
 //! | [`sample`] | inputs: permitted records, faults, damage |
 //! | [`worked`] | the worked values of the documents |
@@ -34,6 +36,7 @@ pub mod attributes;
 pub mod build;
 pub mod crc;
 pub mod file;
+pub mod fingerprint;
 pub mod kind;
 pub mod listing;
 pub mod newer;
@@ -41,5 +44,6 @@ pub mod random;
 pub mod record;
 pub mod refusal;
 pub mod sample;
+pub mod sha384;
 pub mod text;
 pub mod worked;

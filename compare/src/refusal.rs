@@ -31,6 +31,8 @@ pub enum Refusal {
     OtherSubject,
     /// 14: an attribute list that clause 7.5.1 or Appendix B does not permit.
     WrongAttributes,
+    /// 15: the Fingerprint in the Subject is not that of the public key.
+    FingerprintDiffers,
 }
 
 impl Refusal {
@@ -51,6 +53,7 @@ impl Refusal {
             Refusal::NoPart => 12,
             Refusal::OtherSubject => 13,
             Refusal::WrongAttributes => 14,
+            Refusal::FingerprintDiffers => 15,
         }
     }
 

@@ -6,10 +6,12 @@ use compare::attributes::{attribute, attribute_named};
 use compare::build::build;
 use compare::crc::crc16;
 use compare::file::{count, lines, Line};
+use compare::fingerprint::{check, hash_input, write};
 use compare::kind::Kind;
 use compare::newer::newer;
 use compare::record::{identity_field, read_identity, read_record, record_field, Record};
 use compare::refusal::Refusal;
+use compare::sha384::sha384;
 use compare::text::{base16_decode, check_text};
 use compare::worked::{appendix_a, worked, IDENTITIES, RECORDS, WRAPPED_KEYS};
 
@@ -185,6 +187,45 @@ fn a_key_is_the_newer_of_itself_and_an_equal_one_comes_first() {
     assert_eq!(newer(&unsigned, &signed), Ok(&unsigned[..]));
     assert_eq!(newer(&signed, &worked("PUBKEY_KMC")), Err(Refusal::OtherSubject));
     assert_eq!(newer(&signed, &worked("VKLOADREQ")), Err(Refusal::UnknownKind));
+}
+
+#[test]
+fn the_hashes_of_document_003_come_out() {
+    for (input, hash) in [
+        ("HASHIN_KMC", "SHA384_KMC"),
+        ("HASHIN_MAN", "SHA384_MAN"),
+        ("HASHIN_SM", "SHA384_SM"),
+        ("SIGINPUT_MAN", "SIGHASH_MAN"),
+        ("SIGINPUT_SM", "SIGHASH_SM"),
+        ("KDF_INPUT", "DKM"),
+    ] {
+        assert_eq!(sha384(&worked(input))[..], worked(hash), "{input}");
+    }
+}
+
+#[test]
+fn the_three_fingerprints_come_out() {
+    for (name, whose) in [
+        ("PUBKEY_KMC", "KMC"),
+        ("PUBKEY_MAN", "MAN"),
+        ("PUBKEY_SM_NOSIG", "SM"),
+        ("PUBKEY_SM", "SM"),
+    ] {
+        let key = worked(name);
+        assert_eq!(check(&key), Ok(()), "{name}");
+
+        let mut output = [0x55; 18];
+        assert_eq!(write(&key, &mut output), Ok(16), "{name}");
+        let fingerprint = worked(&format!("FINGERPRINT_{whose}"));
+        assert_eq!(output[..], [&fingerprint[..], &[0x55; 2]].concat(), "{name}");
+
+        let identity = worked(&format!("ID_{whose}"));
+        let read = read_identity(&identity).unwrap();
+        let [manufacturer, mid, gnt, _] = read.fields[..] else { panic!("four fields") };
+        let bound = [read.kind.name().as_bytes(), manufacturer, mid, gnt];
+        let input = hash_input(bound, &worked(&format!("Q_{whose}")));
+        assert_eq!(input, worked(&format!("HASHIN_{whose}")), "{name}");
+    }
 }
 
 #[test]

@@ -10,12 +10,12 @@ use compare::text::{MAC_DIGITS, PRINT_DIGITS, SIG_DIGITS};
 use compare::worked::worked;
 
 /// What a length that is kept in two bytes forgets.
-const MORE: usize = 1 << 16;
+pub(super) const MORE: usize = 1 << 16;
 
 /// What is made longer by [`MORE`]. The later ones stand next to digits: so a text of an alphabet
 /// is all of that alphabet, and nothing but its length is wrong.
 #[derive(Clone, Copy)]
-enum Part {
+pub(super) enum Part {
     Request,
     Key,
     WrappedKey,
@@ -34,14 +34,14 @@ enum Part {
 
 /// The parts, [`MORE`] digits, the parts backwards, and a tail: a line feed and an accepted line. All
 /// but a few long strings of this group are pieces of it, so that the case file has their bytes once.
-struct Block {
+pub(super) struct Block {
     parts: [Vec<u8>; 11],
-    bytes: Vec<u8>,
+    pub(super) bytes: Vec<u8>,
     tail: usize,
 }
 
 impl Block {
-    fn new() -> Block {
+    pub(super) fn new() -> Block {
         let parts = [
             worked("VKLOADREQ"),
             worked("PUBKEY_KMC"),
@@ -82,7 +82,7 @@ impl Block {
         self.bytes[end - self.part(part).len() - MORE..end].to_vec()
     }
 
-    fn longer(&self, part: Part) -> [Vec<u8>; 2] {
+    pub(super) fn longer(&self, part: Part) -> [Vec<u8>; 2] {
         [self.followed(part), self.preceded(part)]
     }
 

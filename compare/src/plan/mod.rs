@@ -8,6 +8,8 @@ mod building;
 mod dates;
 mod fields;
 mod files;
+mod fingerprints;
+mod hashes;
 mod lists;
 mod long;
 mod newer;
@@ -46,6 +48,8 @@ pub fn all() -> Vec<Case> {
         lists::add,
         attributes::add,
         dates::add,
+        hashes::add,
+        fingerprints::add,
     ];
     let mut plan = Plan { cases: Vec::new(), random: Random::with_seed(0) };
     for (seed, add) in (1..).zip(groups) {

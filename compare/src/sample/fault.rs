@@ -135,8 +135,18 @@ fn wrong_of_type(random: &mut Random, field_type: FieldType) -> Vec<u8> {
 
 /// A record with these faults.
 pub fn faulty(random: &mut Random, kind: Kind, faults: &[Fault]) -> Vec<u8> {
+    let fields = faulty_fields(random, kind, faults);
+    finished(random, kind, fields, faults)
+}
+
+/// A record of these fields, whatever they are, with those of the faults that no single field has.
+pub fn finished(
+    random: &mut Random,
+    kind: Kind,
+    mut fields: Vec<Vec<u8>>,
+    faults: &[Fault],
+) -> Vec<u8> {
     let has = |fault| faults.contains(&fault);
-    let mut fields = faulty_fields(random, kind, faults);
     if has(Fault::Count) {
         if random.once_in(2) {
             fields.push(hex(random, 16));

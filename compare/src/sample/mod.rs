@@ -7,13 +7,15 @@ mod damage;
 mod fault;
 mod input;
 mod list_fault;
+mod public_key;
 mod subject;
 
 pub use cards::{printable, wrapped_key, wrapped_key_fields, Cards};
 pub use damage::{damaged, damaged_anywhere, Place};
-pub use fault::{faulty, faulty_fields, with_a_wrong_field, Fault};
+pub use fault::{faulty, faulty_fields, finished, with_a_wrong_field, Fault};
 pub use input::{anything, file, line};
 pub use list_fault::{faulty_list, ListFault};
+pub use public_key::PublicKey;
 pub use subject::Subject;
 
 use crate::crc::crc16;

@@ -26,15 +26,24 @@ impl Subject {
 
     /// A public key of this Subject; all else in it is random.
     pub fn key(&self, random: &mut Random) -> Vec<u8> {
-        let kind = match self.kind {
-            Kind::Smman => Kind::PkEcdsa,
-            _ => Kind::PkEcdh,
-        };
+        let kind = self.key_kind();
         let signed = if random.once_in(8) { Signed::Yes } else { Signed::No };
         let mut fields = fields(random, kind, signed);
-        let (manufacturer, mid) = (self.manufacturer.clone(), self.mid.clone());
-        let print = hex(random, PRINT_DIGITS);
-        fields[0] = of_kind(self.kind, &[manufacturer, mid, self.gnt.clone(), print]);
+        fields[0] = self.identity(hex(random, PRINT_DIGITS));
         of_kind(kind, &fields)
+    }
+
+    /// The kind of a public key that permits this Subject.
+    pub fn key_kind(&self) -> Kind {
+        match self.kind {
+            Kind::Smman => Kind::PkEcdsa,
+            _ => Kind::PkEcdh,
+        }
+    }
+
+    /// The identity with this Fingerprint.
+    pub fn identity(&self, print: Vec<u8>) -> Vec<u8> {
+        let (manufacturer, mid) = (self.manufacturer.clone(), self.mid.clone());
+        of_kind(self.kind, &[manufacturer, mid, self.gnt.clone(), print])
     }
 }
