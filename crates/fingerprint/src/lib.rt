@@ -32,26 +32,27 @@ fn add_piece(state: sha384::State, piece: &[u8]) -> sha384::State
     state.add(piece).add(b":")
 }
 
-// Of the Subject's kind name, Manufacturer, MID and GNT, and of Q's characters, each followed by ':'.
-fn hash_of(subject: &[u8], q: &[u8]) -> [u8; 48]
-    ensures { λ r. ⌜ r ≡ sha384 (textAt (now (subject .entry)) (now (q .entry))) ⌝ }
+// Of the public key whose fields stand at these places: of its Subject's kind name, Manufacturer, MID and GNT, and of Q's
+// characters, each followed by ':'.
+fn hash_of(key: &[u8], starts: &[usize; 7], lens: &[usize; 7]) -> [u8; 48]
+    ensures { λ r. ⌜ r ≡ sha384 (textAt (fieldAt (now (key .entry)) (now (starts .entry)) (now (lens .entry)) 1) (fieldAt (now (key .entry)) (now (starts .entry)) (now (lens .entry)) 2)) ⌝ }
 {
+    let subject = places::field_at(key, starts, lens, table::PUBKEY_SUBJECT);
     let manufacturer = subjects::field_in(subject, table::IDENTITY_MANUFACTURER);
     let mid = subjects::field_in(subject, table::IDENTITY_MID);
     let gnt = subjects::field_in(subject, table::IDENTITY_GNT);
+    let q = places::field_at(key, starts, lens, table::PUBKEY_Q);
     let kind = add_piece(sha384::State::begin(), frame::title_of(subject));
     let named = add_piece(add_piece(kind, manufacturer), mid);
-    add_piece(add_piece(named, gnt), q).end()
+    let dated = add_piece(named, gnt);
+    add_piece(dated, q).end()
 }
 
-// The Fingerprint that is right for the public key whose fields stand at these places.
+// The Fingerprint that is right for it.
 fn right_print(key: &[u8], starts: &[usize; 7], lens: &[usize; 7]) -> [u8; 16]
     ensures { λ r. ⌜ r ≡ printOf (textAt (fieldAt (now (key .entry)) (now (starts .entry)) (now (lens .entry)) 1) (fieldAt (now (key .entry)) (now (starts .entry)) (now (lens .entry)) 2)) ⌝ }
 {
-    let hash = hash_of(
-        places::field_at(key, starts, lens, table::PUBKEY_SUBJECT),
-        places::field_at(key, starts, lens, table::PUBKEY_Q),
-    );
+    let hash = hash_of(key, starts, lens);
     let mut print = [0u8; 16];
     put::put_hex(&mut print, 0, &hash[..BYTES]);
     print

@@ -53,7 +53,7 @@ part-same p n x y long f =
     ext-getD 0 (part p n x) (part p n y) (simp (length-take, length-drop, long))
     (λ k _. part-law _≡_ refl p n k x y (λ t. f (p + k) (omega arith) (omega arith)))
 
-part-bytes : (p n : ℕ) (s : Bytes) → AreBytes s → AreBytes (part p n s)
+pub part-bytes : (p n : ℕ) (s : Bytes) → AreBytes s → AreBytes (part p n s)
 part-bytes p n s h k = part-law (λ c d. c < 256) (omega arith) p n k s s (λ _. h (p + k))
 
 -- where no byte that differs is c, the first c stands at one place

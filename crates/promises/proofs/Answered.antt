@@ -6,9 +6,9 @@ use mathlib.Core.Bool.{Bool, true, false, cond, _&&_}
 use mathlib.Core.List.{List}
 use lib.Dec.{leb, eqb}
 use lib.ListN.{length, take, drop}
-use Rattle.text.specs.Text.{Bytes, between}
+use Rattle.text.specs.Text.{Bytes, same, between}
 use Rattle.text.specs.Later.{later}
-use Rattle.numbers.specs.Numbers.{tooLong, unknownKind, wrongCount, shortOutput, unfinished, missingItem, notAlike}
+use Rattle.numbers.specs.Numbers.{tooLong, unknownKind, wrongCount, shortOutput, unfinished, missingItem, notAlike, wrongFingerprint}
 use Rattle.format.specs.Kinds.{Kind, fieldsOf, pubkeyKinds, allKinds}
 use Rattle.format.specs.Build.{recordOf, longestRecord}
 use Rattle.format.specs.Read.{Outcome, accepted, refused, answer, place, judged, readIdentity, readOf, readRecord}
@@ -27,6 +27,7 @@ use Rattle.items.specs.Items.{lvConcat}
 use Rattle.agreement.specs.Texts.{textMade}
 use Rattle.files.specs.Walk.{lineSaid, numberOf, fieldOf}
 use Rattle.subjects.specs.Subjects.{gnt, alike}
+use Rattle.fingerprint.specs.Fingerprint.{rightPrint, printIn, checkBy, printMade}
 use Rattle.newer.specs.Newer.{theFirst, theSecond, noChoice, bySubjects, byRecords, newer, choiceNo, choiceField, subject}
 
 module _ (P : ℕ → ℕ → Type 0) (z : P 0 0) where
@@ -62,6 +63,23 @@ module _ (P : ℕ → ℕ → Type 0) (z : P 0 0) where
       go true = z
       go false = more
   text-answered items room (refused n i) h more = h
+
+  -- the Fingerprint of a public key: checked, 15 besides; written, 10 besides
+  pub check-answered : (o : Outcome) → Of o → P wrongFingerprint 0 → P (checkBy o .no) (checkBy o .field)
+  check-answered (accepted k fs) h more = go (same (printIn (readIdentity (subject fs))) (rightPrint fs))
+    where
+      go : (b : Bool) → P (cond b 0 wrongFingerprint) 0
+      go true = z
+      go false = more
+  check-answered (refused n i) h more = h
+
+  pub print-answered : (room : ℕ) (o : Outcome) → Of o → P shortOutput 0 → P (says (printMade room o) .no) (says (printMade room o) .field)
+  print-answered room (accepted k fs) h more = go (leb 16 room)
+    where
+      go : (b : Bool) → let m = cond b (made (rightPrint fs)) (put.denied shortOutput 0) in P (says m .no) (says m .field)
+      go true = z
+      go false = more
+  print-answered room (refused n i) h more = h
 
   -- the fields alone: 2 besides; a building: 2, 5, 1 and 10
   module _ (fields : (k : Kind) (fs : List Bytes) (o : Outcome) → Of o → Of (judged readIdentity k fs o)) (kind : P unknownKind 0) where

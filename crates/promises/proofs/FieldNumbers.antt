@@ -13,8 +13,9 @@ use Rattle.format.proofs.Refusals.{naming, Names, judged-names, over-names}
 use Rattle.table.specs.Table.{kindsFrom}
 use Rattle.fields.specs.Attributes.{attributeNo}
 use Rattle.agreement.specs.Texts.{sharedItems, moduleItems, centreItems, sharedInfo, moduleText, centreText}
+use Rattle.fingerprint.specs.Fingerprint.{checkFingerprint, writeFingerprint}
 use Rattle.promises.specs.FieldNumbers.{FieldNumbers}
-use Rattle.promises.proofs.Answered.{answered, wanted-answered, attribute-answered, text-answered, judge-answered, build-answered, line-answered, newer-answered}
+use Rattle.promises.proofs.Answered.{answered, wanted-answered, attribute-answered, text-answered, judge-answered, build-answered, line-answered, newer-answered, check-answered, print-answered}
 
 identity-names : (s : Bytes) → Names (readIdentity s)
 unfolding readIdentity
@@ -36,7 +37,7 @@ attribute-names : (s : Bytes) (wanted : ℕ) → NamesAt (attributeNo (readOf ke
 attribute-names s wanted = attribute-answered NamesAt refl (readOf keyKinds s) wanted (read-names keyKinds s) refl
 
 pub field-numbers : FieldNumbers
-unfolding sharedInfo moduleText centreText
+unfolding sharedInfo moduleText centreText checkFingerprint writeFingerprint
 field-numbers = record {
   read-identity = λ κs a r s p. rw p (answered NamesAt refl (readIdentity (now (a .0))) (identity-names (now (a .0))));
   read-record = λ κs a r s p. rw p (answered NamesAt refl (readRecord (now (a .0))) (record-names (now (a .0))));
@@ -58,4 +59,6 @@ field-numbers = record {
   step-from = λ κs a r s p. rw p (line-answered NamesAt refl record-names refl (now (a .0)) (a .1 .0));
   newer-of = λ κs a r s p. rw p (newer-answered NamesAt refl refl identity-names (read-names pubkeyKinds) (now (a .0)) (now (a .1 .0)));
   newer = λ κs a r s p. rw (p .number-so, p .field-so) (newer-answered NamesAt refl refl identity-names (read-names pubkeyKinds) (now (a .0)) (now (a .1 .0)));
+  check-fingerprint = λ κs a r s p. rw p (check-answered NamesAt refl (readOf pubkeyKinds (now (a .0))) (read-names pubkeyKinds (now (a .0))) refl);
+  write-fingerprint = λ κs a r s p. rw (p .said) (print-answered NamesAt refl (length (now (a .1 .0))) (readOf pubkeyKinds (now (a .0))) (read-names pubkeyKinds (now (a .0))) refl);
 }

@@ -5,6 +5,7 @@ use mathlib.Core.List.{List, [], _∷_, _++_}
 use Rattle.crc16.specs.Crc.{bitStep, bitSteps, add, addAll, crcOf}
 use Rattle.text.specs.Text.{looks, numberFrom, isDigits, isAlphanumeric, isIdent, isTimestamp, isHex, isPoint, isPrintable, isProtected, isOctet}
 use Rattle.text.specs.Base16.{hexDigit, checkText}
+use Rattle.sha384.specs.Sha384.{K, padding, padded, block, H₀, word, words, schedule, rounds, compress, hashed, left384, sha384}
 use Rattle.format.specs.Attributes.{isCard, areAttributes}
 use Rattle.format.specs.Build.{withCheck, recordOf}
 use Rattle.format.specs.Read.{checkNo, identityAnswer, fieldAnswer, wholeAnswer, judged, readAs, readOver, readIdentity, readOf, readRecord}
@@ -15,9 +16,10 @@ use Rattle.fields.specs.Fields.{wantedNo}
 use Rattle.fields.specs.Attributes.{listSaid, attributeNo, numberNamed}
 use Rattle.subjects.specs.Subjects.{alike}
 use Rattle.newer.specs.Newer.{newer}
+use Rattle.fingerprint.specs.Fingerprint.{checkFingerprint, writeFingerprint}
 use Rattle.promises.specs.Values.{Value, AllCome, admittedFrom}
 use Rattle.promises.specs.Worked.{manufacturerIdFields, manufacturerId, moduleIdFields, moduleId, centreIdFields, centreId, manufacturerKeyFields, manufacturerKey, moduleKeyFields, moduleKey, centreKeyFields, centreKey, requestFields, request, responseFields, response, keyAttributes, keyFields, key, longAttributes}
-use Rattle.promises.specs.Fixed.{rows, alphabets, limits, labels, checks, numbers, building, texts, others, lists, keys, longKeys, days, dates, fixed}
+use Rattle.promises.specs.Fixed.{rows, alphabets, limits, labels, checks, numbers, building, texts, others, lists, keys, longKeys, days, dates, hashes, prints, agreeing, differing, fingerprints, fixed}
 
 -- two sets of values are one; a record, so that the checker finds which two
 record Come (vs : List Value) : Type 0 where
@@ -87,6 +89,26 @@ all-dates : Come dates
 unfolding dates build buildOf buildAs moduleIdFields moduleId centreIdFields centreId centreKeyFields requestFields responseFields keyFields recordOf withCheck checkText hexDigit crcOf addAll add bitSteps bitStep isIdent isTimestamp looks numberFrom isDigits isAlphanumeric isHex isPoint isPrintable isProtected isOctet isCard areAttributes checkNo identityAnswer fieldAnswer wholeAnswer judged readAs readOver readIdentity readOf readRecord
 all-dates = record { come = (refl, (refl, (refl, (refl, (refl, (refl, (refl, (refl, (refl, (refl, (refl, (refl, (refl, (refl, (refl, tt))))))))))))))) }
 
+all-hashes : Come hashes
+unfolding hashes hexDigit K padding padded block H₀ word words schedule rounds compress hashed left384 sha384
+all-hashes = record { come = (refl, (refl, (refl, tt))) }
+
+all-prints : Come prints
+unfolding prints manufacturerIdFields manufacturerId moduleIdFields moduleId centreIdFields centreId manufacturerKeyFields moduleKeyFields centreKeyFields recordOf withCheck checkText hexDigit crcOf addAll add bitSteps bitStep isIdent isTimestamp looks numberFrom isHex checkNo identityAnswer fieldAnswer wholeAnswer judged readAs readOver readIdentity K padding padded block H₀ word words schedule rounds compress hashed left384 sha384
+all-prints = record { come = (refl, (refl, (refl, tt))) }
+
+all-agreeing : Come agreeing
+unfolding agreeing checkFingerprint centreKey isPoint readOf manufacturerIdFields manufacturerId moduleIdFields moduleId centreIdFields centreId manufacturerKeyFields moduleKeyFields centreKeyFields recordOf withCheck checkText hexDigit crcOf addAll add bitSteps bitStep isIdent isTimestamp looks numberFrom isHex checkNo identityAnswer fieldAnswer wholeAnswer judged readAs readOver readIdentity K padding padded block H₀ word words schedule rounds compress hashed left384 sha384
+all-agreeing = record { come = (refl, tt) }
+
+all-differing : Come differing
+unfolding differing checkFingerprint centreKey isPoint readOf manufacturerIdFields manufacturerId moduleIdFields moduleId centreIdFields centreId manufacturerKeyFields moduleKeyFields centreKeyFields recordOf withCheck checkText hexDigit crcOf addAll add bitSteps bitStep isIdent isTimestamp looks numberFrom isHex checkNo identityAnswer fieldAnswer wholeAnswer judged readAs readOver readIdentity K padding padded block H₀ word words schedule rounds compress hashed left384 sha384
+all-differing = record { come = (refl, tt) }
+
+all-fingerprints : Come fingerprints
+unfolding fingerprints checkFingerprint writeFingerprint centreKey isPoint readOf readRecord manufacturerIdFields manufacturerId moduleIdFields moduleId centreIdFields centreId manufacturerKeyFields moduleKeyFields centreKeyFields recordOf withCheck checkText hexDigit crcOf addAll add bitSteps bitStep isIdent isTimestamp looks numberFrom isHex checkNo identityAnswer fieldAnswer wholeAnswer judged readAs readOver readIdentity K padding padded block H₀ word words schedule rounds compress hashed left384 sha384
+all-fingerprints = record { come = (refl, (refl, (refl, (refl, (refl, (refl, (refl, (refl, tt)))))))) }
+
 pub all-fixed : AllCome fixed
 unfolding fixed
-all-fixed = (all-rows and all-alphabets and all-limits and all-labels and all-checks and all-numbers and all-building and all-texts and all-others and all-lists and all-keys and all-long-keys and all-days and all-dates) .come
+all-fixed = (all-rows and all-alphabets and all-limits and all-labels and all-checks and all-numbers and all-building and all-texts and all-others and all-lists and all-keys and all-long-keys and all-days and all-dates and all-hashes and all-prints and all-agreeing and all-differing and all-fingerprints) .come

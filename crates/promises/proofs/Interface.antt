@@ -6,6 +6,8 @@ use Rattle.format.specs.Files.{lineAt}
 use Rattle.files.specs.Walk.{lineSaid, nextOf}
 use Rattle.files.specs.declared.Line.{Line}
 use Rattle.files.specs.declared.Line.the-variants.{Finished, Read}
+use Rattle.text.specs.Text.{Bytes}
+use Rattle.exports.specs.declared.hashing.Digest.{Digest}
 use Rattle.exports.specs.declared.walking.Found.{Found}
 use Rattle.exports.specs.Exports.{found}
 use Rattle.promises.specs.Interface.{Interface}
@@ -48,4 +50,11 @@ interface = record {
   reader-step-place = λ κs a r s p. p .its-place ∙ ap (λ (line : Found). line .next) (p .its-line) ∙ found-next (lineSaid (lineAt (now (a .0)) (now (a .1 .0))));
   count = λ κs a r s p. p;
   newer = λ κs a r s p. p;
+  sha384-begin = λ κs a r s p. p;
+  sha384-add = λ κs a r s p. p;
+  sha384-end = λ κs a r s p. ap {B = Digest} (λ (b : Bytes). record { bytes = b }) p;
+  sha384-of = λ κs a r s p. ap {B = Digest} (λ (b : Bytes). record { bytes = b }) p;
+  check-fingerprint = λ κs a r s p. p;
+  write-fingerprint-said = λ κs a r s p. p .said;
+  write-fingerprint-out = λ κs a r s p. p .left;
 }

@@ -21,9 +21,10 @@ use Rattle.put.specs.Made.{made, says}
 use Rattle.items.specs.Items.{textItem}
 use Rattle.items.specs.Place.{placeFrom}
 use Rattle.agreement.specs.Texts.{sharedItems, moduleItems, centreItems, sharedInfo, moduleText, centreText}
+use Rattle.fingerprint.specs.Fingerprint.{checkFingerprint, writeFingerprint}
 use Rattle.list_text.specs.Listing.{listText, listRoom, writeList}
 use Rattle.promises.specs.Refusals.{ofIdentities, ofRecords, ofPubkeys, ofKeys, ofTexts, Refusals}
-use Rattle.promises.proofs.Answered.{answered, wanted-answered, attribute-answered, text-answered, judge-answered, build-answered, line-answered, newer-answered}
+use Rattle.promises.proofs.Answered.{answered, wanted-answered, attribute-answered, text-answered, judge-answered, build-answered, line-answered, newer-answered, check-answered, print-answered}
 
 -- n is one of ns, whatever the field's number
 abbrev In : List ℕ → ℕ → ℕ → Type 0
@@ -56,7 +57,7 @@ wrapped-given : (s : Bytes) → Gives ofKeys (readOf keyKinds s)
 unfolding readOf
 wrapped-given s = over-given ofKeys tt readIdentity (tt, tt, tt, tt, tt) keyKinds (tt, tt) s
 
-pubkey-given : (s : Bytes) → Gives ofPubkeys (readOf pubkeyKinds s)
+pub pubkey-given : (s : Bytes) → Gives ofPubkeys (readOf pubkeyKinds s)
 unfolding readOf
 pubkey-given s = over-given ofPubkeys tt readIdentity (tt, tt, tt, tt, tt) pubkeyKinds (tt, (tt, tt)) s
 
@@ -101,13 +102,19 @@ subject-given s = one-of (oneOf (13 ∷ ofPubkeys)) ofIdentities tt (answer (rea
 key-given : (s : Bytes) → Gives (13 ∷ ofPubkeys) (readOf pubkeyKinds s)
 key-given s = further 13 ofPubkeys (readOf pubkeyKinds s) (pubkey-given s)
 
+checked-given : (s : Bytes) → Gives (15 ∷ ofPubkeys) (readOf pubkeyKinds s)
+checked-given s = further 15 ofPubkeys (readOf pubkeyKinds s) (pubkey-given s)
+
+print-given : (s : Bytes) → Gives (10 ∷ ofPubkeys) (readOf pubkeyKinds s)
+print-given s = further 10 ofPubkeys (readOf pubkeyKinds s) (pubkey-given s)
+
 -- ---- an attribute, by whatever number
 
 attribute-given : (s : Bytes) (wanted : ℕ) → T (oneOf (12 ∷ ofKeys) (attributeNo (readOf keyKinds s) wanted))
 attribute-given s wanted = attribute-answered (In (12 ∷ ofKeys)) tt (readOf keyKinds s) wanted (further 12 ofKeys (readOf keyKinds s) (wrapped-given s)) tt
 
 pub refusals : Refusals
-unfolding sharedInfo moduleText centreText
+unfolding sharedInfo moduleText centreText checkFingerprint writeFingerprint
 refusals = record {
   check-no = λ κs a r s p. rw p (check-given (0 ∷ 3 ∷ 4 ∷ []) tt (a .0) (now (a .1 .0)) tt tt);
   read-identity = λ κs a r s p. rw p (answered (In ofIdentities) tt (readIdentity (now (a .0))) (identity-given (now (a .0))));
@@ -133,4 +140,6 @@ refusals = record {
   write-list = λ κs a r s p. rw (p .said) (list-given (now (a .0)) (length (now (a .1 .0))));
   newer-of = λ κs a r s p. rw p (newer-answered (In (13 ∷ ofPubkeys)) tt tt subject-given key-given (now (a .0)) (now (a .1 .0)));
   newer = λ κs a r s p. rw (p .number-so) (newer-answered (In (13 ∷ ofPubkeys)) tt tt subject-given key-given (now (a .0)) (now (a .1 .0)));
+  check-fingerprint = λ κs a r s p. rw p (check-answered (In (15 ∷ ofPubkeys)) tt (readOf pubkeyKinds (now (a .0))) (checked-given (now (a .0))) tt);
+  write-fingerprint = λ κs a r s p. rw (p .said) (print-answered (In (10 ∷ ofPubkeys)) tt (length (now (a .1 .0))) (readOf pubkeyKinds (now (a .0))) (print-given (now (a .0))) tt);
 }

@@ -61,7 +61,12 @@ use Rattle.fields.proofs.attribute.Reads as attribute
 use Rattle.fields.proofs.attribute_named.Reads as attribute-named
 use Rattle.put.proofs.put.Reads as put
 use Rattle.put.proofs.put_byte.Reads as put-byte
+use Rattle.put.proofs.put_hex.Reads as put-hex
 use Rattle.put.proofs.refuse.Reads as refuse
+use Rattle.sha384.proofs.State.begin.Reads as sha384-begin
+use Rattle.sha384.proofs.State.add.Reads as sha384-add
+use Rattle.sha384.proofs.State.end.Reads as sha384-end
+use Rattle.sha384.proofs.sha384_of.Reads as sha384-of
 use Rattle.items.proofs.item_place.Reads as item-place
 use Rattle.items.proofs.text_item.Reads as text-item
 use Rattle.building.proofs.build.Reads as build
@@ -73,7 +78,10 @@ use Rattle.files.proofs.count.Reads as count
 use Rattle.files.proofs.step_from.Reads as step-from
 use Rattle.list_text.proofs.write_list.Reads as write-list
 use Rattle.list_printing.proofs.print_list.Reads as print-list
+use Rattle.subjects.proofs.field_in.Reads as field-in
 use Rattle.subjects.proofs.are_alike.Reads as are-alike
+use Rattle.fingerprint.proofs.check_fingerprint.Reads as check-fingerprint
+use Rattle.fingerprint.proofs.write_fingerprint.Reads as write-fingerprint
 use Rattle.newer.proofs.newer_of.Reads as newer-of
 use Rattle.newer.proofs.newer.Reads as newer
 
@@ -171,6 +179,13 @@ pub record Determined : Type 0 where
   pub put-out : OneLeft put.Post (λ κs s. now (s .0))
   pub put-byte-next : OneAnswer put-byte.Post
   pub put-byte-out : OneLeft put-byte.Post (λ κs s. now (s .0))
+  pub put-hex-next : OneAnswer put-hex.Post
+  pub put-hex-out : OneLeft put-hex.Post (λ κs s. now (s .0))
+  -- sha384
+  pub sha384-begin : OneAnswer sha384-begin.Post
+  pub sha384-add : OneAnswer sha384-add.Post
+  pub sha384-end : OneAnswer sha384-end.Post
+  pub sha384-of : OneAnswer sha384-of.Post
   -- building
   pub build-said : OneAnswer build.Post
   pub build-out : OneLeft build.Post (λ κs s. now (s .1 .1 .1 .0))
@@ -195,7 +210,12 @@ pub record Determined : Type 0 where
   -- list_printing: but for `taken`
   pub print-list-len : OneIn print-list.Post (λ κs r. r .len)
   -- subjects
+  pub field-in : OnePart field-in.Post
   pub are-alike : OneAnswer are-alike.Post
+  -- fingerprint
+  pub check-fingerprint : OneAnswer check-fingerprint.Post
+  pub write-fingerprint-said : OneAnswer write-fingerprint.Post
+  pub write-fingerprint-out : OneLeft write-fingerprint.Post (λ κs s. now (s .1 .0))
   -- newer
   pub newer-of : OneAnswer newer-of.Post
   pub newer-part : OnePart newer.Post

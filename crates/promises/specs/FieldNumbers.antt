@@ -28,6 +28,8 @@ use Rattle.files.proofs.line_at.Reads as line-at
 use Rattle.files.proofs.step_from.Reads as step-from
 use Rattle.newer.proofs.newer_of.Reads as newer-of
 use Rattle.newer.proofs.newer.Reads as newer
+use Rattle.fingerprint.proofs.check_fingerprint.Reads as check-fingerprint
+use Rattle.fingerprint.proofs.write_fingerprint.Reads as write-fingerprint
 
 -- a field is named, by its number from 1, exactly with 6, 7 and 9; the field number is 0 with every other number
 abbrev pub NamesField : {K : Type 0} {A R S : K → Type 0} → ((κs : K) → A κs → R κs → S κs → Type 0) → ((κs : K) → R κs → S κs → ℕ) → ((κs : K) → R κs → S κs → ℕ) → Type 0
@@ -55,3 +57,5 @@ pub record FieldNumbers : Type 0 where
   pub step-from : NamesField step-from.Post (λ κs r s. numberOf r) (λ κs r s. fieldOf r)
   pub newer-of : NamesField newer-of.Post (λ κs r s. r .no) (λ κs r s. r .field)
   pub newer : NamesField newer.Post (λ κs r s. now (s .1 .1 .0)) (λ κs r s. now (s .1 .1 .1 .0))
+  pub check-fingerprint : NamesField check-fingerprint.Post (λ κs r s. r .no) (λ κs r s. r .field)
+  pub write-fingerprint : NamesField write-fingerprint.Post (λ κs r s. r .no) (λ κs r s. r .field)

@@ -6,8 +6,10 @@ use Prim.Native.Char.{code}
 use mathlib.Core.Bool.{Bool, true, false}
 use mathlib.Core.List.{List, [], _∷_, _++_}
 use lib.ListN.{take, drop, replicate, set}
-use Rattle.numbers.specs.Numbers.{tooLong, unknownKind, missingCheck, wrongCheck, wrongCount, wrongText, wrongIdentity, unpaired, wrongKind, shortOutput, unfinished, missingItem, notAlike, wrongAttributes}
+use Rattle.numbers.specs.Numbers.{tooLong, unknownKind, missingCheck, wrongCheck, wrongCount, wrongText, wrongIdentity, unpaired, wrongKind, shortOutput, unfinished, missingItem, notAlike, wrongAttributes, wrongFingerprint}
 use Rattle.text.specs.Text.{Bytes, ascii, isIdent, isTimestamp, isHex, isPrintable, Ident, Timestamp, Point, Sig, Mac, Print, Protected, Hex, isOf}
+use Rattle.text.specs.Base16.{base16}
+use Rattle.sha384.specs.Sha384.{sha384}
 use Rattle.format.specs.Kinds.{Kind, SMMAN, SMID, KMCID, ECDSA, ECDH, REQ, RESP, KEY, Field, Text, Printable, Identity, OrEmpty, name, mark, fieldsOf, keyKinds}
 use Rattle.format.specs.Attributes.{areAttributes}
 use Rattle.format.specs.Build.{recordOf}
@@ -23,8 +25,10 @@ use Rattle.fields.specs.Attributes.{attributePart, attributeNo, cardsSaid, numb
 use Rattle.format.specs.Files.{lineFeed, lineAt}
 use Rattle.files.specs.Walk.{lineSaid, numberOf}
 use Rattle.newer.specs.Newer.{newer, choiceNo}
+use Rattle.fingerprint.specs.Fingerprint.{rightPrint, checkFingerprint, writeFingerprint}
+use Rattle.fingerprint.specs.declared.Checked.{Checked}
 use Rattle.promises.specs.Values.{Value, number, bytes, test, types, admitted}
-use Rattle.promises.specs.Worked.{manufacturerId, moduleIdFields, moduleId, centreId, manufacturerKeyFields, manufacturerKey, moduleKey, centreKeyFields, centreKey, requestFields, request, responseFields, response, keyAttributes, keyFields, key, longAttributes}
+use Rattle.promises.specs.Worked.{manufacturerId, moduleIdFields, moduleId, centreIdFields, centreId, manufacturerKeyFields, manufacturerKey, moduleKeyFields, moduleKey, centreKeyFields, centreKey, requestFields, request, responseFields, response, keyAttributes, keyFields, key, longAttributes}
 
 -- ---- "Seven kinds of record": names, marks and field types, row by row
 
@@ -143,8 +147,8 @@ said o = answer o ∷ place o ∷ []
 
 unfoldable pub numbers : List Value
 numbers =
-    bytes (tooLong ∷ unknownKind ∷ missingCheck ∷ wrongCheck ∷ wrongCount ∷ wrongText ∷ wrongIdentity ∷ unpaired ∷ wrongKind ∷ shortOutput ∷ unfinished ∷ missingItem ∷ notAlike ∷ wrongAttributes ∷ [])
-    (1 ∷ 2 ∷ 3 ∷ 4 ∷ 5 ∷ 6 ∷ 7 ∷ 8 ∷ 9 ∷ 10 ∷ 11 ∷ 12 ∷ 13 ∷ 14 ∷ [])
+    bytes (tooLong ∷ unknownKind ∷ missingCheck ∷ wrongCheck ∷ wrongCount ∷ wrongText ∷ wrongIdentity ∷ unpaired ∷ wrongKind ∷ shortOutput ∷ unfinished ∷ missingItem ∷ notAlike ∷ wrongAttributes ∷ wrongFingerprint ∷ [])
+    (1 ∷ 2 ∷ 3 ∷ 4 ∷ 5 ∷ 6 ∷ 7 ∷ 8 ∷ 9 ∷ 10 ∷ 11 ∷ 12 ∷ 13 ∷ 14 ∷ 15 ∷ [])
     ∷ bytes (said (readRecord (ascii "PK.ECDH.1"))) (2 ∷ 0 ∷ [])
     ∷ bytes (said (readRecord (ascii "PK.ECDH.1:x"))) (2 ∷ 0 ∷ [])
     ∷ bytes (said (readRecord moduleId)) (2 ∷ 0 ∷ [])
@@ -365,5 +369,51 @@ dates =
     ∷ bytes (built KEY (withList (listAt leapDay leapDay (ascii "EXP20230431T000000Z;IUT20000229T000000Z;")))) (10 ∷ 0 ∷ [])
     ∷ []
 
+-- ---- document 02, E3: the published vectors of SHA-384, of one block, of one block and of two
+
+unfoldable pub hashes : List Value
+hashes =
+    bytes (base16 (sha384 []))
+    (ascii "38B060A751AC96384CD9327EB1B1E36A21FDB71114BE07434C0CC7BF63F6E1DA274EDEBFE76F65FBD51AD2F14898B95B")
+    ∷ bytes (base16 (sha384 (ascii "abc")))
+    (ascii "CB00753F45A35E8BB5A03D699AC65007272C32AB0EDED1631A8B605A43FF5BED8086072BA1E7CC2358BAECA134C825A7")
+    ∷ bytes (base16 (sha384 (ascii "abcdefghbcdefghicdefghijdefghijkefghijklfghijklmghijklmnhijklmnoijklmnopjklmnopqklmnopqrlmnopqrsmnopqrstnopqrstu")))
+    (ascii "09330C33F71147E83D192FC782CD1B4753111B173B3B05D22FA08086E3B0F712FCC7C71A557E2DB966C3E9FA91746039")
+    ∷ []
+
+-- 003's three Fingerprints, as they stand in the keys' Subjects
+unfoldable pub prints : List Value
+prints =
+    bytes (rightPrint manufacturerKeyFields) (ascii "105717ACA4A50852")
+    ∷ bytes (rightPrint moduleKeyFields) (ascii "320C265FDC769D3E")
+    ∷ bytes (rightPrint centreKeyFields) (ascii "4712CFF444570C8A")
+    ∷ []
+
+-- the centre's key with another Fingerprint in its Subject
+abbrev pub otherPrint : List Bytes
+otherPrint = set centreKeyFields 0 (recordOf KMCID (set centreIdFields 3 (ascii "4712CFF444570C8B")))
+
+abbrev pub saidBy : Checked → Bytes
+saidBy c = c .no ∷ c .field ∷ []
+
+unfoldable pub agreeing : List Value
+agreeing = bytes (saidBy (checkFingerprint centreKey)) (0 ∷ 0 ∷ []) ∷ []
+
+unfoldable pub differing : List Value
+differing = bytes (saidBy (checkFingerprint (recordOf ECDH otherPrint))) (15 ∷ 0 ∷ []) ∷ []
+
+-- the record's own numbers come first, and 10 last; the record call does not give 15
+unfoldable pub fingerprints : List Value
+fingerprints =
+    bytes (said (readRecord (recordOf ECDH otherPrint))) (0 ∷ 0 ∷ [])
+    ∷ bytes (saidBy (checkFingerprint (recordOf ECDH (set otherPrint 3 manufacturerId)))) (8 ∷ 0 ∷ [])
+    ∷ bytes (saidBy (checkFingerprint (recordOf ECDH (set otherPrint 2 [])))) (6 ∷ 3 ∷ [])
+    ∷ bytes (saidBy (checkFingerprint (ascii "PK.ECDH.1|0000"))) (4 ∷ 0 ∷ [])
+    ∷ bytes (saidBy (checkFingerprint (ascii "KEY.1|0000"))) (2 ∷ 0 ∷ [])
+    ∷ bytes (saidOf (writeFingerprint (ascii "PK.ECDH.1|0000") 0)) (4 ∷ 0 ∷ [])
+    ∷ bytes (saidOf (writeFingerprint (recordOf ECDH otherPrint) 15)) (10 ∷ 0 ∷ [])
+    ∷ bytes (saidOf (writeFingerprint (recordOf ECDH otherPrint) 16)) (0 ∷ 0 ∷ [])
+    ∷ []
+
 unfoldable pub fixed : List Value
-fixed = rows ++ alphabets ++ limits ++ labels ++ checks ++ numbers ++ building ++ texts ++ others ++ lists ++ keys ++ longKeys ++ days ++ dates
+fixed = rows ++ alphabets ++ limits ++ labels ++ checks ++ numbers ++ building ++ texts ++ others ++ lists ++ keys ++ longKeys ++ days ++ dates ++ hashes ++ prints ++ agreeing ++ differing ++ fingerprints

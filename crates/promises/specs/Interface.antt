@@ -29,6 +29,12 @@ use Rattle.exports.proofs.walking.obscurlane_reader_new.Reads as reader-new
 use Rattle.exports.proofs.walking.obscurlane_reader_step.Reads as reader-step
 use Rattle.exports.proofs.walking.obscurlane_count.Reads as count
 use Rattle.exports.proofs.walking.obscurlane_newer.Reads as newer
+use Rattle.exports.proofs.hashing.obscurlane_sha384_begin.Reads as sha384-begin
+use Rattle.exports.proofs.hashing.obscurlane_sha384_add.Reads as sha384-add
+use Rattle.exports.proofs.hashing.obscurlane_sha384_end.Reads as sha384-end
+use Rattle.exports.proofs.hashing.obscurlane_sha384_of.Reads as sha384-of
+use Rattle.exports.proofs.hashing.obscurlane_check_fingerprint.Reads as check-fingerprint
+use Rattle.exports.proofs.hashing.obscurlane_write_fingerprint.Reads as write-fingerprint
 use lib.ListN.{length}
 use Rattle.crc16.specs.Crc.{begin, add, end, crcOf}
 use Rattle.text.specs.Text.{isIdent, isTimestamp, isHex, isPoint, isSig, isMac, isPrint}
@@ -44,6 +50,9 @@ use Rattle.items.specs.Place.{itemPlace}
 use Rattle.agreement.specs.Texts.{sharedInfo, moduleText, centreText}
 use Rattle.files.specs.Walk.{lineSaid, nextOf, totalsOf}
 use Rattle.newer.specs.Newer.{newer as newest, choiceSaid}
+use Rattle.sha384.specs.Sha384.{sha384}
+use Rattle.sha384.specs.State.{begun, added, ended}
+use Rattle.fingerprint.specs.Fingerprint.{checkFingerprint, writeFingerprint}
 use Rattle.exports.specs.Exports.{found}
 use Rattle.promises.specs.Calls.{Answers, Leaves}
 
@@ -89,3 +98,11 @@ pub record Interface : Type 0 where
   pub count : Answers count.Post (λ κs a. totalsOf (walk (now (a .0))))
   -- the newer key
   pub newer : Answers newer.Post (λ κs a. choiceSaid (newest (now (a .0)) (now (a .1 .0))))
+  -- SHA-384, and the Fingerprint of a public key
+  pub sha384-begin : Answers sha384-begin.Post (λ κs a. begun)
+  pub sha384-add : Answers sha384-add.Post (λ κs a. added (a .0) (now (a .1 .0)))
+  pub sha384-end : Answers sha384-end.Post (λ κs a. record { bytes = ended (a .0) })
+  pub sha384-of : Answers sha384-of.Post (λ κs a. record { bytes = sha384 (now (a .0)) })
+  pub check-fingerprint : Answers check-fingerprint.Post (λ κs a. checkFingerprint (now (a .0)))
+  pub write-fingerprint-said : Answers write-fingerprint.Post (λ κs a. says (writeFingerprint (now (a .0)) (length (now (a .1 .0)))))
+  pub write-fingerprint-out : Leaves write-fingerprint.Post (λ κs s. now (s .1 .0)) (λ κs a. leaves (writeFingerprint (now (a .0)) (length (now (a .1 .0)))) (now (a .1 .0)))

@@ -32,6 +32,8 @@ use Rattle.files.proofs.step_from.Reads as step-from
 use Rattle.list_text.proofs.write_list.Reads as write-list
 use Rattle.newer.proofs.newer_of.Reads as newer-of
 use Rattle.newer.proofs.newer.Reads as newer
+use Rattle.fingerprint.proofs.check_fingerprint.Reads as check-fingerprint
+use Rattle.fingerprint.proofs.write_fingerprint.Reads as write-fingerprint
 
 -- the number that `number` picks of an answer is one of ns, whatever the contract Q allows
 abbrev pub GivesOnly : {K : Type 0} {A R S : K → Type 0} → ((κs : K) → A κs → R κs → S κs → Type 0) → ((κs : K) → R κs → S κs → ℕ) → List ℕ → Type 0
@@ -88,3 +90,6 @@ pub record Refusals : Type 0 where
   -- the newer key
   pub newer-of : GivesOnly newer-of.Post (λ κs r s. r .no) (13 ∷ ofPubkeys)
   pub newer : GivesOnly newer.Post (λ κs r s. now (s .1 .1 .0)) (13 ∷ ofPubkeys)
+  -- the Fingerprint of a public key: no other call gives 15
+  pub check-fingerprint : GivesOnly check-fingerprint.Post (λ κs r s. r .no) (15 ∷ ofPubkeys)
+  pub write-fingerprint : GivesOnly write-fingerprint.Post (λ κs r s. r .no) (10 ∷ ofPubkeys)

@@ -58,7 +58,12 @@ use Rattle.fields.proofs.attribute.Reads as attribute
 use Rattle.fields.proofs.attribute_named.Reads as attribute-named
 use Rattle.put.proofs.put.Reads as put
 use Rattle.put.proofs.put_byte.Reads as put-byte
+use Rattle.put.proofs.put_hex.Reads as put-hex
 use Rattle.put.proofs.refuse.Reads as refuse
+use Rattle.sha384.proofs.State.begin.Reads as sha384-begin
+use Rattle.sha384.proofs.State.add.Reads as sha384-add
+use Rattle.sha384.proofs.State.end.Reads as sha384-end
+use Rattle.sha384.proofs.sha384_of.Reads as sha384-of
 use Rattle.items.proofs.item_place.Reads as item-place
 use Rattle.items.proofs.text_item.Reads as text-item
 use Rattle.building.proofs.build.Reads as build
@@ -70,7 +75,10 @@ use Rattle.files.proofs.count.Reads as count
 use Rattle.files.proofs.step_from.Reads as step-from
 use Rattle.list_text.proofs.write_list.Reads as write-list
 use Rattle.list_printing.proofs.print_list.Reads as print-list
+use Rattle.subjects.proofs.field_in.Reads as field-in
 use Rattle.subjects.proofs.are_alike.Reads as are-alike
+use Rattle.fingerprint.proofs.check_fingerprint.Reads as check-fingerprint
+use Rattle.fingerprint.proofs.write_fingerprint.Reads as write-fingerprint
 use Rattle.newer.proofs.newer_of.Reads as newer-of
 use Rattle.newer.proofs.newer.Reads as newer
 use Rattle.exports.proofs.check.obscurlane_crc_begin.Reads as c-crc-begin
@@ -100,6 +108,12 @@ use Rattle.exports.proofs.walking.obscurlane_reader_new.Reads as c-reader-new
 use Rattle.exports.proofs.walking.obscurlane_reader_step.Reads as c-reader-step
 use Rattle.exports.proofs.walking.obscurlane_count.Reads as c-count
 use Rattle.exports.proofs.walking.obscurlane_newer.Reads as c-newer
+use Rattle.exports.proofs.hashing.obscurlane_sha384_begin.Reads as c-sha384-begin
+use Rattle.exports.proofs.hashing.obscurlane_sha384_add.Reads as c-sha384-add
+use Rattle.exports.proofs.hashing.obscurlane_sha384_end.Reads as c-sha384-end
+use Rattle.exports.proofs.hashing.obscurlane_sha384_of.Reads as c-sha384-of
+use Rattle.exports.proofs.hashing.obscurlane_check_fingerprint.Reads as c-check-fingerprint
+use Rattle.exports.proofs.hashing.obscurlane_write_fingerprint.Reads as c-write-fingerprint
 
 -- the call whose `requires` is P takes any arguments a, whatever the lifetimes κs
 abbrev pub Takes : {K : Type 0} {A : K → Type 0} → ((κs : K) → A κs → Type 0) → Type 0
@@ -171,7 +185,13 @@ pub record Total : Type 0 where
   -- put
   pub put : Takes put.Pre
   pub put-byte : Takes put-byte.Pre
+  pub put-hex : Takes put-hex.Pre
   pub refuse : Takes refuse.Pre
+  -- sha384
+  pub sha384-begin : Takes sha384-begin.Pre
+  pub sha384-add : Takes sha384-add.Pre
+  pub sha384-end : Takes sha384-end.Pre
+  pub sha384-of : Takes sha384-of.Pre
   -- items
   pub item-place : Takes item-place.Pre
   pub text-item : Takes text-item.Pre
@@ -190,7 +210,11 @@ pub record Total : Type 0 where
   -- list_printing
   pub print-list : Takes print-list.Pre
   -- subjects
+  pub field-in : Takes field-in.Pre
   pub are-alike : Takes are-alike.Pre
+  -- fingerprint
+  pub check-fingerprint : Takes check-fingerprint.Pre
+  pub write-fingerprint : Takes write-fingerprint.Pre
   -- newer
   pub newer-of : Takes newer-of.Pre
   pub newer : Takes newer.Pre
@@ -222,3 +246,9 @@ pub record Total : Type 0 where
   pub c-reader-step : Takes c-reader-step.Pre
   pub c-count : Takes c-count.Pre
   pub c-newer : Takes c-newer.Pre
+  pub c-sha384-begin : Takes c-sha384-begin.Pre
+  pub c-sha384-add : Takes c-sha384-add.Pre
+  pub c-sha384-end : Takes c-sha384-end.Pre
+  pub c-sha384-of : Takes c-sha384-of.Pre
+  pub c-check-fingerprint : Takes c-check-fingerprint.Pre
+  pub c-write-fingerprint : Takes c-write-fingerprint.Pre

@@ -129,5 +129,7 @@ impl State {
 pub fn sha384_of(bytes: &[u8]) -> [u8; 48]
     ensures { λ r. ⌜ r ≡ sha384 (now (bytes .entry)) ⌝ }
 {
-    State::begin().add(bytes).end()
+    let begun = State::begin();
+    let given = begun.add(bytes);
+    given.end()
 }

@@ -1,18 +1,15 @@
 -- `fingerprint::right_print` meets its contract.
 -- Assumes nothing.
-use mathlib.Core.Path.{_≡_, _∙_}
+use Prim.Native.Nat.{ℕ}
+use mathlib.Core.Path.{_≡_, ap, _∙_}
+use mathlib.Core.List.{List}
 use native.Mathlib.Omega.{arith}
-use lib.ListN.{length, length-take}
+use lib.ListN.{length, take, length-take}
+use Rattle.text.specs.Base16.{base16}
 use Rattle.fingerprint.proofs.Prints.{front-written}
 use borrow.Author.Needs.{needs}
 use Rattle.fingerprint.proofs.right_print.Statement.{statement}
 use Rattle.fingerprint.proofs.right_print.Tie as tie
-
-field-at-requires : tie.Need-field-at-requires
-field-at-requires c κs = search needs
-
-field-at-requires-2 : tie.Need-field-at-requires-2
-field-at-requires-2 c κs = search needs
 
 hash-of-requires : tie.Need-hash-of-requires
 hash-of-requires c κs = search needs
@@ -30,14 +27,12 @@ put-hex-requires : tie.Need-put-hex-requires
 put-hex-requires c κs = search needs
 
 returns : tie.Need-returns
-returns c = let l : length (c .before .before .before .before .hash-of .result) ≡ 48 = search needs in front-written (c .before .before .before .before .hash-of .result) l (c .before .put-hex .ensures) ∙ rw (c .before .before .before .before .hash-of .ensures, c .before .before .before .before .before .before .field-at .ensures .holds, c .before .before .before .before .before .field-at2 .ensures .holds)
+returns c = let l : length (c .before .before .before .before .hash-of .result) ≡ 48 = search needs in front-written (c .before .before .before .before .hash-of .result) l (c .before .put-hex .ensures) ∙ ap (λ (h : List ℕ). base16 (take 8 h)) (c .before .before .before .before .hash-of .ensures)
 
 pub right-print-spec : {M : Type 1} → statement M
 right-print-spec =
     tie.close
     (tie.spec
-    field-at-requires
-    field-at-requires-2
     hash-of-requires
     slice-aggregate-put-hex
     array-share-prefix-hash
