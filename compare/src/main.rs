@@ -18,7 +18,7 @@ const LEAST: usize = 20;
 /// The numbers given back: 0 to 15.
 const NUMBERS: usize = 16;
 /// What `crates/cases` has room for.
-const LONGEST_CASE_FILE: usize = 2_621_440;
+const LONGEST_CASE_FILE: usize = 2_097_152;
 
 /// The two files, and how often each call and each number occurs.
 struct Written {
@@ -58,7 +58,7 @@ fn write(plan: &[Case]) -> Written {
     }
 
     let cases = case_file(plan);
-    assert!((3000..=10_000).contains(&plan.len()), "{} cases", plan.len());
+    assert!((3000..=16_000).contains(&plan.len()), "{} cases", plan.len());
     assert!(cases.len() <= LONGEST_CASE_FILE, "a case file of {} bytes", cases.len());
     Written { cases, answers, counts }
 }

@@ -1,4 +1,5 @@
 // The other calls, by their numbers in the case file.
+use crate::hashes;
 use crate::say;
 
 pub(crate) fn test(op: usize, n: usize, a: &[u8]) -> bool {
@@ -135,6 +136,9 @@ pub(crate) fn run<'a>(op: usize, n: usize, a: &'a [u8], b: &'a [u8]) {
         29 => print_place(fields::attribute_place(a, n)),
         30 => print_attribute(op, n, a, b),
         31 => print_place(fields::attribute_named_place(a, b)),
+        32 => hashes::print_hash(a),
+        33 => hashes::print_by_state(n, a),
+        34 => hashes::print_check(a),
         _ => {}
     }
 }

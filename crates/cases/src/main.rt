@@ -2,6 +2,7 @@
 // prints an answer for each. What it must print, the file stdout, is what compare/ answered. compare/README.md has the form
 // of both files.
 mod calls;
+mod hashes;
 mod input;
 mod outputs;
 mod say;
@@ -29,6 +30,7 @@ fn run_case(file: &[u8], head: &[u8]) {
     say::text(input::string(file, head, 9));
     match op {
         24..=27 => outputs::write(op, a, b, c, n, input::cut(file, 0, 1024)),
+        35 => outputs::write(op, a, b, c, n, input::cut(file, 0, 1024)),
         64..=127 => sweeps::sweep(op % 64, n, a, b, c),
         _ => calls::run(op, n, a, b),
     }

@@ -32,6 +32,7 @@ fn write_to(op: usize, a: &[u8], b: &[u8], c: &[u8], out: &mut [u8]) -> put::Wri
         24 => agreement::shared_info(a, out),
         25 => agreement::module_text(a, out),
         26 => agreement::centre_text(a, out),
+        35 => fingerprint::write_fingerprint(a, out),
         _ => building::build(a, b, &lens[..count], out),
     }
 }

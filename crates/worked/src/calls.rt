@@ -157,6 +157,31 @@ fn file(known: &[u8], first: &[u8], second: &[u8]) -> usize {
     lines(known, say::cut(&file, 0, len))
 }
 
+// ---- hashes
+
+fn hash(known: &[u8], bytes: &[u8]) -> usize {
+    let digest = sha384::sha384_of(bytes);
+    say::hex(known, numbers::ACCEPTED, &digest)
+}
+
+// Of the bytes a thousand times, one behind the other.
+fn thousandfold(known: &[u8], bytes: &[u8]) -> usize {
+    let mut state = sha384::State::begin();
+    let mut k: usize = 0;
+    while k < 1000 {
+        state = state.add(bytes);
+        k += 1;
+    }
+    let digest = state.end();
+    say::hex(known, numbers::ACCEPTED, &digest)
+}
+
+fn fingerprint(known: &[u8], key: &[u8]) -> usize {
+    let mut made = [0u8; 16];
+    let w = fingerprint::write_fingerprint(key, &mut made);
+    say::part(known, w.no, say::cut(&made, 0, w.len))
+}
+
 // ---- by name
 
 const NEWER: usize = 0;
@@ -181,12 +206,20 @@ const ATTRIBUTE: usize = 10;
 
 const ATTRIBUTES: usize = 12;
 
-const BUILD: usize = 13;
+const HASH: usize = 13;
+
+const THOUSANDFOLD: usize = 14;
+
+const FINGERPRINT: usize = 15;
+
+const CHECK_FINGERPRINT: usize = 16;
+
+const BUILD: usize = 17;
 
 // Which of the names a word is; BUILD where it is none of them.
 fn call_of(name: &[u8]) -> usize {
     let names =
-        b"newer file shared_info module_text centre_text module_item read_identity read_record identity_field record_field attribute attribute_named attributes";
+        b"newer file shared_info module_text centre_text module_item read_identity read_record identity_field record_field attribute attribute_named attributes sha384 thousandfold fingerprint check_fingerprint";
     let mut k: usize = 0;
     while k < BUILD {
         if text::are_same(name, frame::part(b' ', names, k)) {
@@ -206,6 +239,10 @@ pub(crate) fn run<'a>(name: &[u8], n: usize, a: &'a [u8], b: &'a [u8], known: &[
         READ_IDENTITY => say::part(known, reading::read_identity(a).no, b"accepted"),
         READ_RECORD => say::part(known, reading::read_record(a).no, b"accepted"),
         ATTRIBUTES => attributes(known, a),
+        HASH => hash(known, a),
+        THOUSANDFOLD => thousandfold(known, a),
+        FINGERPRINT => fingerprint(known, a),
+        CHECK_FINGERPRINT => say::part(known, fingerprint::check_fingerprint(a).no, b"accepted"),
         BUILD => rebuild(known, a),
         _ => part(known, call, n, a, b),
     }

@@ -19,6 +19,9 @@ module-text-requires c κs = search needs
 centre-text-requires : tie.Need-centre-text-requires
 centre-text-requires c κs = search needs
 
+write-fingerprint-requires : tie.Need-write-fingerprint-requires
+write-fingerprint-requires c κs = search needs
+
 array-share-prefix-lens : tie.Need-array-share-prefix-lens
 array-share-prefix-lens c = search needs
 
@@ -52,6 +55,12 @@ same-length-4 c = search needs
 returns-4 : tie.Need-returns-4
 returns-4 c = search needs
 
+same-length-5 : tie.Need-same-length-5
+same-length-5 c = search needs
+
+returns-5 : tie.Need-returns-5
+returns-5 c = search needs
+
 pub write-to-spec : {M : Type 1} → statement M
 write-to-spec =
     tie.close
@@ -60,6 +69,7 @@ write-to-spec =
     shared-info-requires
     module-text-requires
     centre-text-requires
+    write-fingerprint-requires
     array-share-prefix-lens
     slice-aggregate-build
     build-requires
@@ -70,4 +80,6 @@ write-to-spec =
     same-length-3
     returns-3
     same-length-4
-    returns-4)
+    returns-4
+    same-length-5
+    returns-5)
