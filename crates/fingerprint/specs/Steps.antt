@@ -1,12 +1,19 @@
 -- What the private functions of the crate answer. No clause of a document stands here.
 -- Assumes nothing.
+use Prim.Native.Nat.{ℕ}
 use Prim.Native.Char.{code}
-use mathlib.Core.List.{[], _∷_}
-use Rattle.text.specs.Text.{Bytes}
-use Rattle.format.specs.Build.{joined}
-use Rattle.format.specs.Read.{title}
-use Rattle.subjects.specs.Subjects.{identityPart}
+use mathlib.Core.Bool.{cond}
+use mathlib.Core.List.{[], _++_}
+use lib.ListN.{length, take}
+use lib.Dec.{leb}
+use Rattle.text.specs.Text.{Bytes, ascii}
+use Rattle.format.specs.Read.{body}
+use Rattle.frame.specs.Frame.{partStart}
 
--- the text that is hashed, of any bytes for a Subject, by their places
-abbrev pub textAt : Bytes → Bytes → Bytes
-textAt s q = joined (code ":") (title s ∷ identityPart s 1 ∷ identityPart s 2 ∷ identityPart s 3 ∷ q ∷ [])
+-- what stands before the fourth field of an identity; nothing, where its bytes have not so many marks
+unfoldable pub frontAt : Bytes → Bytes
+frontAt s = cond (leb (partStart (code ":") (body s) 4) (length s)) (take (partStart (code ":") (body s) 4) s) []
+
+-- the text that is hashed, of any bytes for a Subject
+unfoldable pub textAt : Bytes → Bytes → Bytes
+textAt s q = frontAt s ++ q ++ ascii ":"

@@ -3,13 +3,11 @@
 // hashed goes into the hash from where it stands in the record.
 ghost use mathlib.Core.Path.{_≡_};
 ghost use lib.ListN.{length};
-ghost use Rattle.text.specs.Text.{ascii};
 ghost use Rattle.sha384.specs.Sha384.{sha384};
-ghost use Rattle.sha384.specs.State.{added};
 ghost use Rattle.places.specs.Places.{fieldAt};
 ghost use Rattle.put.specs.Made.{Writes};
 ghost use Rattle.fingerprint.specs.Fingerprint.{printOf, checkFingerprint, writeFingerprint};
-ghost use Rattle.fingerprint.specs.Steps.{textAt};
+ghost use Rattle.fingerprint.specs.Steps.{frontAt, textAt};
 
 // A Fingerprint has so many characters: those of the hash's first bytes.
 const CHARACTERS: usize = 16;
@@ -25,27 +23,28 @@ pub struct Checked {
 
 // ---- the hash
 
-// With a piece and the mark after it.
-fn add_piece(state: sha384::State, piece: &[u8]) -> sha384::State
-    ensures { λ r. ⌜ r ≡ added (added state (now (piece .entry))) (ascii ":") ⌝ }
+// What stands in an identity before its Fingerprint: its kind name, Manufacturer, MID and GNT, each followed by ':'. Nothing, of
+// bytes without so many marks.
+fn front_of<'a>(identity: &'a [u8]) -> &'a [u8]
+    ensures { λ r. ⌜ now r ≡ frontAt (now (identity .entry)) ⌝ }
 {
-    state.add(piece).add(b":")
+    let body = frame::body_of(identity);
+    let end = frame::part_start(b':', body, table::IDENTITY_FINGERPRINT);
+    if identity.len() < end {
+        return &identity[0..0];
+    }
+    &identity[0..end]
 }
 
-// Of the public key whose fields stand at these places: of its Subject's kind name, Manufacturer, MID and GNT, and of Q's
-// characters, each followed by ':'.
+// Of the public key whose fields stand at these places: of what stands in its Subject before the Fingerprint, of Q's
+// characters, and of ':'.
 fn hash_of(key: &[u8], starts: &[usize; 7], lens: &[usize; 7]) -> [u8; 48]
     ensures { λ r. ⌜ r ≡ sha384 (textAt (fieldAt (now (key .entry)) (now (starts .entry)) (now (lens .entry)) 1) (fieldAt (now (key .entry)) (now (starts .entry)) (now (lens .entry)) 2)) ⌝ }
 {
     let subject = places::field_at(key, starts, lens, table::PUBKEY_SUBJECT);
-    let manufacturer = subjects::field_in(subject, table::IDENTITY_MANUFACTURER);
-    let mid = subjects::field_in(subject, table::IDENTITY_MID);
-    let gnt = subjects::field_in(subject, table::IDENTITY_GNT);
     let q = places::field_at(key, starts, lens, table::PUBKEY_Q);
-    let kind = add_piece(sha384::State::begin(), frame::title_of(subject));
-    let named = add_piece(add_piece(kind, manufacturer), mid);
-    let dated = add_piece(named, gnt);
-    add_piece(dated, q).end()
+    let named = sha384::State::begin().add(front_of(subject));
+    named.add(q).add(b":").end()
 }
 
 // The Fingerprint that is right for it.
