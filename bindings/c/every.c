@@ -2,8 +2,8 @@
  * Calls every function of the header, on what is accepted and on what is refused, and compares everything that it answers and
  * leaves in an output. The exit status is 1 if anything is not as expected; the last line says how many comparisons were made.
  *
- * Here stand records and texts. Wrapped keys and their attributes stand in wrapped.c; the check, the text types, files and
- * names in parts.c.
+ * Here stand records and texts. Wrapped keys and their attributes stand in wrapped.c; SHA-384 and Fingerprints in hashes.c; the
+ * check, the text types, files and names in parts.c.
  */
 #include "expect.h"
 #include "worked.h"
@@ -459,6 +459,7 @@ int main(void)
     items();
     newer();
     call_for_wrapped_keys();
+    call_for_hashes();
     call_parts();
     printf("every function: %lu as expected\n", expectations);
     return EXIT_SUCCESS;

@@ -1,5 +1,5 @@
 /* Reads the load request of the worked example once, prints its fields by their names, and makes its three texts; then prints
- * the attributes of its second wrapped key. */
+ * the attributes of its second wrapped key, and the Fingerprint of the centre's public key. */
 #include "obscurlane.h"
 #include "worked.h"
 
@@ -35,6 +35,17 @@ static void print_attributes(void)
     }
 }
 
+/* What is in the Subject, checked, and what is right there. */
+static void print_fingerprint(void)
+{
+    static const char public_key[] = WORKED_KEY_CENTRE;
+    const uint8_t *bytes = (const uint8_t *)public_key;
+    uint8_t right[OBSCURLANE_LONGEST_FINGERPRINT];
+    obscurlane_checked said = obscurlane_check_fingerprint(bytes, sizeof public_key - 1);
+    obscurlane_written made = obscurlane_write_fingerprint(bytes, sizeof public_key - 1, right, sizeof right);
+    printf("Fingerprint: %s, %.*s\n", obscurlane_reason(said.no), (int)made.len, (const char *)right);
+}
+
 int main(void)
 {
     const uint8_t *bytes = (const uint8_t *)request;
@@ -56,5 +67,6 @@ int main(void)
 
     printf("%s, its attributes\n", obscurlane_kind_name(OBSCURLANE_KIND_KEY));
     print_attributes();
+    print_fingerprint();
     return 0;
 }

@@ -1,4 +1,4 @@
-/* What the files of the test of every function share: every.c, wrapped.c and parts.c. */
+/* What the files of the test of every function share: every.c, wrapped.c, hashes.c and parts.c. */
 #ifndef EXPECT_H
 #define EXPECT_H
 
@@ -22,6 +22,9 @@ bool untouched(const uint8_t *out, size_t from, size_t to);
 
 /* Calls the functions for attributes, and those that read or build on wrapped keys. */
 void call_for_wrapped_keys(void);
+
+/* Calls the functions for SHA-384 and for Fingerprints. */
+void call_for_hashes(void);
 
 /* Calls the functions for the check, the text types and files, and those for names. */
 void call_parts(void);

@@ -19,6 +19,7 @@ static const char *const reasons[] = {
     [OBSCURLANE_MISSING_ITEM] = "there is no such field, attribute or item, or the bytes are no key agreement text",
     [OBSCURLANE_NOT_ALIKE] = "the Subjects of the two keys differ in kind, Manufacturer or MID",
     [OBSCURLANE_WRONG_ATTRIBUTES] = "the attribute list is not one that clause 7.5.1 or Appendix B permits",
+    [OBSCURLANE_WRONG_FINGERPRINT] = "the Fingerprint in the Subject is not the right one",
 };
 
 struct kind {

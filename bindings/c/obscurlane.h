@@ -1,6 +1,6 @@
 /*
  * Obscurlane: reading, checking and building the identity, public key, load request, load response and wrapped key records
- * of STS 600-4-2, and the texts that a key agreement hashes.
+ * of STS 600-4-2, the texts that a key agreement hashes, and SHA-384 with the Fingerprints that are made by it.
  *
  * Link with libexports.a, which `bindings/archive` proves, compiles for the machine that it runs on and puts into
  * target/staticlib/. The names at the end of this header stand in names.c, which is compiled with the program.
@@ -14,7 +14,8 @@
  * - No pointer is NULL, also where its length is 0.
  * - An output overlaps nothing else that is given. Inputs may overlap.
  *
- * All else is taken: what is proved of each function holds for every value of the bytes and numbers that it is given.
+ * All else is taken: what is proved of each function holds for every value of the bytes and numbers that it is given, those
+ * in a state of a hash too.
  *
  * What the answers have in common:
  *
@@ -37,9 +38,9 @@
 #include <stddef.h>
 #include <stdint.h>
 
-#define OBSCURLANE_VERSION "0.4.0"
+#define OBSCURLANE_VERSION "0.5.0"
 #define OBSCURLANE_VERSION_MAJOR 0
-#define OBSCURLANE_VERSION_MINOR 4
+#define OBSCURLANE_VERSION_MINOR 5
 #define OBSCURLANE_VERSION_PATCH 0
 
 #ifdef __cplusplus
@@ -80,7 +81,9 @@ enum {
     /* Choosing: kind, Manufacturer or MID of the two Subjects differ. */
     OBSCURLANE_NOT_ALIKE = 13,
     /* The attribute list is not one that clause 7.5.1 or Appendix B permits. */
-    OBSCURLANE_WRONG_ATTRIBUTES = 14
+    OBSCURLANE_WRONG_ATTRIBUTES = 14,
+    /* The Fingerprint in the Subject is not the right one. */
+    OBSCURLANE_WRONG_FINGERPRINT = 15
 };
 
 /*
@@ -180,7 +183,9 @@ enum {
     OBSCURLANE_LONGEST_SHARED_INFO = 1 + 10 + OBSCURLANE_LONGEST_IDENTITY + 1 + OBSCURLANE_LONGEST_IDENTITY + 17,
     OBSCURLANE_LONGEST_MODULE_TEXT = 1 + 4 + OBSCURLANE_LONGEST_IDENTITY + 1 + OBSCURLANE_LONGEST_IDENTITY + 98 + 17 +
                                      1 + OBSCURLANE_LONGEST_IDENT + 1 + OBSCURLANE_LONGEST_IDENT,
-    OBSCURLANE_LONGEST_CENTRE_TEXT = 1 + 3 + 1 + OBSCURLANE_LONGEST_IDENTITY + OBSCURLANE_LONGEST_IDENTITY + 17 + 98
+    OBSCURLANE_LONGEST_CENTRE_TEXT = 1 + 3 + 1 + OBSCURLANE_LONGEST_IDENTITY + OBSCURLANE_LONGEST_IDENTITY + 17 + 98,
+    /* The longest Fingerprint: all have this length. */
+    OBSCURLANE_LONGEST_FINGERPRINT = 16
 };
 
 /* ---- reading */
@@ -316,6 +321,60 @@ typedef struct {
  * OBSCURLANE_NOT_ALIKE. */
 obscurlane_choice obscurlane_newer(const uint8_t *first, size_t first_len, const uint8_t *second, size_t second_len);
 
+/* ---- the Fingerprint in the Subject of a public key */
+
+/* What a check says. */
+typedef struct {
+    uint8_t no;
+    uint8_t field;
+} obscurlane_checked;
+
+/* Whether the Fingerprint is the right one: the first eight bytes, as HEX(16), of the SHA-384 of the Subject's kind name,
+ * Manufacturer, MID and GNT and of Q's 194 characters, each followed by ':'. Answers what obscurlane_read_record answers to the
+ * public key, but OBSCURLANE_UNKNOWN_KIND for a record of another kind, and after every other number
+ * OBSCURLANE_WRONG_FINGERPRINT, which is about no field: 0 to 9, or 15. */
+obscurlane_checked obscurlane_check_fingerprint(const uint8_t *record, size_t record_len);
+
+/* Writes the Fingerprint that is right, whatever stands in the Subject. Answers the same, but OBSCURLANE_SHORT_OUTPUT in the
+ * place of OBSCURLANE_WRONG_FINGERPRINT, for an output of fewer than OBSCURLANE_LONGEST_FINGERPRINT bytes: 0 to 10. */
+obscurlane_written obscurlane_write_fingerprint(const uint8_t *record, size_t record_len, uint8_t *out, size_t out_len);
+
+/* ---- SHA-384, as FIPS 180-4 defines it */
+
+/* The 48 bytes of a hash. */
+typedef struct {
+    uint8_t bytes[48];
+} obscurlane_digest;
+
+/* The hash of the bytes. */
+obscurlane_digest obscurlane_sha384_of(const uint8_t *bytes, size_t bytes_len);
+
+/* The eight words of a hash value. */
+typedef struct {
+    uint64_t a;
+    uint64_t b;
+    uint64_t c;
+    uint64_t d;
+    uint64_t e;
+    uint64_t f;
+    uint64_t g;
+    uint64_t h;
+} obscurlane_sha384_words;
+
+/* The bytes given so far, as a plain value: a copy of it goes on by itself, and nothing has to be given back. A state that no
+ * call gave is taken too, and gives some hash. */
+typedef struct {
+    obscurlane_sha384_words hash; /* the hash value of their whole blocks of 128 bytes */
+    uint8_t block[128];           /* at its front the bytes that wait for a whole block, and zeros after them */
+    uint64_t low;                 /* how many bytes there were: low + 2^64 * high */
+    uint64_t high;
+} obscurlane_sha384_state;
+
+/* The same piece by piece: the state before the first byte, the state with these bytes too, the hash of all bytes given. */
+obscurlane_sha384_state obscurlane_sha384_begin(void);
+obscurlane_sha384_state obscurlane_sha384_add(obscurlane_sha384_state state, const uint8_t *bytes, size_t bytes_len);
+obscurlane_digest obscurlane_sha384_end(obscurlane_sha384_state state);
+
 /* ---- the check, CRC16-MODBUS, which a record has as four HEX characters, the higher byte first */
 
 /* The check of the bytes; FFFF hex for none. */
@@ -352,7 +411,7 @@ bool obscurlane_is_print(const uint8_t *s, size_t s_len);
 
 /* ---- names, in names.c; every answer is a text that stays */
 
-/* A number in words, as "the check differs" for OBSCURLANE_WRONG_CHECK. A number above 14 has words of its own. */
+/* A number in words, as "the check differs" for OBSCURLANE_WRONG_CHECK. A number above 15 has words of its own. */
 const char *obscurlane_reason(uint8_t no);
 
 /* A kind's name, as "VKLOAD.REQ.1"; "none" for OBSCURLANE_KIND_NONE and any other number. */
