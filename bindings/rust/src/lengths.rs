@@ -21,3 +21,5 @@ pub const LONGEST_SHARED_INFO: usize = header::LONGEST_SHARED_INFO;
 pub const LONGEST_MODULE_TEXT: usize = header::LONGEST_MODULE_TEXT;
 /// The longest centre text.
 pub const LONGEST_CENTRE_TEXT: usize = header::LONGEST_CENTRE_TEXT;
+/// The longest Fingerprint: all have this length.
+pub const LONGEST_FINGERPRINT: usize = header::LONGEST_FINGERPRINT;

@@ -16,6 +16,8 @@ mod building;
 mod check;
 pub mod field;
 mod files;
+mod fingerprint;
+mod hash;
 mod kind;
 mod lengths;
 mod newer;
@@ -33,10 +35,12 @@ pub use building::build;
 pub use building::build_parts;
 pub use check::{crc_of, Crc};
 pub use files::{count, line_at, lines, Line, Lines, Totals};
+pub use fingerprint::{check_fingerprint, write_fingerprint};
+pub use hash::{sha384_of, Sha384};
 pub use kind::Kind;
 pub use lengths::{
-    LONGEST_CENTRE_TEXT, LONGEST_IDENT, LONGEST_IDENTITY, LONGEST_MODULE_TEXT, LONGEST_PUBKEY,
-    LONGEST_READ, LONGEST_RECORD, LONGEST_SHARED_INFO,
+    LONGEST_CENTRE_TEXT, LONGEST_FINGERPRINT, LONGEST_IDENT, LONGEST_IDENTITY, LONGEST_MODULE_TEXT,
+    LONGEST_PUBKEY, LONGEST_READ, LONGEST_RECORD, LONGEST_SHARED_INFO,
 };
 pub use newer::{newer, NewerRefusal};
 pub use record::{identity_field, record_field, Field, Fields, Record};

@@ -46,6 +46,8 @@ pub enum Reason {
     NotAlike = 13,
     /// 14: the attribute list is not one that clause 7.5.1 or Appendix B permits.
     WrongAttributes = 14,
+    /// 15: the Fingerprint in the Subject is not the right one.
+    WrongFingerprint = 15,
 }
 
 impl Reason {
@@ -65,6 +67,7 @@ impl Reason {
         Reason::MissingItem,
         Reason::NotAlike,
         Reason::WrongAttributes,
+        Reason::WrongFingerprint,
     ];
 
     /// The number, from 1.
@@ -104,6 +107,7 @@ impl Reason {
             Reason::WrongAttributes => {
                 "the attribute list is not one that clause 7.5.1 or Appendix B permits"
             }
+            Reason::WrongFingerprint => "the Fingerprint in the Subject is not the right one",
         }
     }
 }

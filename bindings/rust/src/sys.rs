@@ -64,6 +64,43 @@ pub struct Totals {
     pub accepted: usize,
 }
 
+/// What a check says.
+#[repr(C)]
+pub struct Checked {
+    pub no: u8,
+    pub field: u8,
+}
+
+/// The bytes of a hash.
+#[repr(C)]
+pub struct Digest {
+    pub bytes: [u8; 48],
+}
+
+/// A hash value.
+#[derive(Clone, Copy, PartialEq, Eq, Hash)]
+#[repr(C)]
+pub struct Sha384Words {
+    pub a: u64,
+    pub b: u64,
+    pub c: u64,
+    pub d: u64,
+    pub e: u64,
+    pub f: u64,
+    pub g: u64,
+    pub h: u64,
+}
+
+/// The bytes that a hash was given so far: the hash value of their whole blocks, those that wait for one, and how many there were.
+#[derive(Clone, Copy, PartialEq, Eq, Hash)]
+#[repr(C)]
+pub struct Sha384State {
+    pub hash: Sha384Words,
+    pub block: [u8; 128],
+    pub low: u64,
+    pub high: u64,
+}
+
 /// Which of two records is the newer, or is refused.
 #[repr(C)]
 pub struct Choice {
@@ -138,6 +175,19 @@ extern "C" {
         second: *const u8,
         second_len: usize,
     ) -> Choice;
+
+    fn obscurlane_check_fingerprint(record: *const u8, record_len: usize) -> Checked;
+    fn obscurlane_write_fingerprint(
+        record: *const u8,
+        record_len: usize,
+        out: *mut u8,
+        out_len: usize,
+    ) -> Written;
+    fn obscurlane_sha384_of(bytes: *const u8, bytes_len: usize) -> Digest;
+    fn obscurlane_sha384_begin() -> Sha384State;
+    fn obscurlane_sha384_add(state: Sha384State, bytes: *const u8, bytes_len: usize)
+        -> Sha384State;
+    fn obscurlane_sha384_end(state: Sha384State) -> Digest;
 }
 
 // ---- the check
@@ -321,4 +371,44 @@ pub fn count(file: &[u8]) -> Totals {
 pub fn newer(first: &[u8], second: &[u8]) -> Choice {
     // SAFETY: slices' pointers and lengths, which are only read.
     unsafe { obscurlane_newer(first.as_ptr(), first.len(), second.as_ptr(), second.len()) }
+}
+
+// ---- the Fingerprint of a public key, and SHA-384
+
+#[inline]
+pub fn check_fingerprint(record: &[u8]) -> Checked {
+    // SAFETY: a slice's pointer and length.
+    unsafe { obscurlane_check_fingerprint(record.as_ptr(), record.len()) }
+}
+
+#[inline]
+pub fn write_fingerprint(record: &[u8], out: &mut [u8]) -> Written {
+    // SAFETY: slices' pointers and lengths, and `out` overlaps nothing.
+    unsafe {
+        obscurlane_write_fingerprint(record.as_ptr(), record.len(), out.as_mut_ptr(), out.len())
+    }
+}
+
+#[inline]
+pub fn sha384_of(bytes: &[u8]) -> Digest {
+    // SAFETY: a slice's pointer and length.
+    unsafe { obscurlane_sha384_of(bytes.as_ptr(), bytes.len()) }
+}
+
+#[inline]
+pub fn sha384_begin() -> Sha384State {
+    // SAFETY: nothing is given.
+    unsafe { obscurlane_sha384_begin() }
+}
+
+#[inline]
+pub fn sha384_add(state: Sha384State, bytes: &[u8]) -> Sha384State {
+    // SAFETY: numbers, and a slice's pointer and length.
+    unsafe { obscurlane_sha384_add(state, bytes.as_ptr(), bytes.len()) }
+}
+
+#[inline]
+pub fn sha384_end(state: Sha384State) -> Digest {
+    // SAFETY: numbers alone.
+    unsafe { obscurlane_sha384_end(state) }
 }

@@ -7,8 +7,10 @@ use compare::kind::{FieldType, Kind};
 use compare::random::Random;
 use compare::refusal::Refusal as Expected;
 use compare::sample::{self, Signed};
+use compare::worked::worked;
 use compare::{agreement, file, record, text};
 use held::attributes::{same_attribute, same_attributes, same_named};
+use held::fingerprint::same_fingerprint;
 use held::reading::{same_identity, same_record};
 use held::{expected, expected_at, line_numbers, numbers, place, same_output};
 use obscurlane::Refusal;
@@ -62,6 +64,20 @@ fn checks() {
     }
 }
 
+/// In one piece, and in pieces of which one is longer.
+#[test]
+fn hashes() {
+    let message = of(Kind::VkloadReq);
+    for bytes in longer(&message) {
+        let hash = compare::sha384::sha384(&bytes);
+        assert_eq!(obscurlane::sha384_of(&bytes), hash);
+        for cut in [1, message.len(), MORE - 1, MORE, MORE + 1] {
+            let (front, back) = bytes.split_at(cut);
+            assert_eq!(obscurlane::Sha384::begin().add(front).add(back).end(), hash);
+        }
+    }
+}
+
 /// Whole records that are longer, and records of which one field is, with a right check.
 #[test]
 fn readings() {
@@ -82,6 +98,7 @@ fn readings() {
         assert_eq!(numbers(obscurlane::identity_field(&bytes, 1)), Err((1, 0)));
         assert_eq!(numbers(obscurlane::record_field(&bytes, 1)), Err((1, 0)));
         assert_eq!(same_attributes(&bytes), Err((1, 0)));
+        assert_eq!(same_fingerprint(&bytes, 16), Err((1, 0)));
     }
 }
 
@@ -115,6 +132,16 @@ fn keys() {
             assert_eq!(refusal.reason().number(), 1);
             assert_eq!(compare::newer::newer(first, second), Err(Expected::TooLong));
         }
+    }
+}
+
+/// Outputs whose lengths are short only modulo 65,536.
+#[test]
+fn fingerprints() {
+    let key = of(Kind::PkEcdh);
+    for room in [MORE, MORE + 1, MORE + 15, MORE + 16] {
+        assert_eq!(same_fingerprint(&key, room), Err((15, 0)));
+        assert_eq!(same_fingerprint(&worked("PUBKEY_KMC"), room), Ok(()));
     }
 }
 

@@ -6,8 +6,9 @@ use std::collections::{BTreeMap, BTreeSet};
 use std::fs;
 use std::path::{Path, PathBuf};
 
-/// The structs that answers are: as `crates/exports` names them, and in C. `sys` has them by the last word of the latter.
-const ANSWERS: [(&str, &str); 7] = [
+/// The structs that are handed over: as `crates/exports` names them, and in C. `sys` has them by the words of the latter behind the
+/// first.
+const STRUCTS: [(&str, &str); 11] = [
     ("reading::Answer", "obscurlane_answer"),
     ("fields::Place", "obscurlane_place"),
     ("put::Written", "obscurlane_written"),
@@ -15,6 +16,10 @@ const ANSWERS: [(&str, &str); 7] = [
     ("Found", "obscurlane_line"),
     ("files::Totals", "obscurlane_totals"),
     ("newer::Choice", "obscurlane_choice"),
+    ("fingerprint::Checked", "obscurlane_checked"),
+    ("Digest", "obscurlane_digest"),
+    ("sha384::Words", "obscurlane_sha384_words"),
+    ("sha384::State", "obscurlane_sha384_state"),
 ];
 
 // ---- the files
@@ -103,11 +108,17 @@ fn structs(source: &str) -> BTreeMap<String, Vec<Typed>> {
     found.collect()
 }
 
-/// The fields of an answer, in the crate that has it.
-fn answer_fields(path: &str) -> Vec<Typed> {
+/// The fields of a struct, in the crate that has it. One that is a struct of the same crate stands there without its path.
+fn fields_of(path: &str) -> Vec<Typed> {
     let (crate_name, name) = path.split_once("::").unwrap_or(("exports", path));
-    let source = read_all(&format!("crates/{crate_name}/src"), "rt");
-    structs(&source).remove(name).unwrap_or_else(|| panic!("{path} is no struct of C's layout"))
+    let mut there = structs(&read_all(&format!("crates/{crate_name}/src"), "rt"));
+    let fields = there.remove(name);
+    let fields = fields.unwrap_or_else(|| panic!("{path} is no struct of C's layout"));
+    let with_path = fields.into_iter().map(|(field, of_type)| match there.get(&of_type) {
+        Some(_) => (field, format!("{crate_name}::{of_type}")),
+        None => (field, of_type),
+    });
+    with_path.collect()
 }
 
 /// The crates that the archive is made of: those that `exports` needs, and that these need.
@@ -149,7 +160,8 @@ fn in_the_crates(name: &str) -> BTreeSet<usize> {
 
 /// How a parameter is handed over, with the type of what it is or points to.
 enum Form<'a> {
-    Number(&'a str),
+    /// A number, or a struct.
+    Value(&'a str),
     /// A pointer to one number, to write.
     Lent(&'a str),
     /// A pointer and a length, to read.
@@ -166,19 +178,20 @@ fn form(of_type: &str) -> Form<'_> {
     if let Some(rest) = of_type.strip_prefix("&mut [") {
         return Form::Output(&rest[..part(rest)]);
     }
-    of_type.strip_prefix("&mut ").map_or(Form::Number(of_type), Form::Lent)
+    of_type.strip_prefix("&mut ").map_or(Form::Value(of_type), Form::Lent)
 }
 
 fn in_c(of_type: &str) -> &str {
     let number = match of_type {
         "u8" => Some("uint8_t"),
         "u16" => Some("uint16_t"),
+        "u64" => Some("uint64_t"),
         "usize" => Some("size_t"),
         "bool" => Some("bool"),
         _ => None,
     };
-    let answer = || ANSWERS.iter().find(|(path, _)| *path == of_type).map(|(_, name)| *name);
-    number.or_else(answer).unwrap_or_else(|| panic!("no type of C for {of_type}"))
+    let in_struct = || STRUCTS.iter().find(|(path, _)| *path == of_type).map(|(_, name)| *name);
+    number.or_else(in_struct).unwrap_or_else(|| panic!("no type of C for {of_type}"))
 }
 
 /// The name of a type in `sys`: `Answer` for `obscurlane_answer`, and a number's own.
@@ -206,19 +219,31 @@ fn c_declaration(function: &Function) -> String {
 
 fn c_parameter((name, of_type): &Typed) -> String {
     match form(of_type) {
-        Form::Number(part) => format!("{} {name}", in_c(part)),
+        Form::Value(part) => format!("{} {name}", in_c(part)),
         Form::Lent(part) => format!("{} *{name}", in_c(part)),
         Form::Slice(part) => format!("const {} *{name}, size_t {name}_len", in_c(part)),
         Form::Output(part) => format!("{} *{name}, size_t {name}_len", in_c(part)),
     }
 }
 
+/// What an array has, and how many of it.
+fn array(of_type: &str) -> Option<(&str, &str)> {
+    of_type.strip_prefix('[')?.strip_suffix(']')?.split_once("; ")
+}
+
 /// A field of a struct in C; an array's length stands behind the name.
 fn c_field((name, of_type): &Typed) -> String {
-    let array = of_type.strip_prefix('[').and_then(|rest| rest.strip_suffix(']')?.split_once("; "));
-    match array {
+    match array(of_type) {
         Some((part, length)) => format!("{} {name}[{length}];", in_c(part)),
         None => format!("{} {name};", in_c(of_type)),
+    }
+}
+
+/// A field of a struct in `sys`.
+fn sys_field((name, of_type): Typed) -> Typed {
+    match array(&of_type) {
+        Some((part, length)) => (name, format!("[{}; {length}]", in_sys(part))),
+        None => (name, in_sys(&of_type)),
     }
 }
 
@@ -229,7 +254,7 @@ fn rust_declaration(function: &Function) -> String {
 
 fn rust_parameter((name, of_type): &Typed) -> String {
     match form(of_type) {
-        Form::Number(part) => format!("{name}: {part}"),
+        Form::Value(part) => format!("{name}: {}", in_sys(part)),
         Form::Lent(part) => format!("{name}: *mut {part}"),
         Form::Slice(part) => format!("{name}: *const {part}, {name}_len: usize"),
         Form::Output(part) => format!("{name}: *mut {part}, {name}_len: usize"),
@@ -311,15 +336,15 @@ fn hold<T: Ord + std::fmt::Debug>(declared: Vec<T>, exported: Vec<T>) {
 #[test]
 fn the_header_declares_every_function() {
     let mut there: Vec<String> = functions().iter().map(c_declaration).collect();
-    assert_eq!(there.len(), 27);
+    assert_eq!(there.len(), 33);
     there.extend(functions_of_c());
     hold(header_declarations(), there);
 }
 
 #[test]
-fn the_header_has_every_answer() {
-    let structs = ANSWERS.map(|(path, name)| {
-        let fields: Vec<String> = answer_fields(path).iter().map(c_field).collect();
+fn the_header_has_every_struct() {
+    let structs = STRUCTS.map(|(path, name)| {
+        let fields: Vec<String> = fields_of(path).iter().map(c_field).collect();
         (name.to_owned(), fields.join(" "))
     });
     hold(header_structs(), structs.into());
@@ -331,9 +356,12 @@ fn sys_declares_every_function() {
 }
 
 #[test]
-fn sys_has_every_answer() {
+fn sys_has_every_struct() {
     let declared = structs(&read("bindings/rust/src/sys.rs"));
-    let exported = ANSWERS.map(|(path, _)| (in_sys(path), answer_fields(path)));
+    let exported = STRUCTS.map(|(path, _)| {
+        let fields: Vec<Typed> = fields_of(path).into_iter().map(sys_field).collect();
+        (in_sys(path), fields)
+    });
     hold(declared.into_iter().collect(), exported.into());
 }
 

@@ -6,10 +6,11 @@ mod held;
 use compare::kind::{FieldType, Kind};
 use compare::random::Random;
 use compare::record;
-use compare::sample;
+use compare::sample::{self, PublicKey};
 use compare::worked::worked;
 use compare::{agreement, file, text};
 use held::attributes::{same_attributes, same_named};
+use held::fingerprint::same_fingerprint;
 use held::reading::{same_identity, same_record};
 use held::{expected, expected_at, line_numbers, numbers, place, same_output, Seen};
 use obscurlane::LONGEST_RECORD;
@@ -143,6 +144,26 @@ fn identities_inside_records() {
         }
     }
     seen.expect([0, 5, 7], 10);
+}
+
+/// In a public key, with its check made right again; and in every place of its Subject, with both checks made right.
+#[test]
+fn fingerprints() {
+    let mut seen = Seen::default();
+    for name in ["PUBKEY_MAN", "PUBKEY_SM"] {
+        let PublicKey { kind, .. } = PublicKey::of_record(&worked(name));
+        let mut fields = PublicKey::of_record(&worked(name)).fields();
+        for place in places(kind, &fields) {
+            at_place(&worked(name), place, |key| {
+                seen.add(&same_fingerprint(&sample::resealed(key), 16));
+            });
+        }
+        everywhere(&fields[0].clone(), |subject| {
+            fields[0] = sample::resealed(subject);
+            seen.add(&same_fingerprint(&sample::of_kind(kind, &fields), 16));
+        });
+    }
+    seen.expect([0, 2, 5, 6, 7, 15], 10);
 }
 
 /// First, middle and last place of every field.

@@ -3,7 +3,7 @@
 
 use compare::kind::{FieldType, Kind};
 use compare::random::Random;
-use compare::sample;
+use compare::sample::{self, PublicKey};
 use obscurlane::{Reason, Record, Refusal, LONGEST_READ};
 
 /// What a call writes with as much room as it takes; one byte less is no room.
@@ -108,6 +108,22 @@ fn texts_of_a_request() {
     assert_eq!(module_text.len(), obscurlane::LONGEST_MODULE_TEXT);
     let centre_text = made(|out| obscurlane::centre_text(&request, out));
     assert_eq!(centre_text.len(), obscurlane::LONGEST_CENTRE_TEXT);
+}
+
+/// Of the longest keys and of the shortest: all Fingerprints are as long.
+#[test]
+fn fingerprints() {
+    let mut random = Random::with_seed(54);
+    for kind in Kind::PUBLIC_KEYS {
+        let longest = longest_record(kind);
+        let print = made(|out| obscurlane::write_fingerprint(&longest, out));
+        assert_eq!(print.len(), obscurlane::LONGEST_FINGERPRINT);
+        let mut shortest = PublicKey::of_record(&sample::record(&mut random, kind));
+        (shortest.subject.manufacturer, shortest.subject.mid) = (b"A".into(), b"0".into());
+        let print = made(|out| obscurlane::write_fingerprint(&shortest.record(), out));
+        assert_eq!(print, shortest.right_print());
+        assert_eq!(print.len(), obscurlane::LONGEST_FINGERPRINT);
+    }
 }
 
 #[test]

@@ -1,7 +1,7 @@
 //! The worked example and that of Appendix A, and what the crate says of its own names and numbers.
 
 use compare::worked::{appendix_a, worked, IDENTITIES, RECORDS, WRAPPED_KEYS};
-use obscurlane::{field, Identity, Kind, Reason, Record, View, WrappedKey};
+use obscurlane::{field, Identity, Kind, Reason, Record, Sha384, View, WrappedKey};
 
 #[test]
 fn every_value_is_accepted() {
@@ -70,6 +70,55 @@ fn public_keys_by_their_names() {
         assert_eq!(issuer, signature.map(|_| (&id_man[..], Kind::Smman)), "{name}");
         assert_eq!(key.signature.map(<[u8]>::to_vec), signature.map(worked), "{name}");
     }
+}
+
+/// Those of the three identities, each in one key at least, with their hashes.
+#[test]
+fn fingerprints() {
+    for (key, who) in [
+        ("PUBKEY_KMC", "KMC"),
+        ("PUBKEY_MAN", "MAN"),
+        ("PUBKEY_SM_NOSIG", "SM"),
+        ("PUBKEY_SM", "SM"),
+    ] {
+        let of = |what: &str| worked(&format!("{what}_{who}"));
+        let mut out = [0; obscurlane::LONGEST_FINGERPRINT];
+        assert_eq!(obscurlane::sha384_of(&of("HASHIN")), of("SHA384")[..], "{key}");
+        assert_eq!(obscurlane::check_fingerprint(&worked(key)), Ok(()), "{key}");
+        assert_eq!(obscurlane::write_fingerprint(&worked(key), &mut out), Ok(out.len()), "{key}");
+        assert_eq!(out, of("FINGERPRINT")[..], "{key}");
+    }
+}
+
+/// The pieces that are hashed, by a state, from where they stand in a key.
+#[test]
+fn the_hash_of_a_fingerprint() {
+    let key = worked("PUBKEY_SM");
+    let View::PublicKey(key) = Record::read(&key).expect("accepted").view() else {
+        panic!("no key");
+    };
+    let Identity { kind, manufacturer, mid, gnt, .. } =
+        Identity::read(key.subject.bytes).expect("accepted with it");
+    let pieces = [kind.name().as_bytes(), manufacturer, mid, gnt, key.q];
+    let begun = Sha384::begin();
+    let hash = pieces.iter().fold(begun, |hash, piece| hash.add(piece).add(b":")).end();
+    assert_eq!(hash, worked("SHA384_SM")[..]);
+}
+
+/// Every other kind, with a check or without one.
+#[test]
+fn fingerprints_of_other_kinds() {
+    let mut out = [0; obscurlane::LONGEST_FINGERPRINT];
+    let is_key = |name: &&&str| name.starts_with("PUBKEY_");
+    for name in IDENTITIES.iter().chain(&RECORDS).filter(|name| !is_key(name)) {
+        let record = worked(name);
+        for bytes in [&record[..], &record[..record.len() - 1]] {
+            let refusal = obscurlane::check_fingerprint(bytes).expect_err(name);
+            assert_eq!((refusal.reason, refusal.field), (Reason::UnknownKind, None), "{name}");
+            assert_eq!(obscurlane::write_fingerprint(bytes, &mut out), Err(refusal), "{name}");
+        }
+    }
+    assert_eq!(out, [0; obscurlane::LONGEST_FINGERPRINT]);
 }
 
 /// Every card by its number and by its name, and the list as the cipher takes it.

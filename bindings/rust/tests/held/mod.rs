@@ -3,6 +3,7 @@
 #![allow(dead_code)] // each program takes what it needs
 
 pub mod attributes;
+pub mod fingerprint;
 pub mod reading;
 
 use compare::file::{self, Step};
@@ -91,7 +92,7 @@ pub fn expected_at(file: &[u8], place: usize) -> Option<LineNumbers> {
 
 /// How often each number was answered, 0 being accepted.
 #[derive(Debug, Default)]
-pub struct Seen([usize; 15]);
+pub struct Seen([usize; 16]);
 
 impl Seen {
     pub fn add<T>(&mut self, answer: &Result<T, Numbers>) {

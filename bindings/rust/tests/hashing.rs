@@ -1,0 +1,256 @@
+//! SHA-384, whole and by its state, and the Fingerprint of a public key, held against `compare/` on inputs with a fixed seed.
+
+mod held;
+
+use compare::kind::Kind;
+use compare::random::Random;
+use compare::sample::{self, Fault, PublicKey, Signed, Subject};
+use compare::sha384::{sha384, BLOCK_LENGTH};
+use compare::text::{base16, LONGEST_IDENT, PRINT_DIGITS};
+use held::fingerprint::same_fingerprint;
+use held::{expect_share, rounds, Seen};
+use obscurlane::{sha384_of, Sha384};
+
+// ---- the hash
+
+/// Longer than two blocks and what the end of a message needs.
+const LONG: usize = 300;
+
+fn of_pieces(pieces: &[&[u8]]) -> Sha384 {
+    pieces.iter().fold(Sha384::begin(), |sha384, piece| sha384.add(piece))
+}
+
+#[test]
+fn published_examples() {
+    let two_blocks: Vec<u8> = (b'a'..=b'n').flat_map(|first| first..first + 8).collect();
+    for (message, expected) in [
+        (
+            &b""[..],
+            "38B060A751AC96384CD9327EB1B1E36A21FDB71114BE07434C0CC7BF63F6E1DA\
+             274EDEBFE76F65FBD51AD2F14898B95B",
+        ),
+        (
+            b"abc",
+            "CB00753F45A35E8BB5A03D699AC65007272C32AB0EDED1631A8B605A43FF5BED\
+             8086072BA1E7CC2358BAECA134C825A7",
+        ),
+        (
+            &two_blocks,
+            "09330C33F71147E83D192FC782CD1B4753111B173B3B05D22FA08086E3B0F712\
+             FCC7C71A557E2DB966C3E9FA91746039",
+        ),
+        (
+            &[b'a'; 1_000_000],
+            "9D0E1809716474CB086E834E310A4A1CED149E9C00F248527972CEC5704C2A5B\
+             07B8B3DC38ECC4EBAE97DDD87F3D8985",
+        ),
+    ] {
+        assert_eq!(base16(&sha384_of(message)), expected, "{} bytes", message.len());
+        for length in [1, 127, 128, 129, 1000] {
+            let pieces: Vec<&[u8]> = message.chunks(length).collect();
+            assert_eq!(base16(&of_pieces(&pieces).end()), expected, "in pieces of {length}");
+        }
+    }
+}
+
+/// Every length, and every place that a message of this length can be cut at.
+#[test]
+fn every_length_and_every_cut() {
+    let bytes = Random::with_seed(81).bytes(LONG);
+    for length in 0..=LONG {
+        let message = &bytes[..length];
+        assert_eq!(sha384_of(message), sha384(message), "{length} bytes");
+        for cut in 0..=length {
+            let (front, back) = message.split_at(cut);
+            let state = of_pieces(&[front, back]);
+            assert_eq!(state.end(), sha384_of(message), "{length} bytes, cut at {cut}");
+            assert_eq!(state, of_pieces(&[message]), "{length} bytes, cut at {cut}");
+        }
+    }
+}
+
+/// A state that is ended after every piece and goes on.
+#[test]
+fn random_cuts() {
+    let mut random = Random::with_seed(82);
+    for _ in 0..rounds() {
+        let length = random.below(3 * LONG);
+        let bytes = random.bytes(length);
+        let (mut state, mut given) = (Sha384::begin(), 0);
+        while given < length {
+            let most = random.one_of(&[1, 16, BLOCK_LENGTH + 1, 3 * BLOCK_LENGTH]);
+            let next = length.min(given + random.below(most + 1));
+            state = state.add(&bytes[given..next]);
+            given = next;
+            if random.once_in(8) {
+                assert_eq!(state.end(), sha384(&bytes[..given]), "{:?}", &bytes[..given]);
+            }
+        }
+        assert_eq!(state.end(), sha384(&bytes), "{bytes:?}");
+        assert_eq!(state, Sha384::begin().add(&bytes), "{bytes:?}");
+    }
+}
+
+/// Bytes that are all alike, on each side of the ends of blocks.
+#[test]
+fn every_byte_value() {
+    for byte in 0..=255 {
+        for length in [1, 111, 112, 127, 128, 129, 239, 240, 256] {
+            let message = vec![byte; length];
+            assert_eq!(sha384_of(&message), sha384(&message), "{length} bytes {byte}");
+        }
+    }
+}
+
+/// Two messages that begin alike, by copies of one state.
+#[test]
+fn a_state_goes_on_in_two_ways() {
+    let mut random = Random::with_seed(83);
+    for length in 0..=LONG {
+        let [front, one, other] = [length, 130, 131].map(|length| random.bytes(length));
+        let begun = Sha384::begin().add(&front);
+        let (first, second) = (begun.add(&one), begun.add(&other));
+        assert_eq!(begun.end(), sha384(&front));
+        assert_eq!(first.end(), sha384(&[front.clone(), one].concat()));
+        assert_eq!(second.end(), sha384(&[front, other].concat()));
+    }
+    assert_eq!(Sha384::default(), Sha384::begin());
+    assert_eq!(Sha384::default().add(b""), Sha384::begin());
+}
+
+#[test]
+fn a_state_does_not_show_what_it_was_given() {
+    let shown = format!("{:?}", Sha384::begin().add(b"secret"));
+    assert_eq!(shown, "Sha384 { .. }");
+}
+
+// ---- the Fingerprint
+
+/// A key with the right Fingerprint.
+fn right_key(random: &mut Random) -> PublicKey {
+    let (subject, signed) = (Subject::any(random), Signed::any(random));
+    PublicKey::of(random, subject, signed)
+}
+
+/// Another digit in one place of the Fingerprint.
+fn misprint(random: &mut Random, key: &mut PublicKey) {
+    let place = random.below(PRINT_DIGITS);
+    key.print[place] = if key.print[place] == b'0' { b'1' } else { b'0' };
+}
+
+/// Another text in one of the parts that are hashed.
+fn change_a_piece(random: &mut Random, key: &mut PublicKey) {
+    match random.below(5) {
+        0 => key.subject.manufacturer = sample::any_ident(random),
+        1 => key.subject.mid = sample::any_ident(random),
+        2 => key.subject.gnt = sample::timestamp(random),
+        3 => key.q = sample::point(random),
+        _ => key.subject.kind = random.one_of(&Kind::IDENTITIES),
+    }
+}
+
+/// A public key with the right Fingerprint or a wrong one, whole or refused for something else, or anything that may be read.
+fn any_key(random: &mut Random) -> Vec<u8> {
+    let mut key = right_key(random);
+    if random.once_in(2) {
+        misprint(random, &mut key);
+    }
+    match random.below(6) {
+        0 => key.record(),
+        1 => {
+            change_a_piece(random, &mut key);
+            key.record()
+        }
+        2 => {
+            let fault = random.one_of(Fault::of(key.kind));
+            sample::faulty(random, key.kind, &[fault])
+        }
+        3 => {
+            let whole = [Fault::Long, Fault::Name, Fault::CheckText, Fault::Check, Fault::Count];
+            let fault = random.one_of(&whole);
+            sample::finished(random, key.kind, key.fields(), &[fault])
+        }
+        4 => sample::resealed(&sample::damaged_anywhere(random, &key.record(), 1)),
+        _ => sample::anything(random),
+    }
+}
+
+#[test]
+fn fingerprints() {
+    let mut random = Random::with_seed(84);
+    let mut seen = Seen::default();
+    for _ in 0..rounds() {
+        let room = random.one_of(&[0, PRINT_DIGITS - 1, PRINT_DIGITS, PRINT_DIGITS + 1, 64]);
+        seen.add(&same_fingerprint(&any_key(&mut random), room));
+    }
+    seen.expect(0..=9, 9);
+    seen.expect([0, 15], 200);
+}
+
+/// The right one is accepted, and no other.
+#[test]
+fn right_and_wrong_fingerprints() {
+    let mut random = Random::with_seed(85);
+    let mut signed = 0;
+    for _ in 0..rounds() {
+        let mut key = right_key(&mut random);
+        let mut out = [0; PRINT_DIGITS];
+        assert_eq!(same_fingerprint(&key.record(), 64), Ok(()));
+        assert_eq!(obscurlane::write_fingerprint(&key.record(), &mut out), Ok(out.len()));
+        assert_eq!(out, key.print[..]);
+        signed += usize::from(!key.signature.is_empty());
+
+        misprint(&mut random, &mut key);
+        assert_eq!(same_fingerprint(&key.record(), 64), Err((15, 0)));
+        let before = std::mem::replace(&mut out, [0; PRINT_DIGITS]);
+        assert_eq!(obscurlane::write_fingerprint(&key.record(), &mut out), Ok(out.len()));
+        assert_eq!(out, before);
+    }
+    expect_share(20..=80, signed, "were signed");
+}
+
+/// What is hashed ends in every place that it can end in, of the second block and of the third.
+#[test]
+fn names_of_every_length() {
+    let mut random = Random::with_seed(86);
+    for kind in Kind::IDENTITIES {
+        for lengths in 2..=2 * LONGEST_IDENT {
+            let subject = Subject { kind, ..Subject::any(&mut random) };
+            let mut key = PublicKey::of(&mut random, subject, Signed::No);
+            let first = lengths.div_ceil(2);
+            key.subject.manufacturer = sample::ident(&mut random, first);
+            key.subject.mid = sample::ident(&mut random, lengths - first);
+            assert_eq!(same_fingerprint(&key.record(), PRINT_DIGITS), Err((15, 0)));
+            key.print = key.right_print();
+            assert_eq!(same_fingerprint(&key.record(), PRINT_DIGITS), Ok(()));
+        }
+    }
+}
+
+#[test]
+fn fingerprints_with_every_room() {
+    let mut random = Random::with_seed(87);
+    for _ in 0..rounds().div_ceil(300) {
+        let mut key = right_key(&mut random);
+        for room in 0..=3 * PRINT_DIGITS {
+            assert_eq!(same_fingerprint(&key.record(), room), Ok(()));
+        }
+        misprint(&mut random, &mut key);
+        for room in 0..=3 * PRINT_DIGITS {
+            assert_eq!(same_fingerprint(&key.record(), room), Err((15, 0)));
+        }
+    }
+}
+
+/// Refused as of another kind, whatever else is wrong with it but its length.
+#[test]
+fn fingerprints_of_other_kinds() {
+    let mut random = Random::with_seed(88);
+    for kind in Kind::ALL.into_iter().filter(|kind| !Kind::PUBLIC_KEYS.contains(kind)) {
+        assert_eq!(same_fingerprint(&sample::record(&mut random, kind), 0), Err((2, 0)));
+        for fault in [Fault::CheckText, Fault::Check, Fault::Count] {
+            let record = sample::faulty(&mut random, kind, &[fault]);
+            assert_eq!(same_fingerprint(&record, PRINT_DIGITS), Err((2, 0)));
+        }
+    }
+}
