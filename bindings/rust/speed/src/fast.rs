@@ -2,15 +2,21 @@
 //! check, sixteen bytes at a step; words in the place of bytes where something is looked for; and every field gone over once,
 //! by its type, which finds its end as well. Only what is refused is gone over again, to count its fields.
 
-use crate::kinds::{Kind, Type, IDENTITIES, RECORDS, WRONG_IDENTITY, WRONG_KIND, WRONG_TEXT};
+use crate::fast_hash::{self, Sha384};
+use crate::kinds::{
+    Kind, Type, IDENTITIES, PUBLIC_KEYS, RECORDS, WRONG_IDENTITY, WRONG_KIND, WRONG_TEXT,
+};
 use crate::side::{
-    Fields, Line, Reads, Refusal, Side, MISSING_CHECK, MISSING_PART, MOST_FIELDS, SHORT_OUTPUT,
-    TOO_LONG, UNFINISHED, UNKNOWN_KIND, UNPAIRED, WRONG_ATTRIBUTES, WRONG_CHECK, WRONG_COUNT,
+    Fields, Line, Pieces, Reads, Refusal, Side, MISSING_CHECK, MISSING_PART, MOST_FIELDS,
+    SHORT_OUTPUT, TOO_LONG, UNFINISHED, UNKNOWN_KIND, UNPAIRED, WRONG_ATTRIBUTES, WRONG_CHECK,
+    WRONG_COUNT, WRONG_FINGERPRINT,
 };
 use obscurlane::{LONGEST_IDENT, LONGEST_READ};
 
 const CHECK_LENGTH: usize = 4;
 const POINT_BYTES: usize = 97;
+/// The Fingerprint at the end of an identity, its mark, and the check.
+const PRINT_TO_END: usize = 16 + 1 + CHECK_LENGTH;
 
 // ---- the check
 
@@ -500,5 +506,29 @@ impl Side for Fast {
     fn centre_text(request: &[u8], out: &mut [u8]) -> Result<usize, Refusal> {
         let [id_sm, id_kmc, tvp, _, _, qe, _] = read_request(request)?;
         write_text(&[b"V2", id_kmc, id_sm, tvp, &decoded(qe)], out)
+    }
+
+    fn sha384_of(bytes: &[u8]) -> [u8; 48] {
+        fast_hash::sha384_of(bytes)
+    }
+
+    fn hash_of(pieces: Pieces<'_>) -> [u8; 48] {
+        let mut sha384 = Sha384::begin();
+        for piece in pieces {
+            sha384.add(piece);
+            sha384.add(b":");
+        }
+        sha384.end()
+    }
+
+    /// The Subject up to its Fingerprint is hashed as it stands there.
+    fn check_fingerprint(record: &[u8]) -> Result<(), Refusal> {
+        let [subject, q, ..] = read(record, PUBLIC_KEYS)?.1;
+        let (bound, print) = subject.split_at(subject.len() - PRINT_TO_END);
+        let mut sha384 = Sha384::begin();
+        [bound, q, b":"].iter().for_each(|piece| sha384.add(piece));
+        let digits = print.chunks_exact(2).map(|pair| 16 * value(pair[0]) + value(pair[1]));
+        let is_right = digits.zip(sha384.end()).take(8).all(|(said, right)| said == right);
+        is_right.then_some(()).ok_or(WRONG_FINGERPRINT)
     }
 }

@@ -1,9 +1,9 @@
 //! What the sides are given, with a fixed seed; all of it is accepted.
 
-use crate::side::Reads;
+use crate::side::{Pieces, Reads};
 use compare::kind::Kind;
 use compare::random::Random;
-use compare::sample::{self, Cards, Signed};
+use compare::sample::{self, Cards, PublicKey, Signed, Subject};
 
 /// A record as bytes and as what it is built from.
 pub struct Sample {
@@ -55,6 +55,53 @@ impl Sample {
     }
 }
 
+/// A public key with the right Fingerprint, and what is hashed for it.
+pub struct Printed {
+    pub record: Vec<u8>,
+    key: PublicKey,
+}
+
+impl Printed {
+    fn new(random: &mut Random) -> Printed {
+        let (subject, signed) = (Subject::any(random), Signed::any(random));
+        let key = PublicKey::of(random, subject, signed);
+        Printed { record: key.record(), key }
+    }
+
+    pub fn pieces(&self) -> Pieces<'_> {
+        let Subject { kind, manufacturer, mid, gnt } = &self.key.subject;
+        [kind.name().as_bytes(), manufacturer, mid, gnt, &self.key.q]
+    }
+}
+
+/// Numbers for each sort of input by themselves, so that one that is added leaves the others as they were.
+pub struct Draws {
+    records: Random,
+    wrapped_keys: Random,
+    hashed: Random,
+}
+
+impl Draws {
+    pub fn with_seeds([records, wrapped_keys, hashed]: [u64; 3]) -> Draws {
+        let [records, wrapped_keys, hashed] =
+            [records, wrapped_keys, hashed].map(Random::with_seed);
+        Draws { records, wrapped_keys, hashed }
+    }
+}
+
+/// The lengths of the messages that are hashed: about what is hashed for a Fingerprint, 4 KB, and the longest, 64 KB.
+pub const MESSAGES: [usize; 3] = [250, 1 << 12, 1 << 16];
+
+/// How many messages of this length there are among so many records: as many, but no more than 1 MB of them.
+pub const fn messages_among(length: usize, records: usize) -> usize {
+    let most = (1 << 20) / length;
+    if most < records {
+        most
+    } else {
+        records
+    }
+}
+
 pub struct Inputs {
     /// As many of each record kind and of identities, in no order.
     pub samples: Vec<Sample>,
@@ -62,11 +109,14 @@ pub struct Inputs {
     pub file: Vec<u8>,
     pub requests: Vec<Vec<u8>>,
     pub wrapped_keys: Vec<Sample>,
+    pub printed: Vec<Printed>,
+    /// Messages are parts of it, each of which starts a byte behind the one before.
+    bytes: Vec<u8>,
 }
 
 impl Inputs {
-    /// Wrapped keys are drawn by numbers of their own, and all else is as it was without them.
-    pub fn new(random: &mut Random, of_keys: &mut Random, count: usize) -> Inputs {
+    pub fn new(draws: &mut Draws, count: usize) -> Inputs {
+        let Draws { records: random, wrapped_keys, hashed } = draws;
         let mut samples: Vec<Sample> = (0..count)
             .map(|index| {
                 let kind = match index % 5 {
@@ -85,7 +135,13 @@ impl Inputs {
             file.push(b'\n');
         }
         let requests = (0..count).map(|_| sample::record(random, Kind::VkloadReq)).collect();
-        let wrapped_keys = (0..count).map(|_| Sample::wrapped_key(of_keys)).collect();
-        Inputs { samples, file, requests, wrapped_keys }
+        let wrapped_keys = (0..count).map(|_| Sample::wrapped_key(wrapped_keys)).collect();
+        let printed = (0..count).map(|_| Printed::new(hashed)).collect();
+        let bytes = hashed.bytes(MESSAGES[2] + count);
+        Inputs { samples, file, requests, wrapped_keys, printed, bytes }
+    }
+
+    pub fn messages(&self, length: usize) -> impl Iterator<Item = &[u8]> {
+        self.bytes.windows(length).take(messages_among(length, self.samples.len()))
     }
 }

@@ -16,6 +16,8 @@ pub enum Kind {
 pub const IDENTITIES: &[Kind] = &[Kind::Smman, Kind::Smid, Kind::Kmcid];
 pub const RECORDS: &[Kind] = &[Kind::Ecdsa, Kind::Ecdh, Kind::Request, Kind::Response, Kind::Key];
 
+pub const PUBLIC_KEYS: &[Kind] = &[Kind::Ecdsa, Kind::Ecdh];
+
 /// What the text of a field must be.
 #[derive(Clone, Copy)]
 pub enum Type {

@@ -1,7 +1,7 @@
 //! The library, through its crate.
 
-use crate::side::{Fields, Line, Reads, Refusal, Side, MOST_FIELDS};
-use obscurlane::Record;
+use crate::side::{Fields, Line, Pieces, Reads, Refusal, Side, MOST_FIELDS};
+use obscurlane::{Record, Sha384};
 
 pub struct Library;
 
@@ -65,5 +65,17 @@ impl Side for Library {
 
     fn centre_text(request: &[u8], out: &mut [u8]) -> Result<usize, Refusal> {
         obscurlane::centre_text(request, out).map_err(refusal)
+    }
+
+    fn sha384_of(bytes: &[u8]) -> [u8; 48] {
+        obscurlane::sha384_of(bytes)
+    }
+
+    fn hash_of(pieces: Pieces<'_>) -> [u8; 48] {
+        pieces.iter().fold(Sha384::begin(), |state, piece| state.add(piece).add(b":")).end()
+    }
+
+    fn check_fingerprint(record: &[u8]) -> Result<(), Refusal> {
+        obscurlane::check_fingerprint(record).map_err(refusal)
     }
 }

@@ -1,19 +1,21 @@
 //! How fast the library is beside plain Rust: `cargo run --release --offline --bin speed`.
 //!
 //! First the answers of all sides to every input are compared, damaged ones too; a difference ends the program. Then the sides
-//! take turns over the same inputs, and for each the nanoseconds per record are printed.
+//! take turns over the same inputs, and for each the nanoseconds per record, or per message that is hashed, are printed.
 
+mod constants;
 mod fast;
+mod fast_hash;
 mod inputs;
 mod kinds;
 mod library;
 mod plain;
+mod plain_hash;
 mod same;
 mod side;
 
-use compare::random::Random;
 use fast::Fast;
-use inputs::{Inputs, Sample};
+use inputs::{messages_among, Draws, Inputs, Sample, MESSAGES};
 use library::Library;
 use obscurlane::{LONGEST_MODULE_TEXT, LONGEST_PUBKEY};
 use plain::Plain;
@@ -103,18 +105,54 @@ fn the_check<S: Side>(inputs: &Inputs) {
     }
 }
 
+fn hashing<S: Side, const LENGTH: usize>(inputs: &Inputs) {
+    for message in inputs.messages(LENGTH) {
+        black_box(S::sha384_of(black_box(message)));
+    }
+}
+
+fn the_hash_of_a_fingerprint<S: Side>(inputs: &Inputs) {
+    for printed in &inputs.printed {
+        black_box(S::hash_of(black_box(printed.pieces())));
+    }
+}
+
+fn checking_a_fingerprint<S: Side>(inputs: &Inputs) {
+    for printed in &inputs.printed {
+        black_box(S::check_fingerprint(black_box(&printed.record))).expect("right");
+    }
+}
+
 // ---- the measurement
 
-/// A line of the table: what each side does in a turn.
-type Row = (&'static str, [fn(&Inputs); 3]);
+/// A line of the table: what each side does in a turn, and how often.
+struct Row {
+    name: &'static str,
+    works: [fn(&Inputs); 3],
+    times: usize,
+}
 
 macro_rules! row {
     ($name:literal, $work:ident) => {
-        ($name, [$work::<Library>, $work::<Plain>, $work::<Fast>])
+        Row { name: $name, works: [$work::<Library>, $work::<Plain>, $work::<Fast>], times: TURN }
     };
 }
 
-const ROWS: [Row; 10] = [
+macro_rules! hashing {
+    ($name:literal, $length:expr) => {
+        Row {
+            name: $name,
+            works: [
+                hashing::<Library, { $length }>,
+                hashing::<Plain, { $length }>,
+                hashing::<Fast, { $length }>,
+            ],
+            times: messages_among($length, TURN),
+        }
+    };
+}
+
+const ROWS: [Row; 15] = [
     row!("reading", reading),
     row!("reading, all places", reading_all_places),
     row!("seven fields, one reading", seven_fields_one_reading),
@@ -125,13 +163,18 @@ const ROWS: [Row; 10] = [
     row!("reading a wrapped key", reading_a_wrapped_key),
     row!("one attribute by name", one_attribute_by_name),
     row!("the check", the_check),
+    hashing!("SHA-384, 250 bytes", MESSAGES[0]),
+    hashing!("SHA-384, 4 KB", MESSAGES[1]),
+    hashing!("SHA-384, 64 KB", MESSAGES[2]),
+    row!("the hash of a Fingerprint", the_hash_of_a_fingerprint),
+    row!("checking a Fingerprint", checking_a_fingerprint),
 ];
 
-/// Nanoseconds per record.
+/// Nanoseconds for a turn.
 fn time(work: fn(&Inputs), inputs: &Inputs) -> f64 {
     let begin = Instant::now();
     work(inputs);
-    begin.elapsed().as_nanos() as f64 / TURN as f64
+    begin.elapsed().as_nanos() as f64
 }
 
 /// The number that so many percent of these lie below.
@@ -142,14 +185,14 @@ fn percentile(percent: usize, numbers: impl Iterator<Item = f64>) -> f64 {
 }
 
 /// Lets the sides take turns, each round another one first, and prints a line of the table.
-fn measure((name, works): Row, sets: &[Inputs]) {
+fn measure(Row { name, works, times: of_a_turn }: &Row, sets: &[Inputs]) {
     let mut rounds: Vec<[f64; 3]> = Vec::new();
     for round in 0..ROUNDS {
         let inputs = &sets[round % sets.len()];
         let mut times = [0.0; 3];
         for turn in 0..works.len() {
             let side = (round + turn) % works.len();
-            times[side] = time(works[side], inputs);
+            times[side] = time(works[side], inputs) / *of_a_turn as f64;
         }
         rounds.push(times);
     }
@@ -159,38 +202,40 @@ fn measure((name, works): Row, sets: &[Inputs]) {
     let ratio = |side: usize| percentile(50, counted.iter().map(|times| times[0] / times[side]));
     print!("{name:<26}");
     for side in 0..works.len() {
-        print!("{:>8.0} ({:>5.0} ..{:>6.0})", of(50, side), of(10, side), of(90, side));
+        print!("{:>8.0} ({:>6.0} ..{:>7.0})", of(50, side), of(10, side), of(90, side));
     }
     println!("{:>8.2}{:>8.2}", ratio(1), ratio(2));
 }
 
 /// The bytes of a record on average.
-fn average<'a>(samples: impl Iterator<Item = &'a Sample>) -> usize {
-    samples.map(|sample| sample.record.len()).sum::<usize>() / (SETS * TURN)
+fn average<'a>(records: impl Iterator<Item = &'a Vec<u8>>) -> usize {
+    records.map(Vec::len).sum::<usize>() / (SETS * TURN)
 }
 
 fn main() {
-    let (mut random, mut of_keys) = (Random::with_seed(2026), Random::with_seed(2029));
-    let sets: Vec<Inputs> =
-        (0..SETS).map(|_| Inputs::new(&mut random, &mut of_keys, TURN)).collect();
+    let mut draws = Draws::with_seeds([2026, 2029, 2031]);
+    let sets: Vec<Inputs> = (0..SETS).map(|_| Inputs::new(&mut draws, TURN)).collect();
     for inputs in &sets {
         same_answers::<Library, Plain>(inputs);
         same_answers::<Library, Fast>(inputs);
     }
     println!("all sides give the same answers, whole and damaged");
     println!(
-        "{} records, {} bytes each on average, and as many wrapped keys of {}; {}",
+        "{} records, {} bytes each on average, as many wrapped keys of {} and public keys of {}; {}",
         SETS * TURN,
-        average(sets.iter().flat_map(|inputs| &inputs.samples)),
-        average(sets.iter().flat_map(|inputs| &inputs.wrapped_keys)),
+        average(sets.iter().flat_map(|inputs| &inputs.samples).map(|sample| &sample.record)),
+        average(sets.iter().flat_map(|inputs| &inputs.wrapped_keys).map(|key| &key.record)),
+        average(sets.iter().flat_map(|inputs| &inputs.printed).map(|printed| &printed.record)),
         std::env::consts::ARCH
     );
-    println!("{ROUNDS} rounds of {TURN} records in turns; ns per record: median (tenth .. ninetieth percentile)");
+    println!(
+        "{ROUNDS} rounds of {TURN} records in turns, or of 1 MB to hash; ns per record or message: median (tenth .. ninetieth percentile)"
+    );
     println!();
     let [library, plain, fast] = [Library::NAME, Plain::NAME, Fast::NAME];
-    print!("{:<26}{library:>8}{:>16}{plain:>8}{:>16}{fast:>8}{:>16}", "", "", "", "");
+    print!("{:<26}{library:>8}{:>19}{plain:>8}{:>19}{fast:>8}{:>19}", "", "", "", "");
     println!("{:>8}{:>8}", format!("/{plain}"), format!("/{fast}"));
-    for row in ROWS {
+    for row in &ROWS {
         measure(row, &sets);
     }
 }
@@ -201,8 +246,7 @@ mod tests {
 
     #[test]
     fn all_sides_give_the_same_answers() {
-        let (mut random, mut of_keys) = (Random::with_seed(2028), Random::with_seed(2030));
-        let inputs = Inputs::new(&mut random, &mut of_keys, 3_000);
+        let inputs = Inputs::new(&mut Draws::with_seeds([2028, 2030, 2032]), 3_000);
         same_answers::<Library, Plain>(&inputs);
         same_answers::<Library, Fast>(&inputs);
     }

@@ -4,15 +4,20 @@
 //! CRC and put a table of 512 bytes in its place, and the two sides would not do the same work. The feedback of a bit is
 //! chosen, as one writes it; the library masks it.
 
-use crate::kinds::{Kind, Type, IDENTITIES, RECORDS, WRONG_IDENTITY, WRONG_KIND, WRONG_TEXT};
+use crate::kinds::{
+    Kind, Type, IDENTITIES, PUBLIC_KEYS, RECORDS, WRONG_IDENTITY, WRONG_KIND, WRONG_TEXT,
+};
+use crate::plain_hash::{self, State};
 use crate::side::{
-    Fields, Line, Reads, Refusal, Side, MISSING_CHECK, MISSING_PART, MOST_FIELDS, SHORT_OUTPUT,
-    TOO_LONG, UNFINISHED, UNKNOWN_KIND, UNPAIRED, WRONG_ATTRIBUTES, WRONG_CHECK, WRONG_COUNT,
+    Fields, Line, Pieces, Reads, Refusal, Side, MISSING_CHECK, MISSING_PART, MOST_FIELDS,
+    SHORT_OUTPUT, TOO_LONG, UNFINISHED, UNKNOWN_KIND, UNPAIRED, WRONG_ATTRIBUTES, WRONG_CHECK,
+    WRONG_COUNT, WRONG_FINGERPRINT,
 };
 use obscurlane::{LONGEST_IDENT, LONGEST_READ};
 
 const CHECK_LENGTH: usize = 4;
 const POINT_BYTES: u8 = 97;
+const PRINT_BYTES: usize = 8;
 
 // ---- the check
 
@@ -313,6 +318,44 @@ fn read_request(request: &[u8]) -> Result<Fields<'_>, Refusal> {
     read(request, &[Kind::Request]).map(|(_, fields)| fields.parts)
 }
 
+// ---- the Fingerprint of a public key
+
+/// The first bytes of a hash as hexadecimal characters.
+fn print_of(hash: [u8; 48]) -> [u8; 2 * PRINT_BYTES] {
+    let mut print = [0; 2 * PRINT_BYTES];
+    for (pair, &byte) in print.chunks_exact_mut(2).zip(&hash) {
+        pair.copy_from_slice(&[hex_digit(u16::from(byte >> 4)), hex_digit(u16::from(byte))]);
+    }
+    print
+}
+
+/// The calls of a state as the library's interface has them: no caller can inline a function of an archive, and C hands a state
+/// over by a copy of its own.
+mod apart {
+    use crate::plain_hash::State;
+
+    #[repr(C)]
+    pub struct Digest {
+        pub bytes: [u8; 48],
+    }
+
+    #[inline(never)]
+    pub extern "C" fn begin() -> State {
+        State::begin()
+    }
+
+    #[allow(improper_ctypes_definitions)] // no C calls it, and a slice goes as a pointer and a length all the same
+    #[inline(never)]
+    pub extern "C" fn add(state: State, bytes: &[u8]) -> State {
+        state.add(bytes)
+    }
+
+    #[inline(never)]
+    pub extern "C" fn end(state: State) -> Digest {
+        Digest { bytes: state.end() }
+    }
+}
+
 // ---- as a side
 
 pub struct Plain;
@@ -422,5 +465,25 @@ impl Side for Plain {
             Item::Point(qe),
         ];
         write_text(&items, out)
+    }
+
+    fn sha384_of(bytes: &[u8]) -> [u8; 48] {
+        plain_hash::sha384_of(bytes)
+    }
+
+    fn hash_of(pieces: Pieces<'_>) -> [u8; 48] {
+        let add = |state, piece: &&[u8]| apart::add(apart::add(state, piece), b":");
+        apart::end(pieces.iter().fold(apart::begin(), add)).bytes
+    }
+
+    fn check_fingerprint(record: &[u8]) -> Result<(), Refusal> {
+        let [subject, q, ..] = read(record, PUBLIC_KEYS)?.1.parts;
+        let mut parts = subject.split(|&byte| byte == b':');
+        let names = parts.by_ref().take(4).chain([q]);
+        let hash = names.fold(State::begin(), |state, piece| state.add(piece).add(b":")).end();
+        match parts.next() {
+            Some(print) if print == print_of(hash) => Ok(()),
+            _ => Err(WRONG_FINGERPRINT),
+        }
     }
 }

@@ -1,11 +1,11 @@
 //! That two sides give the same answers and leave the same outputs: to everything that is measured, and to as many inputs that
 //! are damaged or nothing at all.
 
-use crate::inputs::{Inputs, Sample};
+use crate::inputs::{Inputs, Printed, Sample, MESSAGES};
 use crate::side::{Fields, Reads, Refusal, Side};
 use compare::kind::Kind;
 use compare::random::Random;
-use compare::sample::{self, Fault, ListFault};
+use compare::sample::{self, Fault, ListFault, PublicKey};
 use obscurlane::{LONGEST_MODULE_TEXT, LONGEST_RECORD};
 
 /// The places of the fields, not only their bytes.
@@ -93,6 +93,54 @@ fn same_wrapped_keys<A: Side, B: Side>(random: &mut Random, key: &[u8]) {
     same_wrapped_key::<A, B>(&sample::wrapped_key_fields(random, length));
 }
 
+/// Of the messages, and of one of every short length.
+fn same_messages<A: Side, B: Side>(inputs: &Inputs) {
+    let short = (1..=300).filter_map(|length| inputs.messages(length).next());
+    let measured = MESSAGES.iter().flat_map(|&length| inputs.messages(length));
+    for message in short.chain(measured).chain([&b""[..]]) {
+        assert_eq!(A::sha384_of(message), B::sha384_of(message), "{message:?}");
+    }
+}
+
+/// Of what is hashed for a Fingerprint, and of the same bytes cut in any five pieces.
+fn same_pieces<A: Side, B: Side>(random: &mut Random, inputs: &Inputs) {
+    for printed in &inputs.printed {
+        let pieces = printed.pieces();
+        assert_eq!(A::hash_of(pieces), B::hash_of(pieces), "{pieces:?}");
+        let bytes = pieces.concat();
+        let mut cuts = [0; 4].map(|_| random.below(bytes.len() + 1));
+        cuts.sort_unstable();
+        let [one, two, three, four] = cuts;
+        let pieces = [
+            &bytes[..one],
+            &bytes[one..two],
+            &bytes[two..three],
+            &bytes[three..four],
+            &bytes[four..],
+        ];
+        assert_eq!(A::hash_of(pieces), B::hash_of(pieces), "{pieces:?}");
+    }
+}
+
+fn same_fingerprint<A: Side, B: Side>(record: &[u8]) {
+    assert_eq!(A::check_fingerprint(record), B::check_fingerprint(record), "{record:?}");
+}
+
+/// A key with the right Fingerprint; damaged, with its check as it was and made right again; with its Subject damaged and both
+/// checks made right; and anything.
+fn same_fingerprints<A: Side, B: Side>(random: &mut Random, Printed { record, .. }: &Printed) {
+    assert_eq!(A::check_fingerprint(record), Ok(()));
+    same_fingerprint::<A, B>(record);
+    let damaged = sample::damaged_anywhere(random, record, 1);
+    same_fingerprint::<A, B>(&damaged);
+    same_fingerprint::<A, B>(&sample::resealed(&damaged));
+    let PublicKey { kind, .. } = PublicKey::of_record(record);
+    let mut fields = PublicKey::of_record(record).fields();
+    fields[0] = sample::resealed(&sample::damaged_anywhere(random, &fields[0], 1));
+    same_fingerprint::<A, B>(&sample::of_kind(kind, &fields));
+    same_fingerprint::<A, B>(&sample::anything(random));
+}
+
 /// Stops where the two differ.
 pub fn same_answers<A: Side, B: Side>(inputs: &Inputs) {
     let mut random = Random::with_seed(2027);
@@ -115,6 +163,11 @@ pub fn same_answers<A: Side, B: Side>(inputs: &Inputs) {
     }
     for key in &inputs.wrapped_keys {
         same_wrapped_keys::<A, B>(&mut random, &key.record);
+    }
+    same_messages::<A, B>(inputs);
+    same_pieces::<A, B>(&mut random, inputs);
+    for printed in &inputs.printed {
+        same_fingerprints::<A, B>(&mut random, printed);
     }
     for request in &inputs.requests {
         same_texts::<A, B>(request, LONGEST_MODULE_TEXT);

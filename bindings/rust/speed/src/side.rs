@@ -13,6 +13,7 @@ pub const SHORT_OUTPUT: Refusal = (10, 0);
 pub const UNFINISHED: Refusal = (11, 0);
 pub const MISSING_PART: Refusal = (12, 0);
 pub const WRONG_ATTRIBUTES: Refusal = (14, 0);
+pub const WRONG_FINGERPRINT: Refusal = (15, 0);
 
 /// How many fields a record has at most.
 pub const MOST_FIELDS: usize = 7;
@@ -29,6 +30,9 @@ pub struct Line {
     /// The kind, as its row in the table.
     pub answer: Result<usize, Refusal>,
 }
+
+/// What is hashed for a Fingerprint: kind name, Manufacturer, MID, GNT, and Q's characters.
+pub type Pieces<'a> = [&'a [u8]; 5];
 
 /// Which call reads.
 #[derive(Clone, Copy)]
@@ -54,4 +58,9 @@ pub trait Side {
     fn shared_info(request: &[u8], out: &mut [u8]) -> Result<usize, Refusal>;
     fn module_text(request: &[u8], out: &mut [u8]) -> Result<usize, Refusal>;
     fn centre_text(request: &[u8], out: &mut [u8]) -> Result<usize, Refusal>;
+    fn sha384_of(bytes: &[u8]) -> [u8; 48];
+    /// The hash by a state that is begun, given each piece and the `:` behind it, and ended.
+    fn hash_of(pieces: Pieces<'_>) -> [u8; 48];
+    /// Reads a public key, and compares the Fingerprint in its Subject with the right one.
+    fn check_fingerprint(record: &[u8]) -> Result<(), Refusal>;
 }
