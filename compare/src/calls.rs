@@ -82,7 +82,7 @@ calls! {
         case.place(attributes::attribute_named(&case.a, &case.b))
     };
     Sha384 "sha384_of" |case| case.values(&sha384(&case.a).map(u64::from));
-    Sha384State "State::begin,add,end" |case| case.values(&sha384(&case.a).map(u64::from));
+    Sha384State "Sha384::begin,add,end" |case| case.values(&sha384(&case.a).map(u64::from));
     CheckFingerprint "check_fingerprint" |case| case.verdict(fingerprint::check(&case.a));
     WriteFingerprint "write_fingerprint" |case| {
         case.output(|output| fingerprint::write(&case.a, output))

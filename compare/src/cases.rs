@@ -309,7 +309,7 @@ mod tests {
         assert_eq!(line(Op::Sha384, 0, [b"abc", no, no]), format!("sha384_of{hash}"));
         for n in 0..5 {
             let by_state = line(Op::Sha384State, n, [b"abc", no, no]);
-            assert_eq!(by_state, format!("State::begin,add,end{hash}"));
+            assert_eq!(by_state, format!("Sha384::begin,add,end{hash}"));
         }
     }
 

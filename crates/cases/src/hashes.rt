@@ -30,7 +30,7 @@ fn piece_size(n: usize) -> usize
 // By a state that is given a in pieces, the last of what is left.
 fn hash_by_state(n: usize, a: &[u8]) -> [u8; 48] {
     let size = piece_size(n);
-    let mut state = sha384::State::begin();
+    let mut state = sha384::Sha384::begin();
     let mut at: usize = 0;
     while size < a.len() - at {
         let end = at + size;

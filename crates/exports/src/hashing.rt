@@ -14,15 +14,15 @@ pub struct Digest {
 
 // The state before the first byte.
 #[no_mangle]
-pub extern "C" fn obscurlane_sha384_begin() -> sha384::State
+pub extern "C" fn obscurlane_sha384_begin() -> sha384::Sha384
     ensures { λ r. ⌜ r ≡ begun ⌝ }
 {
-    sha384::State::begin()
+    sha384::Sha384::begin()
 }
 
 // The state with these bytes too.
 #[no_mangle]
-pub extern "C" fn obscurlane_sha384_add(state: sha384::State, bytes: &[u8]) -> sha384::State
+pub extern "C" fn obscurlane_sha384_add(state: sha384::Sha384, bytes: &[u8]) -> sha384::Sha384
     ensures { λ r. ⌜ r ≡ added state (now (bytes .entry)) ⌝ }
 {
     state.add(bytes)
@@ -30,7 +30,7 @@ pub extern "C" fn obscurlane_sha384_add(state: sha384::State, bytes: &[u8]) -> s
 
 // The hash of all bytes given.
 #[no_mangle]
-pub extern "C" fn obscurlane_sha384_end(state: sha384::State) -> Digest
+pub extern "C" fn obscurlane_sha384_end(state: sha384::Sha384) -> Digest
     ensures { λ r. ⌜ r .bytes ≡ ended state ⌝ }
 {
     let bytes = state.end();

@@ -43,7 +43,7 @@ fn hash_of(key: &[u8], starts: &[usize; 7], lens: &[usize; 7]) -> [u8; 48]
 {
     let subject = places::field_at(key, starts, lens, table::PUBKEY_SUBJECT);
     let q = places::field_at(key, starts, lens, table::PUBKEY_Q);
-    let named = sha384::State::begin().add(front_of(subject));
+    let named = sha384::Sha384::begin().add(front_of(subject));
     named.add(q).add(b":").end()
 }
 

@@ -63,9 +63,9 @@ use Rattle.put.proofs.put.Reads as put
 use Rattle.put.proofs.put_byte.Reads as put-byte
 use Rattle.put.proofs.put_hex.Reads as put-hex
 use Rattle.put.proofs.refuse.Reads as refuse
-use Rattle.sha384.proofs.State.begin.Reads as sha384-begin
-use Rattle.sha384.proofs.State.add.Reads as sha384-add
-use Rattle.sha384.proofs.State.end.Reads as sha384-end
+use Rattle.sha384.proofs.Sha384.begin.Reads as sha384-begin
+use Rattle.sha384.proofs.Sha384.add.Reads as sha384-add
+use Rattle.sha384.proofs.Sha384.end.Reads as sha384-end
 use Rattle.sha384.proofs.sha384_of.Reads as sha384-of
 use Rattle.items.proofs.item_place.Reads as item-place
 use Rattle.items.proofs.text_item.Reads as text-item

@@ -10,9 +10,9 @@ use Rattle.text.specs.Text.{Bytes}
 use Rattle.crc16.specs.Damage.{AreBytes}
 use Rattle.sha384.specs.Sha384.{sha384}
 use Rattle.sha384.specs.State.{begun, added, addedAll, together, ended}
-use Rattle.sha384.proofs.State.begin.Reads as begin
-use Rattle.sha384.proofs.State.add.Reads as add
-use Rattle.sha384.proofs.State.end.Reads as end
+use Rattle.sha384.proofs.Sha384.begin.Reads as begin
+use Rattle.sha384.proofs.Sha384.add.Reads as add
+use Rattle.sha384.proofs.Sha384.end.Reads as end
 use Rattle.sha384.proofs.sha384_of.Reads as sha384-of
 use Rattle.promises.specs.Calls.{Answers}
 

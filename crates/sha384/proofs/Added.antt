@@ -9,7 +9,7 @@ use lib.Seq.{length-take-le, take-all, drop-drop}
 use Rattle.put.specs.Put.{Puts}
 use Rattle.put.proofs.Pieces.{put-of}
 use Rattle.sha384.specs.declared.Words.{Words}
-use Rattle.sha384.specs.declared.State.{State}
+use Rattle.sha384.specs.declared.Sha384.{Sha384}
 use Rattle.sha384.specs.Sha384.{plus, hashed}
 use Rattle.sha384.specs.State.{lower, higher, count, waiting, zeroed, taken, added}
 use Rattle.sha384.proofs.Taken.{taken-front, taken-short, zeroed-more, length-zeroed}
@@ -18,7 +18,7 @@ pub whole-fits : (n r : ℕ) → n < 2 ^ 64 → (n - r) / 128 * 128 < 2 ^ 64
 whole-fits n r h = omega arith
 
 -- the state s, with the bytes m, of which low and high are the new count
-module _ (s : State) (m : List ℕ) (full : length (s .block) ≡ 128) {low high : ℕ} (low-so : low ≡ plus (s .low) (length m)) (high-so : high ≡ higher (count s + length m)) where
+module _ (s : Sha384) (m : List ℕ) (full : length (s .block) ≡ 128) {low high : ℕ} (low-so : low ≡ plus (s .low) (length m)) (high-so : high ≡ higher (count s + length m)) where
   abbrev n : ℕ
   n = count s + length m
 

@@ -6,7 +6,7 @@ use mathlib.Core.List.{List, [], _∷_, _++_, append-assoc, append-nil}
 use native.Mathlib.Omega.{arith}
 use native.Mathlib.Nat.{zero-add}
 use lib.ListN.{length, replicate}
-use Rattle.sha384.specs.declared.State.{State}
+use Rattle.sha384.specs.declared.Sha384.{Sha384}
 use Rattle.sha384.specs.Sha384.{bytes8, zeros, padding, padded, H₀, hashed, left384, sha384}
 use Rattle.sha384.specs.State.{lower, higher, count, taken, begun, added, addedAll, together, ended}
 use Rattle.sha384.proofs.Taken.{added-then}
@@ -50,4 +50,4 @@ unfolding begun added taken hashed
 nothing-added = refl
 
 pub ended-all : (ms : List (List ℕ)) → ended (addedAll begun ms) ≡ sha384 (together ms)
-ended-all ms = ap (λ (s : State). ended (addedAll s ms)) nothing-added ∙ ended-after [] ms
+ended-all ms = ap (λ (s : Sha384). ended (addedAll s ms)) nothing-added ∙ ended-after [] ms

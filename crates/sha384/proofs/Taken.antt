@@ -10,7 +10,7 @@ use lib.ListN.{length, take, drop, replicate, length-append, length-drop, length
 use lib.Seq.{length-take-le, take-at, drop-at, take-append-le, take-append-seam, drop-append-le, drop-append-add}
 use Rattle.put.specs.Put.{over}
 use Rattle.sha384.specs.declared.Words.{Words}
-use Rattle.sha384.specs.declared.State.{State}
+use Rattle.sha384.specs.declared.Sha384.{Sha384}
 use Rattle.sha384.specs.Sha384.{block, hashed, compress}
 use Rattle.sha384.specs.State.{lower, higher, count, waiting, zeroed, taken, added}
 
@@ -139,7 +139,7 @@ count-taken : (v : Words) (x : List ℕ) (n : ℕ) → count (taken v x n) ≡ h
 unfolding taken
 count-taken v x n = refl
 
-pub added-then : (s : State) (x y : List ℕ) → length (s .block) ≡ 128 → added (added s x) y ≡ added s (x ++ y)
+pub added-then : (s : Sha384) (x y : List ℕ) → length (s .block) ≡ 128 → added (added s x) y ≡ added s (x ++ y)
 unfolding added
 added-then s x y full =
     let v = s .hash in
@@ -160,7 +160,7 @@ added-then s x y full =
     high-more n k = omega arith
 
 -- the state is whole again
-pub length-added : (s : State) (m : List ℕ) → length (added s m .block) ≡ 128
+pub length-added : (s : Sha384) (m : List ℕ) → length (added s m .block) ≡ 128
 unfolding added taken
 length-added s m =
     let x = waiting s ++ m in

@@ -29,7 +29,7 @@ pub struct Words {
 // The bytes given so far: the hash value of their whole blocks; the bytes that wait for a whole block, at the front of `block`,
 // and zeros after them; and how many bytes there were, in two words.
 #[repr(C)]
-pub struct State {
+pub struct Sha384 {
     pub hash: Words,
     pub block: [u8; 128],
     pub low: u64,
@@ -56,9 +56,9 @@ fn higher(high: u64, low: u64, more: u64) -> u64
     high
 }
 
-impl State {
+impl Sha384 {
     // Before the first byte.
-    pub fn begin() -> State
+    pub fn begin() -> Sha384
         ensures { λ r. ⌜ r ≡ begun ⌝ }
     {
         let hash = Words {
@@ -71,7 +71,7 @@ impl State {
             g: 0xdb0c2e0d64f98fa7,
             h: 0x47b5481dbefa4fa4,
         };
-        State {
+        Sha384 {
             hash,
             block: [0; 128],
             low: 0,
@@ -81,7 +81,7 @@ impl State {
 
     // With these bytes too. What completes the block that waits is hashed with it, whole blocks from where they stand, and the
     // rest waits.
-    pub fn add(self, bytes: &[u8]) -> State
+    pub fn add(self, bytes: &[u8]) -> Sha384
         ensures { λ r. ⌜ r ≡ added self (now (bytes .entry)) ⌝ }
     {
         let hash = self.hash;
@@ -94,7 +94,7 @@ impl State {
         let room = BLOCK - used;
         if bytes.len() < room {
             put::put(&mut block, used, bytes);
-            return State {
+            return Sha384 {
                 hash,
                 block,
                 low,
@@ -105,7 +105,7 @@ impl State {
         let whole = room + (bytes.len() - room) / BLOCK * BLOCK;
         let hash = blocks::hash_both(hash, &block, &bytes[room..whole]);
         let block = block_of(&bytes[whole..]);
-        State {
+        Sha384 {
             hash,
             block,
             low,
@@ -129,7 +129,7 @@ impl State {
 pub fn sha384_of(bytes: &[u8]) -> [u8; 48]
     ensures { λ r. ⌜ r ≡ sha384 (now (bytes .entry)) ⌝ }
 {
-    let begun = State::begin();
+    let begun = Sha384::begin();
     let given = begun.add(bytes);
     given.end()
 }

@@ -166,7 +166,7 @@ fn hash(known: &[u8], bytes: &[u8]) -> usize {
 
 // Of the bytes a thousand times, one behind the other.
 fn thousandfold(known: &[u8], bytes: &[u8]) -> usize {
-    let mut state = sha384::State::begin();
+    let mut state = sha384::Sha384::begin();
     let mut k: usize = 0;
     while k < 1000 {
         state = state.add(bytes);

@@ -8,16 +8,13 @@ use crate::kinds::{
 };
 use crate::side::{
     Fields, Line, Pieces, Reads, Refusal, Side, MISSING_CHECK, MISSING_PART, MOST_FIELDS,
-    SHORT_OUTPUT, TOO_LONG, UNFINISHED, UNKNOWN_KIND, UNPAIRED, WRONG_ATTRIBUTES, WRONG_CHECK,
-    WRONG_COUNT, WRONG_FINGERPRINT,
+    PRINT_TO_END, SHORT_OUTPUT, TOO_LONG, UNFINISHED, UNKNOWN_KIND, UNPAIRED, WRONG_ATTRIBUTES,
+    WRONG_CHECK, WRONG_COUNT, WRONG_FINGERPRINT,
 };
 use obscurlane::{LONGEST_IDENT, LONGEST_READ};
 
 const CHECK_LENGTH: usize = 4;
 const POINT_BYTES: usize = 97;
-/// The Fingerprint at the end of an identity, its mark, and the check.
-const PRINT_TO_END: usize = 16 + 1 + CHECK_LENGTH;
-
 // ---- the check
 
 const STEP: usize = 16;
@@ -514,10 +511,7 @@ impl Side for Fast {
 
     fn hash_of(pieces: Pieces<'_>) -> [u8; 48] {
         let mut sha384 = Sha384::begin();
-        for piece in pieces {
-            sha384.add(piece);
-            sha384.add(b":");
-        }
+        pieces.iter().for_each(|piece| sha384.add(piece));
         sha384.end()
     }
 

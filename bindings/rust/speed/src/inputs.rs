@@ -1,6 +1,6 @@
 //! What the sides are given, with a fixed seed; all of it is accepted.
 
-use crate::side::{Pieces, Reads};
+use crate::side::{Pieces, Reads, PRINT_TO_END};
 use compare::kind::Kind;
 use compare::random::Random;
 use compare::sample::{self, Cards, PublicKey, Signed, Subject};
@@ -58,19 +58,21 @@ impl Sample {
 /// A public key with the right Fingerprint, and what is hashed for it.
 pub struct Printed {
     pub record: Vec<u8>,
-    key: PublicKey,
 }
 
 impl Printed {
     fn new(random: &mut Random) -> Printed {
         let (subject, signed) = (Subject::any(random), Signed::any(random));
         let key = PublicKey::of(random, subject, signed);
-        Printed { record: key.record(), key }
+        Printed { record: key.record() }
     }
 
+    /// What is hashed for its Fingerprint, in the slices in which it stands there: the Subject up to its Fingerprint, Q, and the
+    /// last `:`.
     pub fn pieces(&self) -> Pieces<'_> {
-        let Subject { kind, manufacturer, mid, gnt } = &self.key.subject;
-        [kind.name().as_bytes(), manufacturer, mid, gnt, &self.key.q]
+        let mut fields = self.record.split(|&byte| byte == b'|').skip(1);
+        let [subject, q] = [fields.next(), fields.next()].map(|field| field.expect("a field"));
+        [&subject[..subject.len() - PRINT_TO_END], q, b":"]
     }
 }
 

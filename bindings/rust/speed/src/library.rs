@@ -72,7 +72,7 @@ impl Side for Library {
     }
 
     fn hash_of(pieces: Pieces<'_>) -> [u8; 48] {
-        pieces.iter().fold(Sha384::begin(), |state, piece| state.add(piece).add(b":")).end()
+        pieces.iter().fold(Sha384::begin(), |state, piece| state.add(piece)).end()
     }
 
     fn check_fingerprint(record: &[u8]) -> Result<(), Refusal> {

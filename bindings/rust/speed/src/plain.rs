@@ -10,8 +10,8 @@ use crate::kinds::{
 use crate::plain_hash::{self, State};
 use crate::side::{
     Fields, Line, Pieces, Reads, Refusal, Side, MISSING_CHECK, MISSING_PART, MOST_FIELDS,
-    SHORT_OUTPUT, TOO_LONG, UNFINISHED, UNKNOWN_KIND, UNPAIRED, WRONG_ATTRIBUTES, WRONG_CHECK,
-    WRONG_COUNT, WRONG_FINGERPRINT,
+    PRINT_TO_END, SHORT_OUTPUT, TOO_LONG, UNFINISHED, UNKNOWN_KIND, UNPAIRED, WRONG_ATTRIBUTES,
+    WRONG_CHECK, WRONG_COUNT, WRONG_FINGERPRINT,
 };
 use obscurlane::{LONGEST_IDENT, LONGEST_READ};
 
@@ -472,18 +472,17 @@ impl Side for Plain {
     }
 
     fn hash_of(pieces: Pieces<'_>) -> [u8; 48] {
-        let add = |state, piece: &&[u8]| apart::add(apart::add(state, piece), b":");
-        apart::end(pieces.iter().fold(apart::begin(), add)).bytes
+        apart::end(pieces.iter().fold(apart::begin(), |state, piece| apart::add(state, piece)))
+            .bytes
     }
 
     fn check_fingerprint(record: &[u8]) -> Result<(), Refusal> {
         let [subject, q, ..] = read(record, PUBLIC_KEYS)?.1.parts;
-        let mut parts = subject.split(|&byte| byte == b':');
-        let names = parts.by_ref().take(4).chain([q]);
-        let hash = names.fold(State::begin(), |state, piece| state.add(piece).add(b":")).end();
-        match parts.next() {
-            Some(print) if print == print_of(hash) => Ok(()),
-            _ => Err(WRONG_FINGERPRINT),
+        let (bound, print) = subject.split_at(subject.len() - PRINT_TO_END);
+        let hash = State::begin().add(bound).add(q).add(b":").end();
+        if print[..2 * PRINT_BYTES] == print_of(hash) {
+            return Ok(());
         }
+        Err(WRONG_FINGERPRINT)
     }
 }

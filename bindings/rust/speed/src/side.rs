@@ -31,8 +31,11 @@ pub struct Line {
     pub answer: Result<usize, Refusal>,
 }
 
-/// What is hashed for a Fingerprint: kind name, Manufacturer, MID, GNT, and Q's characters.
-pub type Pieces<'a> = [&'a [u8]; 5];
+/// Slices that are hashed one behind the other.
+pub type Pieces<'a> = [&'a [u8]; 3];
+
+/// So many bytes of a Subject stand from its Fingerprint on: this, a mark and the check.
+pub const PRINT_TO_END: usize = 16 + 1 + 4;
 
 /// Which call reads.
 #[derive(Clone, Copy)]
@@ -59,7 +62,7 @@ pub trait Side {
     fn module_text(request: &[u8], out: &mut [u8]) -> Result<usize, Refusal>;
     fn centre_text(request: &[u8], out: &mut [u8]) -> Result<usize, Refusal>;
     fn sha384_of(bytes: &[u8]) -> [u8; 48];
-    /// The hash by a state that is begun, given each piece and the `:` behind it, and ended.
+    /// The hash by a state that is begun, given one piece after another, and ended.
     fn hash_of(pieces: Pieces<'_>) -> [u8; 48];
     /// Reads a public key, and compares the Fingerprint in its Subject with the right one.
     fn check_fingerprint(record: &[u8]) -> Result<(), Refusal>;

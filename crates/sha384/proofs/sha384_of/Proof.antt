@@ -3,7 +3,7 @@
 use Prim.Native.Nat.{ℕ}
 use mathlib.Core.Path.{ap, _∙_}
 use mathlib.Core.List.{List}
-use Rattle.sha384.specs.declared.State.{State}
+use Rattle.sha384.specs.declared.Sha384.{Sha384}
 use Rattle.sha384.specs.State.{added, ended}
 use Rattle.sha384.proofs.Pieces.{ended-once}
 use borrow.Author.Needs.{needs}
@@ -20,7 +20,7 @@ end-requires : tie.Need-end-requires
 end-requires c κs = search needs
 
 returns : tie.Need-returns
-returns c = c .end .ensures ∙ ap ended (c .before .add .ensures ∙ ap (λ (s : State). added s (c .before .before .before .before .args .bytes .now)) (c .before .before .begin .ensures)) ∙ ended-once (c .before .before .before .before .args .bytes .now)
+returns c = c .end .ensures ∙ ap ended (c .before .add .ensures ∙ ap (λ (s : Sha384). added s (c .before .before .before .before .args .bytes .now)) (c .before .before .begin .ensures)) ∙ ended-once (c .before .before .before .before .args .bytes .now)
 
 pub sha384-of-spec : {M : Type 1} → statement M
 sha384-of-spec = tie.close (tie.spec begin-requires add-requires end-requires returns)

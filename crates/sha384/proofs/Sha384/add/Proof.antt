@@ -1,4 +1,4 @@
--- `sha384::State::add` meets its contract.
+-- `sha384::Sha384::add` meets its contract.
 -- Assumes nothing.
 use Prim.Native.Nat.{_-_, _%_}
 use mathlib.Core.Path.{_≡_, refl}
@@ -6,8 +6,8 @@ use native.Mathlib.Omega.{arith}
 use lib.ListN.{length, length-take}
 use Rattle.sha384.proofs.Added.{whole-fits, added-short, added-long}
 use borrow.Author.Needs.{needs}
-use Rattle.sha384.proofs.State.add.Statement.{statement}
-use Rattle.sha384.proofs.State.add.Tie as tie
+use Rattle.sha384.proofs.Sha384.add.Statement.{statement}
+use Rattle.sha384.proofs.Sha384.add.Tie as tie
 
 array-share-prefix-waiting : tie.Need-array-share-prefix-waiting
 array-share-prefix-waiting c = let l : length (c .before .before .before .before .args .self .block) ≡ 128 = search needs in omega (arith, l)

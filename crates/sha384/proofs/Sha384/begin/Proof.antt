@@ -1,10 +1,10 @@
--- `sha384::State::begin` meets its contract: the initial hash value of FIPS 180-4, 5.3.4.
+-- `sha384::Sha384::begin` meets its contract: the initial hash value of FIPS 180-4, 5.3.4.
 -- Assumes nothing.
 use mathlib.Core.Path.{refl}
 use Rattle.sha384.specs.Sha384.{H₀, hashed}
 use Rattle.sha384.specs.State.{taken, begun}
-use Rattle.sha384.proofs.State.begin.Statement.{statement}
-use Rattle.sha384.proofs.State.begin.Tie as tie
+use Rattle.sha384.proofs.Sha384.begin.Statement.{statement}
+use Rattle.sha384.proofs.Sha384.begin.Tie as tie
 
 returns : tie.Need-returns
 unfolding begun taken hashed H₀

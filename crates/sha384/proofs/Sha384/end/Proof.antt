@@ -1,15 +1,15 @@
--- `sha384::State::end` meets its contract.
+-- `sha384::Sha384::end` meets its contract.
 -- Assumes nothing.
 use Prim.Native.Nat.{ℕ, _+_}
 use mathlib.Core.Path.{_≡_, ap, _∙_}
 use native.Mathlib.Omega.{arith}
 use lib.ListN.{length, take, length-take}
-use Rattle.sha384.specs.declared.State.{State}
+use Rattle.sha384.specs.declared.Sha384.{Sha384}
 use Rattle.sha384.specs.Sha384.{left384}
 use Rattle.sha384.specs.State.{added, ended}
 use borrow.Author.Needs.{needs}
-use Rattle.sha384.proofs.State.end.Statement.{statement}
-use Rattle.sha384.proofs.State.end.Tie as tie
+use Rattle.sha384.proofs.Sha384.end.Statement.{statement}
+use Rattle.sha384.proofs.Sha384.end.Tie as tie
 
 zeros-after-requires : tie.Need-zeros-after-requires
 zeros-after-requires c κs = search needs
@@ -34,7 +34,7 @@ digest-requires c κs = search needs
 
 returns : tie.Need-returns
 unfolding ended
-returns c = c .digest .ensures ∙ ap (λ (t : State). left384 (t .hash)) (c .before .before .add .ensures ∙ ap (added (c .before .before .before .before .before .before .args .self)) (ap (λ (j : ℕ). take (j + 17) (c .before .before .before .before .padding .result)) (c .before .before .before .before .before .zeros-after .ensures) ∙ c .before .before .before .before .padding .ensures))
+returns c = c .digest .ensures ∙ ap (λ (t : Sha384). left384 (t .hash)) (c .before .before .add .ensures ∙ ap (added (c .before .before .before .before .before .before .args .self)) (ap (λ (j : ℕ). take (j + 17) (c .before .before .before .before .padding .result)) (c .before .before .before .before .before .zeros-after .ensures) ∙ c .before .before .before .before .padding .ensures))
 
 pub end-spec : {M : Type 1} → statement M
 end-spec =
