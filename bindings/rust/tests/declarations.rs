@@ -19,7 +19,7 @@ const STRUCTS: [(&str, &str); 11] = [
     ("fingerprint::Checked", "obscurlane_checked"),
     ("Digest", "obscurlane_digest"),
     ("sha384::Words", "obscurlane_sha384_words"),
-    ("sha384::State", "obscurlane_sha384_state"),
+    ("sha384::Sha384", "obscurlane_sha384_state"),
 ];
 
 // ---- the files
