@@ -133,39 +133,42 @@ fn product(first: &Wide, second: &Wide) -> Wide {
     product
 }
 
+/// The examples that are published for it, each a message and its hash in hexadecimal characters: no bytes, 24 bits, 896 bits,
+/// and a million letters.
+pub fn published() -> [(Vec<u8>, &'static str); 4] {
+    [
+        (
+            Vec::new(),
+            "38B060A751AC96384CD9327EB1B1E36A21FDB71114BE07434C0CC7BF63F6E1DA\
+             274EDEBFE76F65FBD51AD2F14898B95B",
+        ),
+        (
+            b"abc".to_vec(),
+            "CB00753F45A35E8BB5A03D699AC65007272C32AB0EDED1631A8B605A43FF5BED\
+             8086072BA1E7CC2358BAECA134C825A7",
+        ),
+        (
+            (b'a'..=b'n').flat_map(|first| first..first + 8).collect(),
+            "09330C33F71147E83D192FC782CD1B4753111B173B3B05D22FA08086E3B0F712\
+             FCC7C71A557E2DB966C3E9FA91746039",
+        ),
+        (
+            vec![b'a'; 1_000_000],
+            "9D0E1809716474CB086E834E310A4A1CED149E9C00F248527972CEC5704C2A5B\
+             07B8B3DC38ECC4EBAE97DDD87F3D8985",
+        ),
+    ]
+}
+
 #[cfg(test)]
 mod tests {
     use super::*;
     use crate::text::base16;
 
-    /// The examples that are published for it: no bytes, 24 bits, 896 bits, and a million letters.
     #[test]
     fn published_examples() {
-        let two_blocks: Vec<u8> = (b'a'..=b'n').flat_map(|first| first..first + 8).collect();
-        assert_eq!(two_blocks.len(), 112);
-        for (message, expected) in [
-            (
-                &b""[..],
-                "38B060A751AC96384CD9327EB1B1E36A21FDB71114BE07434C0CC7BF63F6E1DA\
-                 274EDEBFE76F65FBD51AD2F14898B95B",
-            ),
-            (
-                b"abc",
-                "CB00753F45A35E8BB5A03D699AC65007272C32AB0EDED1631A8B605A43FF5BED\
-                 8086072BA1E7CC2358BAECA134C825A7",
-            ),
-            (
-                &two_blocks,
-                "09330C33F71147E83D192FC782CD1B4753111B173B3B05D22FA08086E3B0F712\
-                 FCC7C71A557E2DB966C3E9FA91746039",
-            ),
-            (
-                &[b'a'; 1_000_000],
-                "9D0E1809716474CB086E834E310A4A1CED149E9C00F248527972CEC5704C2A5B\
-                 07B8B3DC38ECC4EBAE97DDD87F3D8985",
-            ),
-        ] {
-            assert_eq!(base16(&sha384(message)), expected, "{} bytes", message.len());
+        for (message, expected) in published() {
+            assert_eq!(base16(&sha384(&message)), expected, "{} bytes", message.len());
         }
     }
 

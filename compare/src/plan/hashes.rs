@@ -3,7 +3,7 @@
 use super::long::{Block, Part, MORE};
 use super::Plan;
 use crate::calls::Op;
-use compare::sha384::BLOCK_LENGTH;
+use compare::sha384::{self, BLOCK_LENGTH};
 
 /// The longest of the lengths that are all there: beyond the second block, and what its end needs.
 const LONGEST: usize = 300;
@@ -23,10 +23,9 @@ pub fn add(plan: &mut Plan) {
 
 /// The messages whose hashes are published, but the one of a million letters.
 fn published(plan: &mut Plan) {
-    let two_blocks: Vec<u8> = (b'a'..=b'n').flat_map(|first| first..first + 8).collect();
-    for message in [&b""[..], b"abc", &two_blocks] {
-        plan.call(Op::Sha384, message);
-        plan.numbered(Op::Sha384State, 1, message);
+    for (message, _) in &sha384::published()[..3] {
+        plan.call(Op::Sha384, message.as_slice());
+        plan.numbered(Op::Sha384State, 1, message.as_slice());
     }
 }
 
