@@ -164,7 +164,7 @@ fn round(v: Words, k: u64, w: u64) -> Words
     }
 }
 
-// Four rounds from round i on: after four the variables stand in their places again, which saves moving them.
+// Four rounds from round i on: in a loop of single rounds every turn moves all eight variables (docs/DECISIONS.md).
 fn four_rounds(k: &[u64; 80], w: &[u64; 80], v: Words, i: usize) -> Words
     requires { ⌜ i < 77 ⌝ }
     ensures { λ r. ⌜ ((u : Words) → v ≡ rounds (now (k .entry)) (now (w .entry)) u i → r ≡ rounds (now (k .entry)) (now (w .entry)) u (i + 4)) ⌝ }
