@@ -53,7 +53,7 @@ plus-requires-3 : tie.Need-plus-requires-3
 plus-requires-3 c κs = search needs
 
 returns : tie.Need-returns
-returns c = cc
+returns c = rw (c .plus3 .ensures, c .before .before .plus2 .ensures, c .before .before .before .sigma0 .ensures, c .before .before .before .before .before .plus .ensures, c .before .before .before .before .before .before .before .sigma1 .ensures)
 
 pub next-word-spec : {M : Type 1} → statement M
 next-word-spec =

@@ -38,7 +38,7 @@ plus-requires-7 : tie.Need-plus-requires-7
 plus-requires-7 c κs = search needs
 
 returns : tie.Need-returns
-returns c = cc
+returns c = rw (c .plus7 .ensures, c .before .plus6 .ensures, c .before .before .plus5 .ensures, c .before .before .before .maj .ensures, c .before .before .before .before .sum0 .ensures, c .before .before .before .before .before .plus4 .ensures, c .before .before .before .before .before .before .plus3 .ensures, c .before .before .before .before .before .before .before .plus2 .ensures, c .before .before .before .before .before .before .before .before .ch .ensures, c .before .before .before .before .before .before .before .before .before .plus .ensures, c .before .before .before .before .before .before .before .before .before .before .sum1 .ensures)
 
 pub round-spec : {M : Type 1} → statement M
 round-spec =

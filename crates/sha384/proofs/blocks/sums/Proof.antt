@@ -29,7 +29,7 @@ plus-requires-8 : tie.Need-plus-requires-8
 plus-requires-8 c κs = search needs
 
 returns : tie.Need-returns
-returns c = cc
+returns c = rw (c .plus8 .ensures, c .before .plus7 .ensures, c .before .before .plus6 .ensures, c .before .before .before .plus5 .ensures, c .before .before .before .before .plus4 .ensures, c .before .before .before .before .before .plus3 .ensures, c .before .before .before .before .before .before .plus2 .ensures, c .before .before .before .before .before .before .before .plus .ensures)
 
 pub sums-spec : {M : Type 1} → statement M
 sums-spec =
