@@ -1,6 +1,5 @@
 -- `sha384::blocks::compress` meets its contract.
 -- Assumes nothing.
-use mathlib.Core.Path.{_∙_}
 use Rattle.sha384.specs.Sha384.{compress}
 use borrow.Author.Needs.{needs}
 use Rattle.sha384.proofs.blocks.compress.Statement.{statement}
@@ -17,7 +16,7 @@ sums-requires c κs = search needs
 
 returns : tie.Need-returns
 unfolding compress
-returns c = c .sums .ensures ∙ rw (c .before .rounds .ensures, c .before .before .before .before .before .pre .0, c .before .before .before .schedule .ensures)
+returns c = cc
 
 pub compress-spec : {M : Type 1} → statement M
 compress-spec = tie.close (tie.spec schedule-requires rounds-requires sums-requires returns)
