@@ -19,7 +19,7 @@ use Rattle.newer.specs.Newer.{newer}
 use Rattle.fingerprint.specs.Fingerprint.{checkFingerprint, writeFingerprint}
 use Rattle.promises.specs.Values.{Value, AllCome, admittedFrom}
 use Rattle.promises.specs.Worked.{manufacturerIdFields, manufacturerId, moduleIdFields, moduleId, centreIdFields, centreId, manufacturerKeyFields, manufacturerKey, moduleKeyFields, moduleKey, centreKeyFields, centreKey, requestFields, request, responseFields, response, keyAttributes, keyFields, key, longAttributes}
-use Rattle.promises.specs.Fixed.{rows, alphabets, limits, labels, checks, numbers, building, texts, others, lists, keys, longKeys, days, dates, hashes, prints, agreeing, differing, fingerprints, fixed}
+use Rattle.promises.specs.Fixed.{rows, alphabets, limits, labels, checks, numbers, building, texts, others, lists, keys, longKeys, days, dates, hashes, agreeing, differing, fingerprints, fixed}
 
 -- two sets of values are one; a record, so that the checker finds which two
 record Come (vs : List Value) : Type 0 where
@@ -93,10 +93,6 @@ all-hashes : Come hashes
 unfolding hashes hexDigit K padding padded block H₀ word words schedule rounds compress hashed left384 sha384
 all-hashes = record { come = (refl, (refl, (refl, tt))) }
 
-all-prints : Come prints
-unfolding prints manufacturerIdFields manufacturerId moduleIdFields moduleId centreIdFields centreId manufacturerKeyFields moduleKeyFields centreKeyFields recordOf withCheck checkText hexDigit crcOf addAll add bitSteps bitStep isIdent isTimestamp looks numberFrom isHex checkNo identityAnswer fieldAnswer wholeAnswer judged readAs readOver readIdentity K padding padded block H₀ word words schedule rounds compress hashed left384 sha384
-all-prints = record { come = (refl, (refl, (refl, tt))) }
-
 all-agreeing : Come agreeing
 unfolding agreeing checkFingerprint centreKey isPoint readOf manufacturerIdFields manufacturerId moduleIdFields moduleId centreIdFields centreId manufacturerKeyFields moduleKeyFields centreKeyFields recordOf withCheck checkText hexDigit crcOf addAll add bitSteps bitStep isIdent isTimestamp looks numberFrom isHex checkNo identityAnswer fieldAnswer wholeAnswer judged readAs readOver readIdentity K padding padded block H₀ word words schedule rounds compress hashed left384 sha384
 all-agreeing = record { come = (refl, tt) }
@@ -107,8 +103,8 @@ all-differing = record { come = (refl, tt) }
 
 all-fingerprints : Come fingerprints
 unfolding fingerprints checkFingerprint writeFingerprint centreKey isPoint readOf readRecord manufacturerIdFields manufacturerId moduleIdFields moduleId centreIdFields centreId manufacturerKeyFields moduleKeyFields centreKeyFields recordOf withCheck checkText hexDigit crcOf addAll add bitSteps bitStep isIdent isTimestamp looks numberFrom isHex checkNo identityAnswer fieldAnswer wholeAnswer judged readAs readOver readIdentity K padding padded block H₀ word words schedule rounds compress hashed left384 sha384
-all-fingerprints = record { come = (refl, (refl, (refl, (refl, (refl, (refl, (refl, (refl, tt)))))))) }
+all-fingerprints = record { come = (refl, (refl, (refl, (refl, (refl, (refl, tt)))))) }
 
 pub all-fixed : AllCome fixed
 unfolding fixed
-all-fixed = (all-rows and all-alphabets and all-limits and all-labels and all-checks and all-numbers and all-building and all-texts and all-others and all-lists and all-keys and all-long-keys and all-days and all-dates and all-hashes and all-prints and all-agreeing and all-differing and all-fingerprints) .come
+all-fixed = (all-rows and all-alphabets and all-limits and all-labels and all-checks and all-numbers and all-building and all-texts and all-others and all-lists and all-keys and all-long-keys and all-days and all-dates and all-hashes and all-agreeing and all-differing and all-fingerprints) .come

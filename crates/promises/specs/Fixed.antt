@@ -25,10 +25,10 @@ use Rattle.fields.specs.Attributes.{attributePart, attributeNo, cardsSaid, numb
 use Rattle.format.specs.Files.{lineFeed, lineAt}
 use Rattle.files.specs.Walk.{lineSaid, numberOf}
 use Rattle.newer.specs.Newer.{newer, choiceNo}
-use Rattle.fingerprint.specs.Fingerprint.{rightPrint, checkFingerprint, writeFingerprint}
+use Rattle.fingerprint.specs.Fingerprint.{checkFingerprint, writeFingerprint}
 use Rattle.fingerprint.specs.declared.Checked.{Checked}
 use Rattle.promises.specs.Values.{Value, number, bytes, test, types, admitted}
-use Rattle.promises.specs.Worked.{manufacturerId, moduleIdFields, moduleId, centreIdFields, centreId, manufacturerKeyFields, manufacturerKey, moduleKeyFields, moduleKey, centreKeyFields, centreKey, requestFields, request, responseFields, response, keyAttributes, keyFields, key, longAttributes}
+use Rattle.promises.specs.Worked.{manufacturerId, moduleIdFields, moduleId, centreId, manufacturerKeyFields, manufacturerKey, moduleKeyFields, moduleKey, centreKeyFields, centreKey, requestFields, request, responseFields, response, keyAttributes, keyFields, key, longAttributes}
 
 -- ---- "Seven kinds of record": names, marks and field types, row by row
 
@@ -381,23 +381,18 @@ hashes =
     (ascii "09330C33F71147E83D192FC782CD1B4753111B173B3B05D22FA08086E3B0F712FCC7C71A557E2DB966C3E9FA91746039")
     ∷ []
 
--- 003's three Fingerprints, as they stand in the keys' Subjects
-unfoldable pub prints : List Value
-prints =
-    bytes (rightPrint manufacturerKeyFields) (ascii "105717ACA4A50852")
-    ∷ bytes (rightPrint moduleKeyFields) (ascii "320C265FDC769D3E")
-    ∷ bytes (rightPrint centreKeyFields) (ascii "4712CFF444570C8A")
-    ∷ []
+-- 003's key of the module, unsigned, and the same with another Fingerprint in its Subject
+abbrev pub unsignedKey : List Bytes
+unsignedKey = take 3 moduleKeyFields ++ [] ∷ [] ∷ []
 
--- the centre's key with another Fingerprint in its Subject
 abbrev pub otherPrint : List Bytes
-otherPrint = set centreKeyFields 0 (recordOf KMCID (set centreIdFields 3 (ascii "4712CFF444570C8B")))
+otherPrint = set unsignedKey 0 (recordOf SMID (set moduleIdFields 3 (ascii "320C265FDC769D3F")))
 
 abbrev pub saidBy : Checked → Bytes
 saidBy c = c .no ∷ c .field ∷ []
 
 unfoldable pub agreeing : List Value
-agreeing = bytes (saidBy (checkFingerprint centreKey)) (0 ∷ 0 ∷ []) ∷ []
+agreeing = bytes (saidBy (checkFingerprint (recordOf ECDH unsignedKey))) (0 ∷ 0 ∷ []) ∷ []
 
 unfoldable pub differing : List Value
 differing = bytes (saidBy (checkFingerprint (recordOf ECDH otherPrint))) (15 ∷ 0 ∷ []) ∷ []
@@ -407,13 +402,11 @@ unfoldable pub fingerprints : List Value
 fingerprints =
     bytes (said (readRecord (recordOf ECDH otherPrint))) (0 ∷ 0 ∷ [])
     ∷ bytes (saidBy (checkFingerprint (recordOf ECDH (set otherPrint 3 manufacturerId)))) (8 ∷ 0 ∷ [])
-    ∷ bytes (saidBy (checkFingerprint (recordOf ECDH (set otherPrint 2 [])))) (6 ∷ 3 ∷ [])
     ∷ bytes (saidBy (checkFingerprint (ascii "PK.ECDH.1|0000"))) (4 ∷ 0 ∷ [])
     ∷ bytes (saidBy (checkFingerprint (ascii "KEY.1|0000"))) (2 ∷ 0 ∷ [])
     ∷ bytes (saidOf (writeFingerprint (ascii "PK.ECDH.1|0000") 0)) (4 ∷ 0 ∷ [])
     ∷ bytes (saidOf (writeFingerprint (recordOf ECDH otherPrint) 15)) (10 ∷ 0 ∷ [])
-    ∷ bytes (saidOf (writeFingerprint (recordOf ECDH otherPrint) 16)) (0 ∷ 0 ∷ [])
     ∷ []
 
 unfoldable pub fixed : List Value
-fixed = rows ++ alphabets ++ limits ++ labels ++ checks ++ numbers ++ building ++ texts ++ others ++ lists ++ keys ++ longKeys ++ days ++ dates ++ hashes ++ prints ++ agreeing ++ differing ++ fingerprints
+fixed = rows ++ alphabets ++ limits ++ labels ++ checks ++ numbers ++ building ++ texts ++ others ++ lists ++ keys ++ longKeys ++ days ++ dates ++ hashes ++ agreeing ++ differing ++ fingerprints
