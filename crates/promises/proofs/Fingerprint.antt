@@ -1,6 +1,6 @@
 -- The promises about the Fingerprint of a public key, from the definitions of fingerprint.
 -- Assumes nothing.
-use Prim.Native.Nat.{ℕ, suc, _/_, _%_, _≤_, _<_}
+use Prim.Native.Nat.{ℕ, suc, _/_, _%_, _<_}
 use mathlib.Core.Path.{_≡_, refl, sym, ap, _∙_}
 use mathlib.Core.Logic.{_≢_}
 use mathlib.Core.Bool.{Bool, cond}
@@ -16,7 +16,7 @@ use Rattle.text.specs.Base16.{hexDigit, base16}
 use Rattle.text.proofs.Tests.{T-true, T-false, by-test, same→eq, same-refl}
 use Rattle.text.proofs.Hexadecimal.{digit-hexadecimal}
 use Rattle.sha384.specs.Sha384.{left384, sha384}
-use Rattle.numbers.specs.Numbers.{shortOutput, wrongFingerprint}
+use Rattle.numbers.specs.Numbers.{wrongFingerprint}
 use Rattle.format.specs.Kinds.{Kind, SMMAN, SMID, KMCID, ECDSA, ECDH, REQ, RESP, KEY, pubkeyKinds, recordKinds, among}
 use Rattle.format.specs.Read.{Outcome, accepted, refused, answer, readOf, readRecord}
 use Rattle.format.proofs.Damage.{part-bytes}

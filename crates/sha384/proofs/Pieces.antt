@@ -7,7 +7,7 @@ use native.Mathlib.Omega.{arith}
 use native.Mathlib.Nat.{zero-add}
 use lib.ListN.{length, replicate}
 use Rattle.sha384.specs.declared.Sha384.{Sha384}
-use Rattle.sha384.specs.Sha384.{bytes8, zeros, padding, padded, H₀, hashed, left384, sha384}
+use Rattle.sha384.specs.Sha384.{bytes8, zeros, padding, padded, H₀, hashed, sha384}
 use Rattle.sha384.specs.State.{lower, higher, count, taken, begun, added, addedAll, together, ended}
 use Rattle.sha384.proofs.Taken.{added-then}
 use Rattle.sha384.proofs.Written.{padding-by}

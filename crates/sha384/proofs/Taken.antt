@@ -2,7 +2,7 @@
 -- Assumes nothing.
 use Prim.Native.Nat.{ℕ, zero, suc, _+_, _-_, _*_, _/_, _%_, _^_, _≤_, _<_}
 use mathlib.Core.Path.{_≡_, refl, sym, ap, ap₂, _∙_}
-use mathlib.Core.List.{List, [], _++_, append-assoc}
+use mathlib.Core.List.{List, _++_, append-assoc}
 use native.Mathlib.Omega.{arith}
 use native.Mathlib.Nat.{add-zero, add-suc, mod-eq-of-lt}
 use native.Mathlib.Numerals.{add-one}
@@ -158,10 +158,3 @@ added-then s x y full =
 
     high-more : (n k : ℕ) → higher (higher n * 2 ^ 64 + lower n + k) ≡ higher (n + k)
     high-more n k = omega arith
-
--- the state is whole again
-pub length-added : (s : Sha384) (m : List ℕ) → length (added s m .block) ≡ 128
-unfolding added taken
-length-added s m =
-    let x = waiting s ++ m in
-    length-zeroed (drop (128 * (length x / 128)) x) (rw length-drop (omega arith))

@@ -1,12 +1,12 @@
 -- Words written one behind the other: the digest, and the padding.
 -- Assumes nothing.
-use Prim.Native.Nat.{ℕ, suc, _+_, _-_, _*_, _/_, _%_, _^_, _≤_, _<_}
-use mathlib.Core.Path.{_≡_, refl, sym, ap, ap₂, _∙_}
+use Prim.Native.Nat.{ℕ, _+_, _-_, _*_, _/_, _%_, _^_, _≤_, _<_}
+use mathlib.Core.Path.{_≡_, sym, ap, _∙_}
 use mathlib.Core.List.{List, [], _∷_, _++_, append-assoc}
 use native.Mathlib.Omega.{arith}
 use native.Mathlib.Numerals.{add-one}
-use lib.ListN.{length, take, drop, set, replicate, length-append, length-replicate, replicate-append-replicate}
-use lib.Seq.{length-take-le, take-at}
+use lib.ListN.{length, take, drop, replicate, length-append, length-replicate, replicate-append-replicate}
+use lib.Seq.{take-at}
 use Rattle.put.specs.Put.{Puts, Put}
 use Rattle.put.proofs.Pieces.{put-of, put-then, put-length}
 use Rattle.sha384.specs.declared.Words.{Words}
