@@ -95,8 +95,24 @@ fn does_belong(alphabet: Alphabet, c: u8) -> bool
     }
 }
 
-// Every character of s belongs to the alphabet. The loop has no early end, so that LLVM takes many characters at once.
-pub(crate) fn all_belong(alphabet: Alphabet, s: &[u8]) -> bool
+// ---- every character of a text, in two forms
+
+// Up to the first that does not belong. LLVM leaves the loop as it is: no constant is made for it.
+fn all_plain(alphabet: Alphabet, s: &[u8]) -> bool
+    ensures { λ r. ⌜ r ≡ every (belongs alphabet) (now (s .entry)) ⌝ }
+{
+    let mut i: usize = 0;
+    while i < s.len() {
+        if !does_belong(alphabet, s[i]) {
+            return false;
+        }
+        i += 1;
+    }
+    true
+}
+
+// Without an early end, so that LLVM takes many characters at once: the bounds of the alphabet become constants of 16 bytes each.
+fn all_wide(alphabet: Alphabet, s: &[u8]) -> bool
     ensures { λ r. ⌜ r ≡ every (belongs alphabet) (now (s .entry)) ⌝ }
 {
     let mut all = true;
@@ -106,6 +122,16 @@ pub(crate) fn all_belong(alphabet: Alphabet, s: &[u8]) -> bool
         i += 1;
     }
     all
+}
+
+// Every character of s belongs to the alphabet. The centre wants it fast, the module without constants.
+pub(crate) fn all_belong(alphabet: Alphabet, s: &[u8]) -> bool
+    ensures { λ r. ⌜ r ≡ every (belongs alphabet) (now (s .entry)) ⌝ }
+{
+    if form::is_centre() {
+        return all_wide(alphabet, s);
+    }
+    all_plain(alphabet, s)
 }
 
 // Exactly n characters, all of them of the alphabet.

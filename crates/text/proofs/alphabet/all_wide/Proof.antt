@@ -1,4 +1,4 @@
--- `text::alphabet::all_belong` meets its contract. The loop's invariant: all says what holds of the bytes passed, and what is left decides.
+-- `text::alphabet::all_wide` meets its contract. The loop's invariant: all says what holds of the bytes passed, and what is left decides.
 -- Assumes nothing.
 use denote.Ref.{now}
 use Prim.Native.Nat.{_-_}
@@ -9,8 +9,8 @@ use Rattle.text.specs.Text.{every}
 use Rattle.text.specs.Steps.{belongs}
 use Rattle.text.proofs.Loops.{every-on, every-end}
 use borrow.Author.Needs.{needs}
-use Rattle.text.proofs.alphabet.all_belong.Statement.{statement}
-use Rattle.text.proofs.alphabet.all_belong.Tie as tie
+use Rattle.text.proofs.alphabet.all_wide.Statement.{statement}
+use Rattle.text.proofs.alphabet.all_wide.Tie as tie
 
 abbrev Inv-loop : tie.InvT-loop
 Inv-loop alphabet s all₀ i₀ all i = (all && every (belongs alphabet) (drop i s)) ≡ every (belongs alphabet) s
@@ -41,8 +41,8 @@ loop-again c = let a = c .before .before .before .before .before .args in
 returns : tie.Need-returns Inv-loop μ-loop
 returns c = every-end (belongs (c .before .before .before .args .alphabet)) _ _ _ (c .before .loop .inv) (c .loop-test .left)
 
-pub all-belong-spec : {M : Type 1} → statement M
-all-belong-spec =
+pub all-wide-spec : {M : Type 1} → statement M
+all-wide-spec =
     tie.close
     (tie.spec
     Inv-loop
