@@ -16,7 +16,7 @@ use Rattle.text.proofs.Types.{hex-length, hex-characters}
 use Rattle.put.specs.Put.{Puts, Put}
 use Rattle.put.proofs.Pieces.{put-of, put-as, put-then}
 use Rattle.agreement.specs.Steps.{lvItem}
-use Rattle.agreement.proofs.Writing.{Underway, begin, has-room, go-on, finish}
+use Rattle.put.proofs.Underway.{Underway, begin, has-room, go-on, finish}
 
 every-at : (p : ℕ → Bool) (s : Bytes) (i : ℕ) → T (every p s) → i < length s → T (p (getD s i 0))
 every-at p [] i t h = absurd (omega arith)

@@ -17,7 +17,7 @@ use Rattle.items.specs.Items.{lvItems, lvConcat, shortItems}
 use Rattle.put.specs.Put.{Put}
 use Rattle.put.proofs.Pieces.{put-as, put-then}
 use Rattle.agreement.specs.Steps.{fieldNo, lvItem, itemFor, itemsBy, Small, Suited}
-use Rattle.agreement.proofs.Writing.{Underway, begin, has-room, go-on, finish}
+use Rattle.put.proofs.Underway.{Underway, begin, has-room, go-on, finish}
 use Rattle.agreement.proofs.Decoding.{point-bytes}
 
 -- ---- one field, which the code has as f

@@ -1,6 +1,6 @@
 -- The Fingerprint that is right, as the code makes it, and what the calls say by it.
 -- Assumes nothing.
-use Prim.Native.Nat.{ℕ, zero, suc, _+_, _-_, _≤_, _<_}
+use Prim.Native.Nat.{ℕ, zero, suc, _+_, _-_, _/_, _≤_, _<_}
 use Prim.Native.Char.{code}
 use mathlib.Core.Path.{_≡_, refl, sym, ap, _∙_}
 use mathlib.Core.Bool.{Bool, cond}
@@ -11,6 +11,7 @@ use lib.Seq.{length-take-le, take-append-seam, take-take}
 use borrow.Author.Tests.{le-leb, lt-leb}
 use Rattle.text.specs.Text.{Bytes, ascii, same}
 use Rattle.text.specs.Base16.{base16}
+use Rattle.text.proofs.Types.{hex-length}
 use Rattle.sha384.specs.Sha384.{sha384}
 use Rattle.sha384.specs.State.{begun, addedAll, together, ended}
 use Rattle.sha384.proofs.Pieces.{ended-all}
@@ -28,15 +29,14 @@ use Rattle.reading.specs.declared.Answer.{Answer}
 use Rattle.reading.proofs.Answers.{Taken, taken, untaken}
 use Rattle.subjects.specs.Subjects.{manufacturer, mid, gnt, identityPart}
 use Rattle.subjects.specs.Keys.{subject, Key}
-use Rattle.subjects.proofs.Subjects.{identity-field}
+use Rattle.subjects.proofs.Subjects.{identity-field, identity-print}
 use Rattle.subjects.proofs.Keys.{key, its-field}
 use Rattle.put.specs.Put.{Puts}
-use Rattle.put.specs.Made.{Made, made, denied, says, Writes}
+use Rattle.put.specs.Made.{denied, says, Writes}
 use Rattle.put.specs.declared.Written.{Written}
-use Rattle.put.proofs.Copying.{length-base16}
+use Rattle.put.proofs.Hex.{length-base16}
 use Rattle.put.proofs.Pieces.{put-of, put-denied, put-whole}
-use Rattle.fingerprint.specs.declared.Checked.{Checked}
-use Rattle.fingerprint.specs.Fingerprint.{hashText, printOf, rightPrint, printIn, checkBy, checkFingerprint, printMade, writeFingerprint}
+use Rattle.fingerprint.specs.Fingerprint.{hashText, printOf, rightPrint, printIn, checkFingerprint, writeFingerprint}
 use Rattle.fingerprint.specs.Steps.{frontAt, textAt}
 
 -- ---- what stands before the Fingerprint of an identity
@@ -113,12 +113,16 @@ hashed-pieces s q = ended-all (frontAt s ∷ q ∷ ascii ":" ∷ []) ∙ ap sha3
 length-front : (h : List ℕ) → length h ≡ 48 → length (base16 (take 8 h)) ≡ 16
 length-front h l = length-base16 (take 8 h) ∙ omega (arith, length-take-le 8 h (omega (arith, l)))
 
+-- half of the Fingerprint that stands in the Subject at i, as the code finds it
+pub half-print : {x s : Bytes} (i : Bytes) → x ≡ identityPart s 4 → s ≡ i → length (identityPart i 4) ≡ 16 → length x / 2 ≡ 8
+half-print i p q l = rw (p, q, l)
+
 -- the sixteen characters fill their array
-pub front-written : (h : List ℕ) {o : List ℕ} {r : ℕ} → length h ≡ 48 → Puts (replicate 16 0) 0 (base16 (take 8 h)) o r → o ≡ base16 (take 8 h)
-front-written h l p =
-    let n = length-front h l in
-    let w = put-of (omega (arith, n)) p .written in
-    w ∙ rw n (append-nil (base16 (take 8 h)))
+pub front-written : (h : List ℕ) {o : List ℕ} {n r : ℕ} → n ≡ 8 → length h ≡ 48 → Puts (replicate 16 0) 0 (base16 (take n h)) o r → o ≡ base16 (take 8 h)
+front-written h e l p =
+    let f = length-front h l in
+    let w = put-of (omega (arith, f)) (rw e at p) .written in
+    w ∙ rw f (append-nil (base16 (take 8 h)))
 
 -- ---- the calls, by what was answered
 
@@ -158,6 +162,12 @@ module _ (s : Bytes) (r : Answer) (e : r ≡ answerOf (readOf pubkeyKinds s)) wh
 
     print-so : identityPart subject-at 4 ≡ printIn (readIdentity (subject (its-key .fields)))
     print-so = let n = its-key .known in rw (subject-so, n, identity-field (subject (its-key .fields)) n 3)
+
+    pub print-long : length (identityPart subject-at 4) ≡ 16
+    print-long =
+        let i = subject (its-key .fields) in
+        let n = its-key .known in
+        ap length (print-so ∙ ap printIn n) ∙ hex-length 16 (getD (its-key .names) 3 []) (identity-print i n)
 
     pub check-said : {x y : Bytes} (b : Bool) → x ≡ identityPart subject-at 4 → y ≡ right-at → same x y ≡ b → record { no = cond b 0 wrongFingerprint; field = 0 } ≡ checkFingerprint s
     unfolding checkFingerprint

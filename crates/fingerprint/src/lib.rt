@@ -5,14 +5,13 @@ ghost use mathlib.Core.Path.{_≡_};
 ghost use lib.ListN.{length};
 ghost use Rattle.sha384.specs.Sha384.{sha384};
 ghost use Rattle.places.specs.Places.{fieldAt};
+ghost use Rattle.subjects.specs.Subjects.{identityPart};
 ghost use Rattle.put.specs.Made.{Writes};
 ghost use Rattle.fingerprint.specs.Fingerprint.{printOf, checkFingerprint, writeFingerprint};
 ghost use Rattle.fingerprint.specs.Steps.{frontAt, textAt};
 
-// A Fingerprint has so many characters: those of the hash's first bytes.
+// A Fingerprint has so many characters.
 const CHARACTERS: usize = 16;
-
-const BYTES: usize = 8;
 
 // What a check answers: its number, and the field's number, 0 where none is named.
 #[repr(C)]
@@ -47,13 +46,17 @@ fn hash_of(key: &[u8], starts: &[usize; 7], lens: &[usize; 7]) -> [u8; 48]
     named.add(q).add(b":").end()
 }
 
-// The Fingerprint that is right for it.
+// The Fingerprint that is right for it, where its Subject has one: as many characters as stand there. So the number of bytes is not known
+// when it is compiled, and LLVM leaves the loop that writes them as it is.
 fn right_print(key: &[u8], starts: &[usize; 7], lens: &[usize; 7]) -> [u8; 16]
+    requires { ⌜ length (identityPart (fieldAt (now key) (now starts) (now lens) 1) 4) ≡ 16 ⌝ }
     ensures { λ r. ⌜ r ≡ printOf (textAt (fieldAt (now (key .entry)) (now (starts .entry)) (now (lens .entry)) 1) (fieldAt (now (key .entry)) (now (starts .entry)) (now (lens .entry)) 2)) ⌝ }
 {
+    let subject = places::field_at(key, starts, lens, table::PUBKEY_SUBJECT);
+    let bytes = subjects::field_in(subject, table::IDENTITY_FINGERPRINT).len() / 2;
     let hash = hash_of(key, starts, lens);
     let mut print = [0u8; 16];
-    put::put_hex(&mut print, 0, &hash[..BYTES]);
+    put::put_hex(&mut print, 0, &hash[..bytes]);
     print
 }
 

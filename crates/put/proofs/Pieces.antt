@@ -18,6 +18,12 @@ put-of {o} {v} {out} {k} {r} h p =
     let e = le-leb (k + length v) (length o) h in
     record { fits = h; written = rw e at (p .leaves); next = rw e at (p .answers) }
 
+-- and what it writes it writes as a call that has room
+pub puts-of : {o v out : List ℕ} {k r : ℕ} → Put o k v out r → Puts o k v out r
+puts-of {o} {v} {out} {k} {r} p =
+    let e = le-leb (k + length v) (length o) (p .fits) in
+    record { leaves = rw e (p .written); answers = rw e (p .next) }
+
 -- nothing written
 pub put-none : {o : List ℕ} {k : ℕ} → k ≤ length o → Put o k [] o k
 put-none {o} {k} h = record {

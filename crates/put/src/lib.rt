@@ -47,7 +47,8 @@ pub fn put_byte(out: &mut [u8], at: usize, byte: u8) -> usize
     put(out, at, &[byte])
 }
 
-// The same for the hexadecimal characters of the bytes, two for each.
+// The same for the hexadecimal characters of the bytes, two for each. The two go in by `put`, whose test of the room keeps LLVM from making
+// the loop wide: that gains nothing on the eight bytes of a Fingerprint, and takes 144 bytes of constants.
 pub fn put_hex(out: &mut [u8], at: usize, bytes: &[u8]) -> usize
     ensures { λ r. ⌜ Puts (now (out .entry)) at (base16 (now (bytes .entry))) (now (out .exit)) r ⌝ }
 {
@@ -57,12 +58,15 @@ pub fn put_hex(out: &mut [u8], at: usize, bytes: &[u8]) -> usize
     if (out.len() - at) / 2 < bytes.len() {
         return at;
     }
+    let mut next = at;
     let mut i = 0;
     while i < bytes.len() {
-        let place = at + 2 * i;
-        out[place] = text::hex_digit(bytes[i] / 16);
-        out[place + 1] = text::hex_digit(bytes[i] % 16);
+        let pair = [
+            text::hex_digit(bytes[i] / 16),
+            text::hex_digit(bytes[i] % 16),
+        ];
+        next = put(out, next, &pair);
         i += 1;
     }
-    at + 2 * i
+    next
 }

@@ -12,11 +12,11 @@ use native.Mathlib.Nat.{zero-add}
 use denote.Ref.{RefT, now}
 use Prim.Native.Char.{code}
 use mir.Facts.{and-yes}
-use Rattle.text.specs.Text.{Bytes, same, isTimestamp}
+use Rattle.text.specs.Text.{Bytes, same, isTimestamp, isPrint}
 use Rattle.text.specs.Part.{Part}
 use Rattle.text.proofs.Tests.{same→eq, same-refl, T-true}
-use Rattle.format.specs.Kinds.{Kind, name, identityKinds}
-use Rattle.format.specs.Build.{Fits, IsIdentity, Built}
+use Rattle.format.specs.Kinds.{Kind, name, identityFields, identityKinds}
+use Rattle.format.specs.Build.{Fits, FitAll, IsIdentity, Built}
 use Rattle.format.specs.Read.{accepted, title, body, readIdentity}
 use Rattle.format.proofs.Table.{name-inj, identity-row}
 use Rattle.format.proofs.Parts.{built-title}
@@ -39,9 +39,16 @@ module _ (i : Bytes) {k : Kind} {fs : List Bytes} (e : readIdentity i ≡ accept
   identity-field j =
       rw (← (identity-row k (built .of-kind) .0)) (field-part k i j ∙ ap (λ (l : List Bytes). getD l j []) (its-fields built))
 
+  fits-row : FitAll IsIdentity identityFields fs
+  fits-row = rw (identity-row k (built .of-kind) .1) at (built .permitted .fit)
+
   pub identity-gnt : T (isTimestamp (gnt fs))
   unfolding Fits
-  identity-gnt = fit-at IsIdentity _ fs (rw (identity-row k (built .of-kind) .1) at (built .permitted .fit)) 2 (lit< tt)
+  identity-gnt = fit-at IsIdentity _ fs fits-row 2 (lit< tt)
+
+  pub identity-print : T (isPrint (getD fs 3 []))
+  unfolding Fits
+  identity-print = fit-at IsIdentity _ fs fits-row 3 (lit< tt)
 
 -- ---- two of them
 

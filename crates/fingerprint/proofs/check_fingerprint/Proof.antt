@@ -1,12 +1,11 @@
 -- `fingerprint::check_fingerprint` meets its contract.
 -- Assumes nothing.
 use denote.Ref.{now}
-use Prim.Native.Nat.{ℕ}
 use mathlib.Core.Path.{sym, ap, _∙_}
 use mathlib.Core.Bool.{true, false}
 use Rattle.text.specs.Text.{Bytes}
 use Rattle.subjects.specs.Subjects.{identityPart}
-use Rattle.fingerprint.proofs.Prints.{check-refused, check-said}
+use Rattle.fingerprint.proofs.Prints.{check-refused, print-long, check-said}
 use borrow.Author.Needs.{needs}
 use Rattle.fingerprint.proofs.check_fingerprint.Statement.{statement}
 use Rattle.fingerprint.proofs.check_fingerprint.Tie as tie
@@ -18,7 +17,7 @@ returns : tie.Need-returns
 returns c = check-refused (now (c .before .before .before .before .args .record)) _ (c .before .before .read-of .ensures) (c .if1 .taken)
 
 right-print-requires : tie.Need-right-print-requires
-right-print-requires c κs = search needs
+right-print-requires c κs = print-long (now (c .before .before .before .before .before .before .before .before .args .record)) _ (c .before .before .before .before .before .before .read-of .ensures) (c .before .before .before .before .if1 .left)
 
 field-at-requires : tie.Need-field-at-requires
 field-at-requires c κs = search needs

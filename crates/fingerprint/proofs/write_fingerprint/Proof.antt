@@ -1,9 +1,7 @@
 -- `fingerprint::write_fingerprint` meets its contract.
 -- Assumes nothing.
 use denote.Ref.{now}
-use mathlib.Core.Path.{_≡_}
-use lib.ListN.{length}
-use Rattle.fingerprint.proofs.Prints.{write-refused, write-short, write-said}
+use Rattle.fingerprint.proofs.Prints.{write-refused, print-long, write-short, write-said}
 use borrow.Author.Needs.{needs}
 use Rattle.fingerprint.proofs.write_fingerprint.Statement.{statement}
 use Rattle.fingerprint.proofs.write_fingerprint.Tie as tie
@@ -24,7 +22,7 @@ returns-2 : tie.Need-returns-2
 returns-2 c = write-short (now (c .before .before .before .before .before .before .before .args .record)) _ (c .before .before .before .before .read-of .ensures) (c .before .before .if1 .left) _ (c .before .if2 .taken) (c .refuse2 .ensures)
 
 right-print-requires : tie.Need-right-print-requires
-right-print-requires c κs = search needs
+right-print-requires c κs = print-long (now (c .before .before .before .before .before .before .before .before .before .before .args .record)) _ (c .before .before .before .before .before .before .before .read-of .ensures) (c .before .before .before .before .before .if1 .left)
 
 slice-aggregate-put : tie.Need-slice-aggregate-put
 slice-aggregate-put c = search needs
