@@ -2,16 +2,16 @@
 -- Assumes nothing.
 use Prim.Native.Nat.{ℕ, zero, suc, _+_, _≤_, _<_}
 use mathlib.Core.Path.{_≡_, refl, ap, sym, _∙_}
-use mathlib.Core.Bool.{Bool, true, false, true≢false, false≢true, cond, not, _&&_, and-true, and-false}
+use mathlib.Core.Bool.{Bool, true, false, true≢false, false≢true, cond, not, _&&_, _||_, and-true, and-false}
 use mathlib.Core.List.{List, [], _∷_}
 use native.Mathlib.Omega.{arith}
 use native.Mathlib.Nat.{add-zero}
 use lib.ListN.{length, getD}
-use lib.Dec.{T, eqb, eqb·suc-zero}
+use lib.Dec.{T, eqb, ltb, eqb·suc-zero, eqb→eq, ltb→lt}
 use mir.Facts.{and-yes}
-use borrow.Author.Tests.{le-leb}
-use Rattle.text.specs.Text.{Bytes, Ident, isIdent}
-use Rattle.text.proofs.Tests.{and-stop, cond-yes, less-or, T-false, at-every, allBelow, below}
+use borrow.Author.Tests.{eqb-false, ltb-false, le-leb}
+use Rattle.text.specs.Text.{Bytes, Ident, isIdent, between}
+use Rattle.text.proofs.Tests.{and-stop, or-on, cond-yes, by-test, less-or, T-false, at-every, allBelow, below}
 use Rattle.format.specs.Kinds.{Kind, Field, Text, Printable, Identity, OrEmpty, fieldsOf, identityFields, identityKinds, among}
 use Rattle.format.specs.Build.{empty}
 use Rattle.format.specs.Read.{Outcome, accepted, refused, fieldAnswer, identityAnswer, readOver, readIdentity}
@@ -19,7 +19,7 @@ use Rattle.format.proofs.Table.{identity-row, seven-fields}
 use Rattle.format.proofs.Outcomes.{Honest}
 use Rattle.table.specs.Table.{missingRow, fieldsAt, fieldType, TypeOf, isIdentity, mayBeEmpty, permitted, rowAmong}
 use Rattle.table.proofs.Rows.{kindAt, in-row, among-row}
-use Rattle.table.proofs.Codes.{codeCount, past-codes, identity-codes}
+use Rattle.table.proofs.Codes.{past-codes, identity-codes}
 use Rattle.places.proofs.Seven.{seven-at}
 use Rattle.reading.specs.Reading.{kindSaid, kindWithin, kindsWithin, kindsOf, answerOf}
 use Rattle.reading.specs.Steps.{isText}
@@ -111,7 +111,7 @@ plain-answer ask row j code f h t =
     (rw e (at-every (λ s. not (isIdentity s) && not (mayBeEmpty s)) (Text Ident) tt identityFields tt j)) in
     answer-text ask f (fieldType code) (rw (T-false (mayBeEmpty (fieldType code)) (u .1)) (and-false (empty f))) (T-false (isIdentity (fieldType code)) (u .0))
 
--- ---- a code that is none of TIMESTAMP to SIG_OR_EMPTY and NONCE to PROTECTED is as IDENT where a text is asked for
+-- ---- a code that is IDENT's, or names no text type, is as IDENT where a text is asked for; of the others the code asks in three parts
 
 module _ (f : Bytes) where
   identity-text : (t : Field) → isIdentity t ≡ true → isText t f ≡ isIdent f
@@ -120,19 +120,36 @@ module _ (f : Bytes) where
   identity-text (Identity ks) e = refl
   identity-text (OrEmpty t) e = identity-text t e
 
-  -- the numbers that are no such code, in three: few `≢` at a time are within `omega`'s reach
-  below-six : (code : ℕ) → (code ≡ 1 → ⊥) → (code ≡ 2 → ⊥) → (code ≡ 3 → ⊥) → (code ≡ 4 → ⊥) → (code ≡ 5 → ⊥) → code < 6 → isText (fieldType code) f ≡ isIdent f
-  unfolding fieldType
-  below-six code n₁ n₂ n₃ n₄ n₅ h = let z : code ≡ 0 = omega arith in rw z
+abbrev identCode : ℕ → Bool
+identCode code = eqb code 0 || (ltb 13 code || isIdentity (fieldType code))
 
-  from-six : (code : ℕ) → (code ≡ 11 → ⊥) → (code ≡ 12 → ⊥) → (code ≡ 13 → ⊥) → 6 ≤ code → code < codeCount → isText (fieldType code) f ≡ isIdent f
-  from-six code n₁₁ n₁₂ n₁₃ l h = identity-text (fieldType code) (sym (identity-codes code) ∙ rw (le-leb 6 code l, le-leb code 10 (omega arith)))
+pub ident-text : (f : Bytes) (code : ℕ) → identCode code ≡ true → isText (fieldType code) f ≡ isIdent f
+unfolding fieldType
+ident-text f code e =
+    by-test (eqb code 0) (λ t. let z = eqb→eq code 0 t in rw z)
+    (λ n. by-test (ltb 13 code) (λ t. ap (λ (t : Field). isText t f) (past-codes code (ltb→lt 13 code t)))
+    (λ m. identity-text f (fieldType code) (sym (or-on _ _ (T-false (ltb 13 code) m)) ∙ sym (or-on _ _ (T-false (eqb code 0) n)) ∙ e)))
 
-  pub ident-code : (code : ℕ) → (code ≡ 1 → ⊥) → (code ≡ 2 → ⊥) → (code ≡ 3 → ⊥) → (code ≡ 4 → ⊥) → (code ≡ 5 → ⊥)
-      → (code ≡ 11 → ⊥) → (code ≡ 12 → ⊥) → (code ≡ 13 → ⊥) → isText (fieldType code) f ≡ isIdent f
-  ident-code code n₁ n₂ n₃ n₄ n₅ n₁₁ n₁₂ n₁₃ =
-      less-or code 6 (below-six code n₁ n₂ n₃ n₄ n₅)
-      (λ l. less-or code codeCount (from-six code n₁₁ n₁₂ n₁₃ l) (λ h. ap (λ (t : Field). isText t f) (past-codes code h)))
+-- the codes that are left
+pub record Other (code : ℕ) : Type 0 where
+  pub some : code ≡ 0 → ⊥
+  pub listed : code ≤ 13
+  pub early : code < 11 → code < 6
+
+or-none : (a b : Bool) → (a || b) ≡ false → (a ≡ false) × (b ≡ false)
+or-none true b e = absurd (true≢false e)
+or-none false b e = (refl, e)
+
+pub other : (code : ℕ) → identCode code ≡ false → Other code
+other code e =
+    let u = or-none (eqb code 0) (ltb 13 code || isIdentity (fieldType code)) e in
+    let v = or-none (ltb 13 code) (isIdentity (fieldType code)) (u .1) in
+    let w : between 6 10 code ≡ false = identity-codes code ∙ v .1 in
+    record {
+      some = eqb-false code 0 (u .0);
+      listed = ltb-false 13 code (v .0);
+      early = λ h. less-or code 6 (λ l. l) (λ l. absurd (true≢false (rw (le-leb 6 code l, le-leb code 10 (omega arith)) at w)));
+    }
 
 -- ---- an identity by the answer of the identity call
 

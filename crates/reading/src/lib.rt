@@ -3,13 +3,14 @@
 // has 2 to 4, `judge` the fields.
 // A record is walked over once for its fields' places: every test of a field, and every later use of one, goes by them.
 ghost use mathlib.Core.Path.{_≡_};
-ghost use mathlib.Core.Bool.{cond, _&&_, Bool·beq};
+ghost use mathlib.Core.Bool.{cond, _&&_, _||_, Bool·beq};
 ghost use Prim.Native.Nat.{_<_};
+ghost use lib.Dec.{eqb, ltb};
 ghost use Rattle.numbers.specs.Numbers.{wrongText, unpaired, wrongAttributes};
 ghost use Rattle.format.specs.Attributes.{areAttributes};
 ghost use Rattle.format.specs.Build.{empty};
 ghost use Rattle.format.specs.Read.{refused, identityAnswer, nobody, readIdentity, readOf, readRecord};
-ghost use Rattle.table.specs.Table.{fieldType, mayBeEmpty, permitted, kindsFrom};
+ghost use Rattle.table.specs.Table.{fieldType, isIdentity, mayBeEmpty, permitted, kindsFrom};
 ghost use Rattle.reading.specs.Reading.{kindSaid, answerOf, judgedSaid, judge};
 ghost use Rattle.reading.specs.Steps.{formNo, isText, fieldSaid, partsBy, FirstRefused, Walked, wholeNo};
 
@@ -75,23 +76,40 @@ fn form_no(row: usize, s: &[u8]) -> u8
 
 // ---- a field that is a text: number 6
 
-// Of the text type of this code; a code that names none is taken for IDENT's.
+// The code is IDENT's, or names no text type: an identity's, or none at all.
+fn is_ident_code(code: u8) -> bool
+    ensures { λ r. ⌜ r ≡ (eqb code 0 || (ltb 13 code || isIdentity (fieldType code))) ⌝ }
+{
+    if code == table::IDENT {
+        return true;
+    }
+    if table::PROTECTED < code {
+        return true;
+    }
+    table::is_identity(code)
+}
+
+// Of the text type of this code; a code that names none is taken for IDENT's. The others in three parts, because LLVM makes a table of jumps
+// of more than three codes in a row.
 fn is_text(code: u8, field: &[u8]) -> bool
     ensures { λ r. ⌜ r ≡ isText (fieldType code) (now (field .entry)) ⌝ }
 {
-    if code == table::TIMESTAMP {
-        return text::is_timestamp(field);
+    if is_ident_code(code) {
+        return text::is_ident(field);
     }
-    if code == table::PRINT {
+    if code < table::POINT {
+        if code == table::TIMESTAMP {
+            return text::is_timestamp(field);
+        }
         return text::is_print(field);
     }
-    if code == table::POINT {
-        return text::is_point(field);
-    }
-    if code == table::MAC {
-        return text::is_mac(field);
-    }
-    if code == table::SIG_OR_EMPTY {
+    if code < table::NONCE {
+        if code == table::POINT {
+            return text::is_point(field);
+        }
+        if code == table::MAC {
+            return text::is_mac(field);
+        }
         return text::is_sig(field);
     }
     if code == table::NONCE {
@@ -100,10 +118,7 @@ fn is_text(code: u8, field: &[u8]) -> bool
     if code == table::PRINTABLE {
         return text::is_printable(field);
     }
-    if code == table::PROTECTED {
-        return text::is_protected(field);
-    }
-    text::is_ident(field)
+    text::is_protected(field)
 }
 
 fn text_no(code: u8, field: &[u8]) -> u8

@@ -2,16 +2,17 @@
 -- Assumes nothing.
 use Prim.Native.Nat.{ℕ, _+_, _≤_, _<_}
 use mathlib.Core.Path.{_≡_, refl, sym, ap, _∙_}
-use mathlib.Core.Bool.{Bool, false, cond, _||_, Bool·beq, and-false}
-use mathlib.Core.List.{List, [], _∷_}
+use mathlib.Core.Bool.{Bool, true, false, cond, _||_, Bool·beq, and-false}
+use mathlib.Core.List.{List, [], _∷_, map}
 use native.Mathlib.Omega.{arith}
 use lib.ListN.{length, List·getD-eq-default}
-use lib.Dec.{T, leb, eqb, eqb→eq}
+use lib.Dec.{T, leb, ltb, eqb, eqb→eq, ltb→lt, lit<}
+use mir.Facts.{and-yes}
 use borrow.Author.Tests.{ne-eqb, lt-leb}
-use Rattle.text.specs.Text.{between, TextType, Ident, Timestamp, Point, Sig, Mac, Print, Protected, Hex}
+use Rattle.text.specs.Text.{between, allOf, TextType, Ident, Timestamp, Point, Sig, Mac, Print, Protected, Hex}
 use Rattle.text.proofs.Tests.{less-or, allBelow, below}
 use Rattle.format.specs.Kinds.{Kind, Field, Text, Printable, Identity, OrEmpty}
-use Rattle.table.specs.Table.{rowOf, fieldTypes, fieldType, isIdentity, mayBeEmpty, permitted}
+use Rattle.table.specs.Table.{rowOf, fieldTypes, fieldType, isIdentity, mayBeEmpty, permitted, rowAmong}
 use Rattle.table.proofs.Rows.{same-bools}
 
 -- the number of codes, which is no code
@@ -35,24 +36,48 @@ pub identity-codes : (code : ℕ) → between 6 10 code ≡ isIdentity (fieldTyp
 unfolding allBelow fieldType
 identity-codes code = by-code isIdentity (between 6 10) tt (λ c h. rw (lt-leb c 10 (omega arith)) (and-false (leb 6 c))) code
 
+-- two codes of which p says yes, and of no other
+either-codes : (p : Field → Bool) (a b : ℕ) → a < codeCount → b < codeCount → p (Text Ident) ≡ false
+    → T (allBelow codeCount (λ c. Bool·beq (eqb c a || eqb c b) (p (fieldType c)))) → (code : ℕ) → (eqb code a || eqb code b) ≡ p (fieldType code)
+either-codes p a b ha hb e t code =
+    by-code p (λ c. eqb c a || eqb c b) t (λ c h. rw (ne-eqb c a (λ z. omega arith), ne-eqb c b (λ z. omega arith)) (sym e)) code
+
 pub empty-codes : (code : ℕ) → (eqb code 5 || eqb code 10) ≡ mayBeEmpty (fieldType code)
 unfolding allBelow fieldType
-empty-codes code = by-code mayBeEmpty (λ c. eqb c 5 || eqb c 10) tt (λ c h. rw (ne-eqb c 5 (λ z. omega arith), ne-eqb c 10 (λ z. omega arith))) code
+empty-codes code = either-codes mayBeEmpty 5 10 (lit< tt) (lit< tt) refl tt code
 
-no-kinds : (t : Field) → isIdentity t ≡ false → permitted t ≡ []
-no-kinds (Text t) e = refl
-no-kinds Printable e = refl
-no-kinds (Identity ks) e = absurd (let z : _≡_ {A = ℕ} 0 1 = cc in omega arith)
-no-kinds (OrEmpty t) e = no-kinds t e
+-- ---- the identities that it permits, by their row
 
-pub no-permit : (code : ℕ) → (code ≡ 6 → ⊥) → (code ≡ 7 → ⊥) → (code ≡ 8 → ⊥) → (code ≡ 9 → ⊥) → (code ≡ 10 → ⊥) → permitted (fieldType code) ≡ []
-no-permit code n₆ n₇ n₈ n₉ n₁₀ = no-kinds (fieldType code) (sym (identity-codes code) ∙ less-or code 6 low high)
-  where
-    low : code < 6 → between 6 10 code ≡ false
-    low h = rw (lt-leb 6 code h)
+abbrev permits : ℕ → Field → Bool
+permits row t = rowAmong row (permitted t)
 
-    high : 6 ≤ code → between 6 10 code ≡ false
-    high h = rw (lt-leb code 10 (omega arith)) (and-false (leb 6 code))
+pub SMMAN-codes : (code : ℕ) → (eqb code 6 || eqb code 10) ≡ permits 0 (fieldType code)
+unfolding allBelow fieldType
+SMMAN-codes code = either-codes (permits 0) 6 10 (lit< tt) (lit< tt) refl tt code
+
+pub SMID-codes : (code : ℕ) → (eqb code 7 || eqb code 9) ≡ permits 1 (fieldType code)
+unfolding allBelow fieldType
+SMID-codes code = either-codes (permits 1) 7 9 (lit< tt) (lit< tt) refl tt code
+
+pub KMCID-codes : (code : ℕ) → (eqb code 8 || eqb code 9) ≡ permits 2 (fieldType code)
+unfolding allBelow fieldType
+KMCID-codes code = either-codes (permits 2) 8 9 (lit< tt) (lit< tt) refl tt code
+
+-- every kind that is permitted anywhere stands in one of the first three rows
+abbrev early : Kind → Bool
+early k = ltb (rowOf k) 3
+
+late-row : (row : ℕ) (ks : List Kind) → 3 ≤ row → T (allOf (map early ks)) → rowAmong row ks ≡ false
+late-row row [] h t = refl
+late-row row (k ∷ ks) h t =
+    let u = and-yes (early k) (allOf (map early ks)) t in
+    rw (ne-eqb row (rowOf k) (λ z. omega (arith, ltb→lt (rowOf k) 3 (u .0)))) (late-row row ks h (u .1))
+
+pub no-permit : (code row : ℕ) → 3 ≤ row → permits row (fieldType code) ≡ false
+unfolding allBelow fieldType
+no-permit code row h =
+    late-row row (permitted (fieldType code)) h
+    (rw (← (by-code (λ t. allOf (map early (permitted t))) (λ c. true) tt (λ c l. refl) code)) tt)
 
 -- ---- the code of a type
 

@@ -2,9 +2,10 @@
 // and builder both consult. A kind is the number of its row. Every look-up takes any number and says what it answers for
 // a row, a field or a code that is not there.
 ghost use mathlib.Core.Path.{_≡_};
-ghost use mathlib.Core.Bool.{false};
+ghost use mathlib.Core.Bool.{false, _||_};
 ghost use Prim.Native.Nat.{_<_};
 ghost use lib.ListN.{take, drop};
+ghost use lib.Dec.{eqb};
 ghost use Rattle.text.specs.Text.{same};
 ghost use Rattle.format.specs.Kinds.{name, identityKinds, allKinds};
 ghost use Rattle.format.specs.Read.{kindIn};
@@ -83,14 +84,14 @@ pub const KEY_PROTECTED_KEY: usize = 3;
 
 // ---- the columns
 
-// The names one after another, where each starts, and where the last ends.
+// The names one after another, where each starts, and where the last ends. What fits a byte is one: the module team counts constants.
 const NAMES: [u8; 69] = *b"SMMAN.1SMID.1KMCID.1PK.ECDSA.1PK.ECDH.1VKLOAD.REQ.1VKLOAD.RESP.1KEY.1";
 
-const STARTS: [usize; 9] = [0, 7, 13, 20, 30, 39, 51, 64, 69];
+const STARTS: [u8; 9] = [0, 7, 13, 20, 30, 39, 51, 64, 69];
 
 const MARKS: [u8; 8] = [b':', b':', b':', b'|', b'|', b'|', b'|', b'|'];
 
-const COUNTS: [usize; 8] = [4, 4, 4, 5, 5, 7, 4, 3];
+const COUNTS: [u8; 8] = [4, 4, 4, 5, 5, 7, 4, 3];
 
 // ---- the field types by their codes
 
@@ -123,24 +124,14 @@ pub const PRINTABLE: u8 = 12;
 pub const PROTECTED: u8 = 13;
 
 // Where each kind's field types start.
-const FIRSTS: [usize; 8] = [0, 4, 8, 12, 17, 22, 29, 33];
+const FIRSTS: [usize; 8] = [0, 0, 0, 4, 9, 14, 21, 25];
 
-const TYPES: [u8; 36] = [
-    // SMMAN.1
+const TYPES: [u8; 28] = [
+    // SMMAN.1, SMID.1, KMCID.1
     IDENT, // 1 Manufacturer
     IDENT, // 2 MID
     TIMESTAMP, // 3 GNT
     PRINT, // 4 Fingerprint
-    // SMID.1, as SMMAN.1
-    IDENT,
-    IDENT,
-    TIMESTAMP,
-    PRINT,
-    // KMCID.1, as SMMAN.1
-    IDENT,
-    IDENT,
-    TIMESTAMP,
-    PRINT,
     // PK.ECDSA.1
     ID_SMMAN, // 1 Subject
     POINT, // 2 Q
@@ -189,7 +180,7 @@ pub fn count_of(row: usize) -> usize
     ensures { λ r. ⌜ r ≡ countOf row ⌝ }
 {
     if row < ROWS {
-        return COUNTS[row];
+        return COUNTS[row] as usize;
     }
     0
 }
@@ -221,8 +212,8 @@ fn is_named(row: usize, title: &[u8]) -> bool
     requires { ⌜ row < rowCount ⌝ }
     ensures { λ r. ⌜ r ≡ ofRow (λ k. same (now (title .entry)) (name k)) false row ⌝ }
 {
-    let start = STARTS[row];
-    let end = STARTS[row + 1];
+    let start = STARTS[row] as usize;
+    let end = STARTS[row + 1] as usize;
     text::are_same(title, &NAMES[start..end])
 }
 
@@ -296,37 +287,36 @@ pub fn is_identity(code: u8) -> bool
     code <= ID_SMMAN_OR_EMPTY
 }
 
+// The code is one of the two.
+fn is_either(code: u8, a: u8, b: u8) -> bool
+    ensures { λ r. ⌜ r ≡ (eqb code a || eqb code b) ⌝ }
+{
+    if code == a {
+        return true;
+    }
+    code == b
+}
+
 // False for a number that is no code.
 pub fn may_be_empty(code: u8) -> bool
     ensures { λ r. ⌜ r ≡ mayBeEmpty (fieldType code) ⌝ }
 {
-    if code == SIG_OR_EMPTY {
-        return true;
-    }
-    code == ID_SMMAN_OR_EMPTY
+    is_either(code, SIG_OR_EMPTY, ID_SMMAN_OR_EMPTY)
 }
 
-// The field type permits identities of the kind of this row; false for a number that is no code or no row.
+// The field type permits identities of the kind of this row; false for a number that is no code or no row. By the row first, because LLVM
+// makes a table of jumps of the five codes.
 pub fn does_permit(code: u8, row: usize) -> bool
     ensures { λ r. ⌜ r ≡ rowAmong row (permitted (fieldType code)) ⌝ }
 {
-    if code == ID_SMID {
-        return row == SMID;
+    if row == SMMAN {
+        return is_either(code, ID_SMMAN, ID_SMMAN_OR_EMPTY);
     }
-    if code == ID_KMCID {
-        return row == KMCID;
+    if row == SMID {
+        return is_either(code, ID_SMID, ID_SMID_OR_KMCID);
     }
-    if code == ID_SMID_OR_KMCID {
-        if row == SMID {
-            return true;
-        }
-        return row == KMCID;
-    }
-    if code == ID_SMMAN {
-        return row == SMMAN;
-    }
-    if code == ID_SMMAN_OR_EMPTY {
-        return row == SMMAN;
+    if row == KMCID {
+        return is_either(code, ID_KMCID, ID_SMID_OR_KMCID);
     }
     false
 }

@@ -1,31 +1,32 @@
 -- `table::is_named` meets its contract: antt computes the names one after another and their places, and the arrays are these.
 -- Assumes nothing.
 use denote.Ref.{now}
+use Prim.Native.Nat.{_+_}
 use mathlib.Core.Path.{sym, ap, _∙_}
 use mathlib.Core.Bool.{false}
 use mathlib.Core.List.{[], flatten}
 use Rattle.text.specs.Text.{same}
 use Rattle.format.specs.Kinds.{name}
 use Rattle.table.proofs.Rows.{in-row}
-use Rattle.table.proofs.Arrays.{name-piece}
+use Rattle.table.proofs.Arrays.{entry-fits, starts, name-piece}
 use borrow.Author.Needs.{needs}
 use Rattle.table.proofs.is_named.Statement.{statement}
 use Rattle.table.proofs.is_named.Tie as tie
 
-mul-start : tie.Need-mul-start
-mul-start c = search needs
-
 array-read-start : tie.Need-array-read-start
 array-read-start c = search needs
+
+cast-start : tie.Need-cast-start
+cast-start c = entry-fits starts tt (c .before .args .row)
 
 add-end : tie.Need-add-end
 add-end c = search needs
 
-mul-end : tie.Need-mul-end
-mul-end c = search needs
-
 array-read-end : tie.Need-array-read-end
 array-read-end c = search needs
+
+cast-end : tie.Need-cast-end
+cast-end c = entry-fits starts tt (c .before .args .row + 1)
 
 sub-are-same : tie.Need-sub-are-same
 sub-are-same c = name-piece (c .before .args .row) (c .before .pre) .from-to
@@ -51,11 +52,11 @@ pub is-named-spec : {M : Type 1} → statement M
 is-named-spec =
     tie.close
     (tie.spec
-    mul-start
     array-read-start
+    cast-start
     add-end
-    mul-end
     array-read-end
+    cast-end
     sub-are-same
     part-are-same-start
     part-are-same-end

@@ -1,17 +1,16 @@
 -- `table::may_be_empty` meets its contract.
 -- Assumes nothing.
-use mathlib.Core.Path.{sym, _∙_}
-use borrow.Author.Tests.{eq-eqb, ne-eqb}
-use Rattle.text.proofs.Tests.{or-stop, or-on}
+use mathlib.Core.Path.{_∙_}
 use Rattle.table.proofs.Codes.{empty-codes}
+use borrow.Author.Needs.{needs}
 use Rattle.table.proofs.may_be_empty.Statement.{statement}
 use Rattle.table.proofs.may_be_empty.Tie as tie
 
-returns : tie.Need-returns
-returns c = sym (or-stop _ _ (eq-eqb _ 5 (c .if1 .taken))) ∙ empty-codes (c .before .args .code)
+is-either-requires : tie.Need-is-either-requires
+is-either-requires c κs = search needs
 
-returns-2 : tie.Need-returns-2
-returns-2 c = sym (or-on _ _ (ne-eqb _ 5 (c .if1 .left))) ∙ empty-codes (c .before .args .code)
+returns : tie.Need-returns
+returns c = c .is-either .ensures ∙ empty-codes _
 
 pub may-be-empty-spec : {M : Type 1} → statement M
-may-be-empty-spec = tie.close (tie.spec returns returns-2)
+may-be-empty-spec = tie.close (tie.spec is-either-requires returns)
