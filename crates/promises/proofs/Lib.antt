@@ -2,6 +2,7 @@ pub mod Starred
 pub mod Determined
 pub mod Check
 pub mod TextTypes
+pub mod Conversion
 pub mod Calendar
 pub mod Reading
 pub mod Attributes

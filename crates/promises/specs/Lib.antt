@@ -4,6 +4,7 @@ pub mod Determined
 pub mod Calls
 pub mod Check
 pub mod TextTypes
+pub mod Conversion
 pub mod Calendar
 pub mod Reading
 pub mod Attributes

@@ -7,6 +7,7 @@ ghost use Rattle.promises.specs.Refusals.{Refusals};
 ghost use Rattle.promises.specs.FieldNumbers.{FieldNumbers};
 ghost use Rattle.promises.specs.Check.{Check};
 ghost use Rattle.promises.specs.TextTypes.{TextTypes};
+ghost use Rattle.promises.specs.Conversion.{Conversion};
 ghost use Rattle.promises.specs.Calendar.{Calendar};
 ghost use Rattle.promises.specs.Reading.{Reading};
 ghost use Rattle.promises.specs.Attributes.{Attributes};
@@ -26,5 +27,5 @@ ghost use Rattle.promises.specs.Starred.{starred};
 ghost use Rattle.promises.specs.Fixed.{fixed};
 
 fn promised()
-    ensures { λ _. ⌜ Total × Determined × Interface × Refusals × FieldNumbers × Check × TextTypes × Calendar × Reading × Attributes × Building × Rebuilding × Agreement × Files × Listing × Demand3 × Newer × Hash × Fingerprints × Witnesses × Forms × AllCome starred × AllCome fixed ⌝ }
+    ensures { λ _. ⌜ Total × Determined × Interface × Refusals × FieldNumbers × Check × TextTypes × Conversion × Calendar × Reading × Attributes × Building × Rebuilding × Agreement × Files × Listing × Demand3 × Newer × Hash × Fingerprints × Witnesses × Forms × AllCome starred × AllCome fixed ⌝ }
 {}

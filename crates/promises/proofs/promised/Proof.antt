@@ -7,6 +7,7 @@ use Rattle.promises.proofs.Refusals.{refusals}
 use Rattle.promises.proofs.FieldNumbers.{field-numbers}
 use Rattle.promises.proofs.Check.{check}
 use Rattle.promises.proofs.TextTypes.{text-types}
+use Rattle.promises.proofs.Conversion.{conversion}
 use Rattle.promises.proofs.Calendar.{calendar}
 use Rattle.promises.proofs.Reading.{reading}
 use Rattle.promises.proofs.Attributes.{attributes}
@@ -27,7 +28,7 @@ use Rattle.promises.proofs.promised.Statement.{statement}
 use Rattle.promises.proofs.promised.Tie as tie
 
 returns : tie.Need-returns
-returns c = (total, determined, interface, refusals, field-numbers, check, text-types, calendar, reading, attributes, building, rebuilding, agreement, files, listing, demand3, newest, hash, fingerprints, witnesses, forms, all-starred, all-fixed)
+returns c = (total, determined, interface, refusals, field-numbers, check, text-types, conversion, calendar, reading, attributes, building, rebuilding, agreement, files, listing, demand3, newest, hash, fingerprints, witnesses, forms, all-starred, all-fixed)
 
 pub promised-spec : {M : Type 1} → statement M
 promised-spec = tie.close (tie.spec returns)
