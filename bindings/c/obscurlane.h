@@ -3,7 +3,8 @@
  * of STS 600-4-2, the texts that a key agreement hashes, and SHA-384 with the Fingerprints that are made by it.
  *
  * Link with libexports.a, which `bindings/archive` proves, compiles for the machine that it runs on and puts into
- * target/staticlib/. The names at the end of this header stand in names.c, which is compiled with the program.
+ * target/staticlib/; or with the one that `bindings/archive module` puts into target/module/target/staticlib/, which has the
+ * same functions and fewer constants. The names at the end of this header stand in names.c, which is compiled with the program.
  *
  * A record or identity is given WITHOUT its line feed. A file of records is given whole, and its lines are found in it.
  *
@@ -38,10 +39,10 @@
 #include <stddef.h>
 #include <stdint.h>
 
-#define OBSCURLANE_VERSION "0.5.0"
+#define OBSCURLANE_VERSION "0.5.1"
 #define OBSCURLANE_VERSION_MAJOR 0
 #define OBSCURLANE_VERSION_MINOR 5
-#define OBSCURLANE_VERSION_PATCH 0
+#define OBSCURLANE_VERSION_PATCH 1
 
 #ifdef __cplusplus
 extern "C" {

@@ -1,8 +1,10 @@
-//! How fast the library is beside plain Rust: `cargo run --release --offline --bin speed`.
+//! How fast the library is beside plain Rust: `cargo run --release --offline --bin speed`. With `--beside PROGRAM`, this program linked with
+//! the archive of the module's build, that build too.
 //!
 //! First the answers of all sides to every input are compared, damaged ones too; a difference ends the program. Then the sides
 //! take turns over the same inputs, and for each the nanoseconds per record, or per message that is hashed, are printed.
 
+mod beside;
 mod constants;
 mod fast;
 mod fast_hash;
@@ -14,6 +16,7 @@ mod plain_hash;
 mod same;
 mod side;
 
+use beside::{serve, Beside, SERVE};
 use fast::Fast;
 use inputs::{messages_among, Draws, Inputs, Sample, MESSAGES};
 use library::Library;
@@ -23,6 +26,7 @@ use same::same_answers;
 use side::{Reads, Side, MOST_FIELDS};
 use std::hint::black_box;
 use std::time::Instant;
+use std::{env, io};
 
 /// How many records a side goes over in a turn.
 const TURN: usize = 1_000;
@@ -177,6 +181,12 @@ fn time(work: fn(&Inputs), inputs: &Inputs) -> f64 {
     begin.elapsed().as_nanos() as f64
 }
 
+/// The same behind a turn of plain Rust, which leaves the inputs at hand: in two programs each side finds them alike.
+fn warm_time(row: &Row, side: usize, inputs: &Inputs) -> f64 {
+    row.works[1](inputs);
+    time(row.works[side], inputs)
+}
+
 /// The number that so many percent of these lie below.
 fn percentile(percent: usize, numbers: impl Iterator<Item = f64>) -> f64 {
     let mut numbers: Vec<f64> = numbers.collect();
@@ -184,27 +194,53 @@ fn percentile(percent: usize, numbers: impl Iterator<Item = f64>) -> f64 {
     numbers[percent * (numbers.len() - 1) / 100]
 }
 
-/// Lets the sides take turns, each round another one first, and prints a line of the table.
-fn measure(Row { name, works, times: of_a_turn }: &Row, sets: &[Inputs]) {
-    let mut rounds: Vec<[f64; 3]> = Vec::new();
+/// What each side took in each round: the library, plain and fast Rust, and the library's other build where there is one.
+fn rounds(
+    number: usize,
+    sets: &[Inputs],
+    beside: &mut Option<Beside>,
+) -> io::Result<Vec<Vec<f64>>> {
+    let row = &ROWS[number];
+    let here = row.works.len();
+    let sides = here + usize::from(beside.is_some());
+    let mut rounds = Vec::new();
     for round in 0..ROUNDS {
-        let inputs = &sets[round % sets.len()];
-        let mut times = [0.0; 3];
-        for turn in 0..works.len() {
-            let side = (round + turn) % works.len();
-            times[side] = time(works[side], inputs) / *of_a_turn as f64;
+        let set = round % sets.len();
+        let mut took = vec![0.0; sides];
+        // Each round another side is the first.
+        for turn in 0..sides {
+            let side = (round + turn) % sides;
+            let nanoseconds = match beside {
+                Some(beside) if side == here => beside.time(number, set)?,
+                Some(_) => warm_time(row, side, &sets[set]),
+                None => time(row.works[side], &sets[set]),
+            };
+            took[side] = nanoseconds / row.times as f64;
         }
-        rounds.push(times);
+        rounds.push(took);
     }
+    Ok(rounds)
+}
+
+/// Prints a line of the table.
+fn measure(number: usize, sets: &[Inputs], beside: &mut Option<Beside>) -> io::Result<()> {
+    let rounds = rounds(number, sets, beside)?;
     // The first round over each set does not count.
     let counted = &rounds[sets.len()..];
-    let of = |percent, side: usize| percentile(percent, counted.iter().map(|times| times[side]));
-    let ratio = |side: usize| percentile(50, counted.iter().map(|times| times[0] / times[side]));
-    print!("{name:<26}");
-    for side in 0..works.len() {
+    let of = |percent, side: usize| percentile(percent, counted.iter().map(|took| took[side]));
+    let ratio = |over: usize, under: usize| {
+        percentile(50, counted.iter().map(|took| took[over] / took[under]))
+    };
+    print!("{:<26}", ROWS[number].name);
+    for side in 0..counted[0].len() {
         print!("{:>8.0} ({:>6.0} ..{:>7.0})", of(50, side), of(10, side), of(90, side));
     }
-    println!("{:>8.2}{:>8.2}", ratio(1), ratio(2));
+    print!("{:>8.2}{:>8.2}", ratio(0, 1), ratio(0, 2));
+    if beside.is_some() {
+        print!("{:>9.2}", ratio(3, 0));
+    }
+    println!();
+    Ok(())
 }
 
 /// The bytes of a record on average.
@@ -212,13 +248,8 @@ fn average<'a>(records: impl Iterator<Item = &'a Vec<u8>>) -> usize {
     records.map(Vec::len).sum::<usize>() / (SETS * TURN)
 }
 
-fn main() {
-    let mut draws = Draws::with_seeds([2026, 2029, 2031]);
-    let sets: Vec<Inputs> = (0..SETS).map(|_| Inputs::new(&mut draws, TURN)).collect();
-    for inputs in &sets {
-        same_answers::<Library, Plain>(inputs);
-        same_answers::<Library, Fast>(inputs);
-    }
+/// The table, and above it what is measured.
+fn table(sets: &[Inputs], beside: &mut Option<Beside>) -> io::Result<()> {
     println!("all sides give the same answers, whole and damaged");
     println!(
         "{} records, {} bytes each on average, as many wrapped keys of {} and public keys of {}; {}",
@@ -234,9 +265,35 @@ fn main() {
     println!();
     let [library, plain, fast] = [Library::NAME, Plain::NAME, Fast::NAME];
     print!("{:<26}{library:>8}{:>19}{plain:>8}{:>19}{fast:>8}{:>19}", "", "", "", "");
-    println!("{:>8}{:>8}", format!("/{plain}"), format!("/{fast}"));
-    for row in &ROWS {
-        measure(row, &sets);
+    if beside.is_some() {
+        print!("{:>8}{:>19}", "module", "");
+    }
+    print!("{:>8}{:>8}", format!("/{plain}"), format!("/{fast}"));
+    if beside.is_some() {
+        print!("{:>9}", "module/");
+    }
+    println!();
+    (0..ROWS.len()).try_for_each(|number| measure(number, sets, beside))
+}
+
+fn main() -> io::Result<()> {
+    let words: Vec<String> = env::args().skip(1).collect();
+    let words: Vec<&str> = words.iter().map(String::as_str).collect();
+    let mut draws = Draws::with_seeds([2026, 2029, 2031]);
+    let sets: Vec<Inputs> = (0..SETS).map(|_| Inputs::new(&mut draws, TURN)).collect();
+    for inputs in &sets {
+        same_answers::<Library, Plain>(inputs);
+        same_answers::<Library, Fast>(inputs);
+    }
+    match words[..] {
+        [] => table(&sets, &mut None),
+        ["--beside", program] => {
+            let mut beside = Some(Beside::start(program)?);
+            table(&sets, &mut beside)?;
+            beside.map_or(Ok(()), Beside::end)
+        }
+        [SERVE] => serve(&sets, |row, inputs| warm_time(&ROWS[row], 0, inputs)),
+        _ => Err(io::Error::other("usage: speed [--beside PROGRAM]")),
     }
 }
 
