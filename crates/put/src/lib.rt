@@ -47,8 +47,7 @@ pub fn put_byte(out: &mut [u8], at: usize, byte: u8) -> usize
     put(out, at, &[byte])
 }
 
-// The same for the hexadecimal characters of the bytes, two for each. The two go in by `put`, whose test of the room keeps LLVM from making
-// the loop wide: that gains nothing on the eight bytes of a Fingerprint, and takes 144 bytes of constants.
+// The same for the hexadecimal characters of the bytes, two for each.
 pub fn put_hex(out: &mut [u8], at: usize, bytes: &[u8]) -> usize
     ensures { λ r. ⌜ Puts (now (out .entry)) at (base16 (now (bytes .entry))) (now (out .exit)) r ⌝ }
 {
