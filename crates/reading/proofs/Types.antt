@@ -7,9 +7,9 @@ use mathlib.Core.List.{List, [], _∷_}
 use native.Mathlib.Omega.{arith}
 use native.Mathlib.Nat.{add-zero}
 use lib.ListN.{length, getD}
-use lib.Dec.{T, eqb, ltb, eqb·suc-zero, eqb→eq, ltb→lt}
-use mir.Facts.{and-yes}
-use borrow.Author.Tests.{eqb-false, ltb-false, le-leb}
+use lib.Dec.{T, eqb, ltb, eqb·suc-zero, eqb→eq, ltb→lt, nltb→le}
+use mir.Facts.{and-yes, or-no}
+use borrow.Author.Tests.{eqb-false, le-leb}
 use Rattle.text.specs.Text.{Bytes, Ident, isIdent, between}
 use Rattle.text.proofs.Tests.{and-stop, or-on, cond-yes, by-test, less-or, T-false, at-every, allBelow, below}
 use Rattle.format.specs.Kinds.{Kind, Field, Text, Printable, Identity, OrEmpty, fieldsOf, identityFields, identityKinds, among}
@@ -136,18 +136,14 @@ pub record Other (code : ℕ) : Type 0 where
   pub listed : code ≤ 13
   pub early : code < 11 → code < 6
 
-or-none : (a b : Bool) → (a || b) ≡ false → (a ≡ false) × (b ≡ false)
-or-none true b e = absurd (true≢false e)
-or-none false b e = (refl, e)
-
 pub other : (code : ℕ) → identCode code ≡ false → Other code
 other code e =
-    let u = or-none (eqb code 0) (ltb 13 code || isIdentity (fieldType code)) e in
-    let v = or-none (ltb 13 code) (isIdentity (fieldType code)) (u .1) in
-    let w : between 6 10 code ≡ false = identity-codes code ∙ v .1 in
+    let u = or-no (eqb code 0) (ltb 13 code || isIdentity (fieldType code)) (rw e tt) in
+    let v = or-no (ltb 13 code) (isIdentity (fieldType code)) (u .1) in
+    let w : between 6 10 code ≡ false = identity-codes code ∙ T-false (isIdentity (fieldType code)) (v .1) in
     record {
-      some = eqb-false code 0 (u .0);
-      listed = ltb-false 13 code (v .0);
+      some = eqb-false code 0 (T-false (eqb code 0) (u .0));
+      listed = nltb→le 13 code (v .0);
       early = λ h. less-or code 6 (λ l. l) (λ l. absurd (true≢false (rw (le-leb 6 code l, le-leb code 10 (omega arith)) at w)));
     }
 
