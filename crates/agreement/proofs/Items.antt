@@ -44,14 +44,14 @@ item-short fs n s =
 
 -- ---- all of them, one after another
 
-abbrev entries : List Bytes → List ℕ → Bytes
+abbrev pub entries : List Bytes → List ℕ → Bytes
 entries fs ns = lvItems (map (itemFor fs) ns)
 
 module _ (fs : List Bytes) (ns : List ℕ) (i : ℕ) where
-  entries-more : i < length ns → entries fs (drop i ns) ≡ lvItem (itemFor fs (getD ns i 0)) ++ entries fs (drop (i + 1) ns)
+  pub entries-more : i < length ns → entries fs (drop i ns) ≡ lvItem (itemFor fs (getD ns i 0)) ++ entries fs (drop (i + 1) ns)
   entries-more h = rw (drop-cons ns i 0 h, add-one)
 
-  entries-end : length ns ≤ i → entries fs (drop i ns) ≡ []
+  pub entries-end : length ns ≤ i → entries fs (drop i ns) ≡ []
   entries-end h = rw (drop-of-length-le ns h)
 
 module _ (fs : List Bytes) (s : Suited fs) where
@@ -72,10 +72,12 @@ module _ (label : Bytes) (ns : List ℕ) (fs : List Bytes) where
   text-length = omega (arith, length-append label (entries fs ns))
 
   -- its count, its label and its fields
+  pub text-said : ((1 + length ns) ∷ []) ++ lvItem label ++ entries fs ns ≡ lvConcat (itemsBy label ns fs)
+  text-said = ap (λ (n : ℕ). n ∷ lvItems (itemsBy label ns fs)) (omega (arith, length-map ns (itemFor fs)))
+
   pub text-pieces : {o o₁ o₂ out : Bytes} {at next r : ℕ} → Put o 0 ((1 + length ns) ∷ []) o₁ next → Put o₁ next (lvItem label) o₂ at
       → Put o₂ at (entries fs ns) out r → Put o 0 (lvConcat (itemsBy label ns fs)) out r
-  text-pieces p p₁ p₂ =
-      put-as (ap (λ (n : ℕ). n ∷ lvItems (itemsBy label ns fs)) (omega (arith, length-map ns (itemFor fs)))) (put-then (put-then p p₁) p₂)
+  text-pieces p p₁ p₂ = put-as text-said (put-then p (put-then p₁ p₂))
 
 -- ---- the loop that counts: total is the length of all but the fields from i on
 pub record Counted (label : Bytes) (ns : List ℕ) (fs : List Bytes) (total i : ℕ) : Type 0 where

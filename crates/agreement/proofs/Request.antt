@@ -1,4 +1,4 @@
--- What is known of an accepted request: its kind, its fields, and that they go into a text.
+-- What is known of an accepted record that was to be of one kind, and of an accepted request: its fields go into a text.
 -- Assumes nothing.
 use Prim.Native.Nat.{ℕ, zero, suc, _≤_}
 use mathlib.Core.Path.{_≡_, sym, ap, ap₂, _∙_}
@@ -10,7 +10,7 @@ use lib.Dec.{leb, leb→le}
 use Rattle.text.specs.Text.{Bytes, Ident}
 use Rattle.text.proofs.Tests.{less-or, allBelow, below}
 use Rattle.text.proofs.Types.{point-hex}
-use Rattle.format.specs.Kinds.{REQ, Field, Text, fieldsOf}
+use Rattle.format.specs.Kinds.{Kind, REQ, Field, Text, fieldsOf}
 use Rattle.format.specs.Build.{Fits, IsIdentity, Permitted, Built}
 use Rattle.format.specs.Read.{Outcome, accepted, fieldsIn, readOf}
 use Rattle.format.proofs.Table.{among-one, bounded, longestOf}
@@ -23,13 +23,24 @@ use Rattle.reading.specs.declared.Answer.{Answer}
 use Rattle.reading.proofs.Answers.{taken}
 use Rattle.agreement.specs.Steps.{fieldNo, Suited, Places}
 
--- ---- its kind and its fields
+-- ---- of an accepted record that was to be of one kind: its kind and its fields
 
-pub request-read : (s : Bytes) (a : Answer) → a ≡ answerOf (readOf (REQ ∷ []) s) → a .no ≡ 0 → readOf (REQ ∷ []) s ≡ accepted REQ (fieldsIn REQ s)
-request-read s a e z =
-    let t = taken (Built (REQ ∷ []) s) (readOf (REQ ∷ []) s) a (read-says (REQ ∷ []) s) e z in
-    let k = among-one (t .kind) REQ (t .holds .of-kind) in
-    t .is ∙ ap₂ {C = Outcome} accepted k (sym (its-fields (t .holds)) ∙ ap (λ j. fieldsIn j s) k)
+module _ (k : Kind) (s : Bytes) (a : Answer) (e : a ≡ answerOf (readOf (k ∷ []) s)) (z : a .no ≡ 0) where
+  pub one-read : readOf (k ∷ []) s ≡ accepted k (fieldsIn k s)
+  one-read =
+      let t = taken (Built (k ∷ []) s) (readOf (k ∷ []) s) a (read-says (k ∷ []) s) e z in
+      let j = among-one (t .kind) k (t .holds .of-kind) in
+      t .is ∙ ap₂ {C = Outcome} accepted j (sym (its-fields (t .holds)) ∙ ap (λ i. fieldsIn i s) j)
+
+  built : Built (k ∷ []) s k (fieldsIn k s)
+  built = read-exact (k ∷ []) s k (fieldsIn k s) .0 one-read
+
+  pub one-permitted : Permitted k (fieldsIn k s)
+  one-permitted = built .permitted
+
+  pub one-field : (n : ℕ) → fieldAt s (a .starts) (a .lens) n ≡ fieldNo (fieldsIn k s) n
+  one-field n =
+      ap (λ (x : Answer). fieldAt s (x .starts) (x .lens) n) (e ∙ ap answerOf one-read) ∙ record-field k s (fieldsIn k s) (its-few built) (its-parts built) n
 
 -- ---- its fields go into a text
 
@@ -49,16 +60,11 @@ permitted-suited fs p =
         (λ h. rw (List·getD-eq-default fs [] {n = n} (omega (arith, fit-length IsIdentity (fieldsOf REQ) fs (p .fit)))) (omega arith))
 
 module _ (s : Bytes) (a : Answer) (e : a ≡ answerOf (readOf (REQ ∷ []) s)) (z : a .no ≡ 0) where
-  request-permitted : Permitted REQ (fieldsIn REQ s)
-  request-permitted = read-exact (REQ ∷ []) s REQ (fieldsIn REQ s) .0 (request-read s a e z) .permitted
+  pub request-read : readOf (REQ ∷ []) s ≡ accepted REQ (fieldsIn REQ s)
+  request-read = one-read REQ s a e z
 
   pub request-suited : Suited (fieldsIn REQ s)
-  request-suited = permitted-suited (fieldsIn REQ s) request-permitted
+  request-suited = permitted-suited (fieldsIn REQ s) (one-permitted REQ s a e z)
 
   pub request-places : Places s (a .starts) (a .lens)
-  request-places =
-      let r = request-read s a e z in
-      let b = read-exact (REQ ∷ []) s REQ (fieldsIn REQ s) .0 r in
-      record {
-        field = λ n. ap (λ (x : Answer). fieldAt s (x .starts) (x .lens) n) (e ∙ ap answerOf r) ∙ record-field REQ s (fieldsIn REQ s) (its-few b) (its-parts b) n;
-      }
+  request-places = record { field = one-field REQ s a e z }

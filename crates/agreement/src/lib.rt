@@ -2,11 +2,11 @@
 // length and its bytes. The request is read once, and its fields go in as parts of its own bytes; only QE is decoded.
 ghost use mathlib.Core.Path.{_≡_};
 ghost use mathlib.Core.List.{[], _∷_};
-ghost use Prim.Native.Nat.{_+_, _*_, _≤_};
+ghost use Prim.Native.Nat.{_+_, _≤_};
 ghost use lib.ListN.{length};
 ghost use lib.Dec.{T};
-ghost use Rattle.text.specs.Text.{hexadecimal, isHex};
-ghost use Rattle.text.specs.Base16.{hexValue, base16Decode};
+ghost use Rattle.text.specs.Text.{isHex};
+ghost use Rattle.text.specs.Base16.{base16Decode};
 ghost use Rattle.format.specs.Kinds.{REQ};
 ghost use Rattle.format.specs.Read.{fieldsIn, readOf};
 ghost use Rattle.put.specs.Put.{Put};
@@ -15,7 +15,33 @@ ghost use Rattle.agreement.specs.Texts.{textMade, sharedInfo, moduleText
 ghost use Rattle.agreement.specs.Steps.{lvItem, itemFor, itemsBy, textOf, Small, Suited, Places};
 
 // A decoded point has so many bytes.
-const POINT_BYTES: usize = 97;
+pub const POINT_BYTES: usize = 97;
+
+// ---- what the texts are made of: a label, and behind it fields of the request, in this order
+
+pub const SHARED_LABEL: [u8; 9] = *b"STS.KAA.1";
+
+pub const SHARED_FIELDS: [usize; 3] = [table::REQ_ID_SM, table::REQ_ID_KMC, table::REQ_TVP];
+
+pub const MODULE_LABEL: [u8; 3] = *b"U_2";
+
+pub const MODULE_FIELDS: [usize; 6] = [
+    table::REQ_ID_SM,
+    table::REQ_ID_KMC,
+    table::REQ_QE,
+    table::REQ_TVP,
+    table::REQ_HWID,
+    table::REQ_FWID,
+];
+
+pub const CENTRE_LABEL: [u8; 2] = *b"V2";
+
+pub const CENTRE_FIELDS: [usize; 4] = [
+    table::REQ_ID_KMC,
+    table::REQ_ID_SM,
+    table::REQ_TVP,
+    table::REQ_QE,
+];
 
 // ---- items
 
@@ -28,26 +54,13 @@ fn put_item(out: &mut [u8], at: usize, item: &[u8]) -> usize
     put::put(out, next, item)
 }
 
-// The byte of two hexadecimal characters.
-fn byte_of(high: u8, low: u8) -> u8
-    requires { ⌜ T (hexadecimal high) × T (hexadecimal low) ⌝ }
-    ensures { λ r. ⌜ r ≡ 16 * hexValue high + hexValue low ⌝ }
-{
-    16 * text::hex_value(high) + text::hex_value(low)
-}
-
 // A point, decoded, as an item.
 fn put_point(out: &mut [u8], at: usize, point: &[u8]) -> usize
     requires { ⌜ T (isHex 194 (now point)) × (at + 98 ≤ length (now out)) ⌝ }
     ensures { λ r. ⌜ Put (now (out .entry)) at (lvItem (base16Decode (now (point .entry)))) (now (out .exit)) r ⌝ }
 {
-    let mut next = put::put_byte(out, at, POINT_BYTES as u8);
-    let mut i = 0;
-    while i < POINT_BYTES {
-        next = put::put_byte(out, next, byte_of(point[2 * i], point[2 * i + 1]));
-        i += 1;
-    }
-    next
+    let next = put::put_byte(out, at, POINT_BYTES as u8);
+    put::put_decoded(out, next, point)
 }
 
 // Field n, from 1, as an item: QE is decoded, all else goes in as it stands.
@@ -153,46 +166,25 @@ fn write_text(label: &[u8], fields: &[usize], request: &[u8], out: &mut [u8]) ->
 pub fn shared_info(request: &[u8], out: &mut [u8]) -> put::Written
     ensures { λ r. ⌜ Writes (sharedInfo (now (request .entry)) (length (now (out .entry)))) (now (out .entry)) (now (out .exit)) r ⌝ }
 {
-    write_text(
-        b"STS.KAA.1",
-        &[table::REQ_ID_SM, table::REQ_ID_KMC, table::REQ_TVP],
-        request,
-        out,
-    )
+    let label = SHARED_LABEL;
+    let fields = SHARED_FIELDS;
+    write_text(&label, &fields, request, out)
 }
 
 // The module text, MacData_SM.
 pub fn module_text(request: &[u8], out: &mut [u8]) -> put::Written
     ensures { λ r. ⌜ Writes (moduleText (now (request .entry)) (length (now (out .entry)))) (now (out .entry)) (now (out .exit)) r ⌝ }
 {
-    write_text(
-        b"U_2",
-        &[
-            table::REQ_ID_SM,
-            table::REQ_ID_KMC,
-            table::REQ_QE,
-            table::REQ_TVP,
-            table::REQ_HWID,
-            table::REQ_FWID,
-        ],
-        request,
-        out,
-    )
+    let label = MODULE_LABEL;
+    let fields = MODULE_FIELDS;
+    write_text(&label, &fields, request, out)
 }
 
 // The centre text, MacData_KMC.
 pub fn centre_text(request: &[u8], out: &mut [u8]) -> put::Written
     ensures { λ r. ⌜ Writes (centreText (now (request .entry)) (length (now (out .entry)))) (now (out .entry)) (now (out .exit)) r ⌝ }
 {
-    write_text(
-        b"V2",
-        &[
-            table::REQ_ID_KMC,
-            table::REQ_ID_SM,
-            table::REQ_TVP,
-            table::REQ_QE,
-        ],
-        request,
-        out,
-    )
+    let label = CENTRE_LABEL;
+    let fields = CENTRE_FIELDS;
+    write_text(&label, &fields, request, out)
 }

@@ -2,6 +2,7 @@
 // answer is a struct by value. Each function hands on one call of the library and has its contract:
 // bindings/c/obscurlane.h says it to a user of C.
 pub mod check;
+pub mod confirming;
 pub mod hashing;
 pub mod records;
 pub mod types;

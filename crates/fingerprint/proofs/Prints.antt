@@ -35,7 +35,7 @@ use Rattle.put.specs.Put.{Puts}
 use Rattle.put.specs.Made.{denied, says, Writes}
 use Rattle.put.specs.declared.Written.{Written}
 use Rattle.put.proofs.Hex.{length-base16}
-use Rattle.put.proofs.Pieces.{put-of, put-denied, put-whole}
+use Rattle.put.proofs.Pieces.{put-of, put-fills, put-denied, put-whole}
 use Rattle.fingerprint.specs.Fingerprint.{hashText, printOf, rightPrint, printIn, checkFingerprint, writeFingerprint}
 use Rattle.fingerprint.specs.Steps.{frontAt, textAt}
 
@@ -119,10 +119,7 @@ half-print i p q l = rw (p, q, l)
 
 -- the sixteen characters fill their array
 pub front-written : (h : List ℕ) {o : List ℕ} {n r : ℕ} → n ≡ 8 → length h ≡ 48 → Puts (replicate 16 0) 0 (base16 (take n h)) o r → o ≡ base16 (take 8 h)
-front-written h e l p =
-    let f = length-front h l in
-    let w = put-of (omega (arith, f)) (rw e at p) .written in
-    w ∙ rw f (append-nil (base16 (take 8 h)))
+front-written h e l p = put-fills (length-front h l) (rw e at p)
 
 -- ---- the calls, by what was answered
 

@@ -46,3 +46,12 @@ wrongAttributes = 14
 
 abbrev pub wrongFingerprint : ℕ
 wrongFingerprint = 15
+
+abbrev pub wrongZ : ℕ
+wrongZ = 16
+
+abbrev pub otherRequest : ℕ
+otherRequest = 17
+
+abbrev pub wrongTag : ℕ
+wrongTag = 18

@@ -31,3 +31,9 @@ pub const NOT_ALIKE: u8 = 13;
 pub const WRONG_ATTRIBUTES: u8 = 14;
 
 pub const WRONG_FINGERPRINT: u8 = 15;
+
+pub const WRONG_Z: u8 = 16;
+
+pub const OTHER_REQUEST: u8 = 17;
+
+pub const WRONG_TAG: u8 = 18;

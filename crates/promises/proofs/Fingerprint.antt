@@ -31,7 +31,7 @@ use Rattle.fingerprint.specs.declared.Checked.{Checked}
 use Rattle.promises.specs.Refusals.{ofPubkeys}
 use Rattle.promises.specs.Fingerprint.{standing, right, CheckSaid, WriteSaid, Fingerprints}
 use Rattle.promises.proofs.Refusals.{pubkey-given}
-use Rattle.promises.proofs.Hash.{hash-bytes}
+use Rattle.sha384.proofs.Digest.{digest-bytes}
 
 -- ---- what an accepted public key is answered
 
@@ -142,7 +142,7 @@ every-digit (b ∷ bs) h =
 
 printed : (text : Bytes) → T (isPrint (printOf text))
 unfolding isHex
-printed text = rw (print-length text) (every-digit (take 8 (sha384 text)) (part-bytes 0 8 (sha384 text) (hash-bytes text)))
+printed text = rw (print-length text) (every-digit (take 8 (sha384 text)) (part-bytes 0 8 (sha384 text) (digest-bytes text)))
 
 pub fingerprints : Fingerprints
 fingerprints = record { checked = λ κs a r s p. check-said (now (a .0)) r p; written = λ κs a r s p. write-said _ _ _ r p; is-print = printed }

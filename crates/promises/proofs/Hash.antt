@@ -1,50 +1,16 @@
 -- The promises about SHA-384, from the laws of sha384.
 -- Assumes nothing.
-use Prim.Native.Nat.{ℕ, zero, suc}
-use mathlib.Core.Path.{refl}
-use mathlib.Core.List.{List, [], _++_}
-use native.Mathlib.Omega.{arith}
-use Rattle.crc16.specs.Damage.{AreBytes}
-use Rattle.text.specs.Text.{Bytes}
-use Rattle.sha384.specs.declared.Words.{Words}
-use Rattle.sha384.specs.Sha384.{bytes8, left384, sha384}
+use Rattle.sha384.proofs.Digest.{digest-bytes, digest-size}
 use Rattle.sha384.proofs.Pieces.{ended-all}
 use Rattle.promises.specs.Hash.{Hash}
 
--- a word's bytes, and others behind them
-word-bytes : (x : ℕ) (rest : List ℕ) → AreBytes rest → AreBytes (bytes8 x ++ rest)
-word-bytes x rest h zero = omega arith
-word-bytes x rest h (suc zero) = omega arith
-word-bytes x rest h (suc (suc zero)) = omega arith
-word-bytes x rest h (suc (suc (suc zero))) = omega arith
-word-bytes x rest h (suc (suc (suc (suc zero)))) = omega arith
-word-bytes x rest h (suc (suc (suc (suc (suc zero))))) = omega arith
-word-bytes x rest h (suc (suc (suc (suc (suc (suc zero)))))) = omega arith
-word-bytes x rest h (suc (suc (suc (suc (suc (suc (suc zero))))))) = omega arith
-word-bytes x rest h (suc (suc (suc (suc (suc (suc (suc (suc k)))))))) = h k
-
-left-bytes : (v : Words) → AreBytes (left384 v)
-unfolding left384
-left-bytes v =
-    let f = word-bytes (v .f) [] (λ k. omega arith) in
-    let e = word-bytes (v .e) (bytes8 (v .f)) f in
-    let d = word-bytes (v .d) (bytes8 (v .e) ++ bytes8 (v .f)) e in
-    let c = word-bytes (v .c) (bytes8 (v .d) ++ bytes8 (v .e) ++ bytes8 (v .f)) d in
-    let b = word-bytes (v .b) (bytes8 (v .c) ++ bytes8 (v .d) ++ bytes8 (v .e) ++ bytes8 (v .f)) c in
-    word-bytes (v .a) (bytes8 (v .b) ++ bytes8 (v .c) ++ bytes8 (v .d) ++ bytes8 (v .e) ++ bytes8 (v .f)) b
-
-pub hash-bytes : (m : Bytes) → AreBytes (sha384 m)
-unfolding sha384
-hash-bytes m = left-bytes _
-
 pub hash : Hash
-unfolding sha384 left384
 hash = record {
   of-slice = λ κs a r s p. p;
   begins = λ κs a r s p. p;
   adds = λ κs a r s p. p;
   ends = λ κs a r s p. p;
   in-slices = ended-all;
-  size = λ m. refl;
-  are-bytes = hash-bytes;
+  size = digest-size;
+  are-bytes = digest-bytes;
 }

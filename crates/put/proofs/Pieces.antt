@@ -6,7 +6,7 @@ use mathlib.Core.List.{List, [], _++_, append-assoc, append-nil}
 use native.Mathlib.Omega.{arith}
 use native.Mathlib.Nat.{zero-add, add-assoc}
 use lib.ListN.{length, take, drop, take-append-drop, length-append, length-drop}
-use lib.Seq.{length-take-le, drop-append-add, take-at, drop-drop}
+use lib.Seq.{length-take-le, drop-append-add, drop-length, take-at, drop-drop}
 use borrow.Author.Tests.{le-leb}
 use Rattle.put.specs.Put.{over, Puts, Put}
 use Rattle.put.specs.Made.{made, denied, says, Writes}
@@ -53,6 +53,10 @@ put-then {o} {v} {o′} {w} {out} {k} {r} {r′} p q = record {
   written = q .written ∙ rw (p .next, p .written, over-over o v w k (omega arith));
   next = omega (arith, length-append v w);
 }
+
+-- what fills the output is all of it
+pub put-fills : {o v out : List ℕ} {r : ℕ} → length v ≡ length o → Puts o 0 v out r → out ≡ v
+put-fills {o} {v} l p = put-of (omega (arith, l)) p .written ∙ rw (zero-add, l, drop-length o, append-nil)
 
 -- the whole, written from the front
 pub put-whole : {o v out : List ℕ} {r : ℕ} → Put o 0 v out r → Writes (made v) o out (record { no = 0; field = 0; len = r })

@@ -1,2 +1,3 @@
 pub mod Put
 pub mod Made
+pub mod Decoded

@@ -1,8 +1,12 @@
 // Writing into a lent output, one piece after another.
 ghost use mathlib.Core.Path.{_≡_};
 ghost use mathlib.Core.List.{[], _∷_};
-ghost use Rattle.text.specs.Base16.{base16};
+ghost use Prim.Native.Nat.{_*_, _+_};
+ghost use lib.Dec.{T};
+ghost use Rattle.text.specs.Text.{hexadecimal};
+ghost use Rattle.text.specs.Base16.{hexValue, base16};
 ghost use Rattle.put.specs.Put.{Puts};
+ghost use Rattle.put.specs.Decoded.{decoded};
 ghost use Rattle.put.specs.Made.{denied, says};
 
 // What a call that writes into a lent output answers: its number, the field's number (0 where none is named), and the
@@ -65,6 +69,36 @@ pub fn put_hex(out: &mut [u8], at: usize, bytes: &[u8]) -> usize
             text::hex_digit(bytes[i] % 16),
         ];
         next = put(out, next, &pair);
+        i += 1;
+    }
+    next
+}
+
+// The byte of two hexadecimal characters.
+fn byte_of(high: u8, low: u8) -> u8
+    requires { ⌜ T (hexadecimal high) × T (hexadecimal low) ⌝ }
+    ensures { λ r. ⌜ r ≡ 16 * hexValue high + hexValue low ⌝ }
+{
+    16 * text::hex_value(high) + text::hex_value(low)
+}
+
+// The other way: the byte of every two hexadecimal characters. Of characters that are not all hexadecimal nothing is written.
+pub fn put_decoded(out: &mut [u8], at: usize, characters: &[u8]) -> usize
+    ensures { λ r. ⌜ Puts (now (out .entry)) at (decoded (now (characters .entry))) (now (out .exit)) r ⌝ }
+{
+    if !text::is_hex(characters.len(), characters) {
+        return at;
+    }
+    if out.len() < at {
+        return at;
+    }
+    if out.len() - at < characters.len() / 2 {
+        return at;
+    }
+    let mut next = at;
+    let mut i = 0;
+    while i < characters.len() / 2 {
+        next = put_byte(out, next, byte_of(characters[2 * i], characters[2 * i + 1]));
         i += 1;
     }
     next

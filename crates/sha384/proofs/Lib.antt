@@ -4,3 +4,4 @@ pub mod Taken
 pub mod Written
 pub mod Added
 pub mod Pieces
+pub mod Digest

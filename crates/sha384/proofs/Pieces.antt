@@ -35,15 +35,19 @@ length-begun : length (begun .block) ≡ 128
 unfolding taken begun
 length-begun = refl
 
+-- x, and then m
+pub begun-then : (x m : List ℕ) → added (added begun x) m ≡ added begun (x ++ m)
+begun-then x m = added-then begun x m length-begun
+
 -- m, given at once
 pub ended-once : (m : List ℕ) → ended (added begun m) ≡ sha384 m
 unfolding ended sha384 padded
-ended-once m = rw (count-begun m, added-then begun m (padding (length m)) length-begun, hash-begun (m ++ padding (length m)))
+ended-once m = rw (count-begun m, begun-then m (padding (length m)), hash-begun (m ++ padding (length m)))
 
 ended-after : (x : List ℕ) (ms : List (List ℕ)) → ended (addedAll (added begun x) ms) ≡ sha384 (x ++ together ms)
 unfolding addedAll together
 ended-after x [] = rw append-nil (ended-once x)
-ended-after x (m ∷ ms) = rw (added-then begun x m length-begun, ← append-assoc) (ended-after (x ++ m) ms)
+ended-after x (m ∷ ms) = rw (begun-then x m, ← append-assoc) (ended-after (x ++ m) ms)
 
 nothing-added : begun ≡ added begun []
 unfolding begun added taken hashed

@@ -1,10 +1,10 @@
--- `agreement::byte_of` meets its contract.
+-- `put::byte_of` meets its contract.
 -- Assumes nothing.
 use native.Mathlib.Omega.{arith}
 use Rattle.text.proofs.Hexadecimal.{valued}
 use borrow.Author.Needs.{needs}
-use Rattle.agreement.proofs.byte_of.Statement.{statement}
-use Rattle.agreement.proofs.byte_of.Tie as tie
+use Rattle.put.proofs.byte_of.Statement.{statement}
+use Rattle.put.proofs.byte_of.Tie as tie
 
 hex-value-requires : tie.Need-hex-value-requires
 hex-value-requires c κs = search needs

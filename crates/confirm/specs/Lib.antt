@@ -1,0 +1,2 @@
+pub mod Confirm
+pub mod Steps
