@@ -6,8 +6,8 @@ use mathlib.Core.Bool.{Bool, true, false, _&&_}
 use mathlib.Core.List.{[], _∷_}
 use native.Mathlib.Omega.{arith}
 use native.Mathlib.Numerals.{add-one}
-use lib.ListN.{length, drop, getD, replicate, drop-of-length-le}
-use lib.Seq.{drop-cons}
+use lib.ListN.{length, take, drop, getD, replicate, drop-of-length-le}
+use lib.Seq.{drop-cons, take-all}
 use lib.Bits.{bitOr, bitXor, bitAnd, or-add-and, xor-add-and, and-le-l, and-le-r, or-zero-l, xor-self}
 use lib.Dec.{T, eqb, eqb→eq, eqb-refl}
 use mir.Facts.{and-yes, yes-and}
@@ -18,7 +18,7 @@ use Rattle.text.proofs.Types.{hex-length, hex-characters}
 use Rattle.text.proofs.Hexadecimal.{AreBytes, decode-encode, encode-decode}
 use Rattle.put.specs.Put.{Puts}
 use Rattle.put.specs.Decoded.{decoded}
-use Rattle.put.proofs.Pieces.{put-fills}
+use Rattle.put.proofs.Pieces.{put-of, put-fills}
 use Rattle.put.proofs.Decoding.{hex-decoded, hex-bytes}
 
 both-ways : (a b : Bool) → (T a → T b) → (T b → T a) → a ≡ b
@@ -91,7 +91,14 @@ same-said f t h b = both-ways (same (base16Decode f) t) (same f (base16 t)) up d
     down s = rw (ap base16Decode (same→eq f (base16 t) s) ∙ decode-encode t b) (same-refl t)
 
 -- a MacTag, decoded, fills an array of 24 bytes
-pub decoded-tag : (f : Bytes) {o : Bytes} {r : ℕ} → T (isHex 48 f) → Puts (replicate 24 0) 0 (decoded f) o r → o ≡ base16Decode f
-decoded-tag f h p =
-    let e = hex-decoded 48 f h in
-    put-fills (ap length e ∙ hex-bytes 48 f h) p ∙ e
+module _ (f : Bytes) {o : Bytes} {r : ℕ} (h : T (isHex 48 f)) (p : Puts (replicate 24 0) 0 (decoded f) o r) where
+  abbrev size : length (decoded f) ≡ 24
+  size = ap length (hex-decoded 48 f h) ∙ hex-bytes 48 f h
+
+  pub tag-length : r ≡ 24
+  tag-length = omega (arith, put-of (omega (arith, size)) p .next, size)
+
+  pub decoded-tag : take r o ≡ base16Decode f
+  decoded-tag =
+      let e : o ≡ base16Decode f = put-fills size p ∙ hex-decoded 48 f h in
+      rw (e, tag-length) (take-all 24 (base16Decode f) (omega (arith, hex-bytes 48 f h)))

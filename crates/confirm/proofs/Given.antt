@@ -29,7 +29,7 @@ module _ (s : Sha384) (l : length (s .block) ≡ 128) where
   given-two x y e f = f ∙ ap (λ (h : Sha384). added h y) e ∙ added-then s x y l
 
 -- in the array of a point the length stands before it
-pub point-array : (q : Bytes) {o : Bytes} {r : ℕ} → T (isHex 194 q) → Puts (replicate 98 97) 1 (decoded q) o r → o ≡ lvItem (base16Decode q)
+pub point-array : (q : Bytes) {o : Bytes} {r : ℕ} → T (isHex 194 q) → Puts (97 ∷ replicate 97 0) 1 (decoded q) o r → o ≡ lvItem (base16Decode q)
 point-array q t p =
     let n : length (decoded q) ≡ 97 = ap length (hex-decoded 194 q t) ∙ point-bytes q t in
     put-of (omega (arith, n)) p .written ∙ rw n (ap (λ (x : Bytes). 97 ∷ x) (append-nil (decoded q)) ∙ point-item q t)

@@ -86,11 +86,12 @@ fn are_same(a: &[u8], b: &[u8]) -> bool
 }
 
 // Whether a MacTag says this tag. It is the MacTag that is decoded, because making characters of the tag would take branches on it.
+// As many bytes are compared as were decoded, which are all of them: LLVM is not to know how many, or it makes constants for them.
 pub(crate) fn is_tag(mac_tag: &[u8], tag: &[u8]) -> bool
     requires { ⌜ T (isHex 48 (now «mac_tag»)) × (length (now tag) ≡ 24) ⌝ }
     ensures { λ r. ⌜ r ≡ same (base16Decode (now («mac_tag» .entry))) (now (tag .entry)) ⌝ }
 {
     let mut said = [0u8; 24];
-    put::put_decoded(&mut said, 0, mac_tag);
-    are_same(&said, tag)
+    let len = put::put_decoded(&mut said, 0, mac_tag);
+    are_same(&said[..len], tag)
 }

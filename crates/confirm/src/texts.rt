@@ -23,7 +23,8 @@ fn add_point(hash: sha384::Sha384, point: &[u8]) -> sha384::Sha384
     requires { ⌜ T (isHex 194 (now point)) ⌝ }
     ensures { λ r. ⌜ r ≡ added hash (lvItem (base16Decode (now (point .entry)))) ⌝ }
 {
-    let mut item = [agreement::POINT_BYTES as u8; 98];
+    let mut item = [0u8; 98];
+    item[0] = agreement::POINT_BYTES as u8;
     put::put_decoded(&mut item, 1, point);
     hash.add(&item)
 }

@@ -11,6 +11,9 @@ use Rattle.confirm.proofs.texts.add_point.Tie as tie
 cast-item : tie.Need-cast-item
 cast-item c = search needs
 
+array-write-item : tie.Need-array-write-item
+array-write-item c = search needs
+
 slice-aggregate-put-decoded : tie.Need-slice-aggregate-put-decoded
 slice-aggregate-put-decoded c = search needs
 
@@ -31,6 +34,7 @@ add-point-spec =
     tie.close
     (tie.spec
     cast-item
+    array-write-item
     slice-aggregate-put-decoded
     put-decoded-requires
     slice-aggregate-add
