@@ -44,6 +44,22 @@ pub fn centre_text(request: &[u8], output: &mut [u8]) -> Result<usize, Refusal> 
     put(&join(&[b"V2", id_kmc, id_sm, tvp, &qe]), output)
 }
 
+/// A call that writes a text of a load request.
+pub type TextCall = fn(&[u8], &mut [u8]) -> Result<usize, Refusal>;
+
+/// The whole of a text, by the call that writes it.
+///
+/// # Panics
+///
+/// When the request is refused.
+pub fn text_of(call: TextCall, request: &[u8]) -> Vec<u8> {
+    // A request is longer than each of its texts.
+    let mut output = vec![0; request.len()];
+    let length = call(request, &mut output).expect("an accepted request");
+    output.truncate(length);
+    output
+}
+
 /// LVCONCAT: the number of items, then each item after its length.
 ///
 /// # Panics

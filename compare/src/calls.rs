@@ -3,7 +3,9 @@
 use crate::cases::{Answer, Case};
 use compare::crc::crc16;
 use compare::sha384::sha384;
-use compare::{agreement, attributes, build, file, fingerprint, newer, record, text};
+use compare::{
+    agreement, attributes, build, confirm, file, fingerprint, hmac, newer, record, text,
+};
 
 /// One call of the library.
 pub struct Call {
@@ -86,6 +88,13 @@ calls! {
     CheckFingerprint "check_fingerprint" |case| case.verdict(fingerprint::check(&case.a));
     WriteFingerprint "write_fingerprint" |case| {
         case.output(|output| fingerprint::write(&case.a, output))
+    };
+    Hmac "hmac_of" |case| case.values(&hmac::tag(&case.a, &case.b).map(u64::from));
+    ConfirmRequest "confirm_request" |case| {
+        case.keys(|mac_key, kek| confirm::request(&case.a, &case.b, mac_key, kek))
+    };
+    ConfirmResponse "confirm_response" |case| {
+        case.confirmed(confirm::response(&case.a, &case.b, &case.c))
     };
 }
 

@@ -3,6 +3,7 @@
 //! A case makes its call once, or for every byte value in one place of its text.
 
 use crate::calls::Op;
+use compare::confirm::Refused;
 use compare::crc::crc16;
 use compare::file::{Line, Step};
 use compare::kind::{Kind, MOST_FIELDS, NONE};
@@ -196,11 +197,29 @@ impl Case {
         &self,
         call: impl FnOnce(&mut [u8]) -> Result<usize, Refusal>,
     ) -> (Result<usize, Refusal>, Vec<u8>) {
-        let room = self.n as usize;
-        assert!(room <= LONGEST_OUTPUT, "an output of {room} bytes");
-        let mut output = lent_before().to_vec();
-        output.resize(room, 0);
+        let mut output = lendable(self.n, LONGEST_OUTPUT);
         (call(&mut output), output)
+    }
+
+    /// The answer of a call that says whether a tag is right: which record is refused, 1 or 2, and 0
+    /// with all that is not about one record by itself.
+    pub fn confirmed(&self, answer: Result<(), Refused>) -> Answer {
+        self.with_which(answer, &[])
+    }
+
+    /// The same, and the checks of the whole outputs, where the call writes to two: one of n bytes, and
+    /// one of as many as c says.
+    pub fn keys(&self, call: impl FnOnce(&mut [u8], &mut [u8]) -> Result<(), Refused>) -> Answer {
+        let rooms = [self.n, self.numbers()[0]];
+        let [mut first, mut second] = rooms.map(|room| lendable(room, LONGEST_KEY_OUTPUT));
+        let answer = call(&mut first, &mut second);
+        self.with_which(answer, &[first, second].map(|output| crc16(&output).into()))
+    }
+
+    fn with_which(&self, answer: Result<(), Refused>, more: &[u64]) -> Answer {
+        let which = answer.map_or_else(|refused| refused.which, |()| 0);
+        let answer = answer.map_err(|refused| refused.refusal);
+        self.outcome(b"", answer, &[&[which], more].concat())
     }
 
     fn wrote(&self, text: &[u8], written: Result<usize, Refusal>, output: &[u8]) -> Answer {
@@ -229,8 +248,20 @@ fn digest(bytes: &[u8]) -> [u64; 2] {
     [bytes.len() as u64, crc16(bytes).into()]
 }
 
+/// An output of so many bytes as it is before the call.
+fn lendable(room: u64, longest: usize) -> Vec<u8> {
+    let room = room as usize;
+    assert!(room <= longest, "an output of {room} bytes");
+    let mut output = lent_before().to_vec();
+    output.resize(room, 0);
+    output
+}
+
 /// The longest output that `crates/cases` lends.
 const LONGEST_OUTPUT: usize = 66_560;
+
+/// The longest that it lends for a key.
+const LONGEST_KEY_OUTPUT: usize = 1024;
 
 /// What a lent output holds before the call, as far as it goes: 7 i + 3 modulo 256 at place i. Behind
 /// it there are zeros.
@@ -242,7 +273,7 @@ pub fn lent_before() -> [u8; 1024] {
 mod tests {
     use super::*;
     use compare::sha384::sha384;
-    use compare::text::check_text;
+    use compare::text::{base16_decode, check_text};
     use compare::worked::worked;
 
     fn line(op: Op, n: u64, parts: [&[u8]; 3]) -> String {
@@ -262,6 +293,9 @@ mod tests {
         assert_eq!(Op::Sha384State.number(), 33);
         assert_eq!(Op::CheckFingerprint.number(), 34);
         assert_eq!(Op::WriteFingerprint.number(), 35);
+        assert_eq!(Op::Hmac.number(), 36);
+        assert_eq!(Op::ConfirmRequest.number(), 37);
+        assert_eq!(Op::ConfirmResponse.number(), 38);
     }
 
     #[test]
@@ -323,6 +357,39 @@ mod tests {
         assert_eq!(line(Op::WriteFingerprint, 16, [&key, no, no]), written);
         let short = format!("write_fingerprint 10 0 0 {}", crc16(&lent_before()[..15]));
         assert_eq!(line(Op::WriteFingerprint, 15, [&key, no, no]), short);
+    }
+
+    #[test]
+    fn an_hmac_is_the_numbers_of_its_first_24_bytes() {
+        let no: &[u8] = &[];
+        let tag = worked("MACTAG_SM");
+        let tag: String = base16_decode(&tag).unwrap().iter().map(|b| format!(" {b}")).collect();
+        assert!(tag.starts_with(" 190 108 180 ") && tag.ends_with(" 87 120"));
+        let said = line(Op::Hmac, 0, [&worked("MACKEY"), &worked("MACDATA_SM"), no]);
+        assert_eq!(said, format!("hmac_of{tag}"));
+    }
+
+    #[test]
+    fn a_confirmation_names_the_record_and_the_checks_of_both_outputs() {
+        let room = |length: u64| length.to_be_bytes();
+        let (z, request) = (worked("Z"), worked("VKLOADREQ"));
+        let untouched = |length: usize| crc16(&lent_before()[..length]);
+        let [mac_key, kek] = ["MACKEY", "KEK"]
+            .map(|name| crc16(&[&worked(name)[..], &lent_before()[24..26]].concat()));
+        let right = line(Op::ConfirmRequest, 26, [&z, &request, &room(26)]);
+        assert_eq!(right, format!("confirm_request 0 0 0 {mac_key} {kek}"));
+        let short = line(Op::ConfirmRequest, 24, [&z, &request, &room(23)]);
+        let checks = format!("{} {}", untouched(24), untouched(23));
+        assert_eq!(short, format!("confirm_request 10 0 0 {checks}"));
+        let refused = line(Op::ConfirmRequest, 0, [&z, b"x", &room(1024)]);
+        assert_eq!(refused, format!("confirm_request 2 0 1 65535 {}", untouched(1024)));
+
+        let response = worked("VKLOADRESP");
+        let said = |parts| line(Op::ConfirmResponse, 0, parts);
+        assert_eq!(said([&z, &request, &response]), "confirm_response 0 0 0");
+        assert_eq!(said([&z, b"x", &response]), "confirm_response 2 0 1");
+        assert_eq!(said([&z, &request, b"x"]), "confirm_response 2 0 2");
+        assert_eq!(said([b"x", &request, &response]), "confirm_response 16 0 0");
     }
 
     #[test]

@@ -3,8 +3,9 @@
 //! It covers identities, public keys, load requests, load responses and wrapped keys: reading,
 //! checking and building them, the attributes of a wrapped key, the three key agreement texts of a
 //! load request, the walk over a file of records and its list, the choice of the newer of two public
-//! keys, SHA-384, and the Fingerprint of a public key. What it takes inside is its own: only the
-//! library's calls for users and its lister are answered.
+//! keys, SHA-384, the Fingerprint of a public key, HMAC-SHA-384-192, and the keys and confirmation
+//! tags of a load request and its response. What it takes inside is its own: only the library's calls
+//! for users and its lister are answered.
 //!
 //! It shares no line with the library that it is held against, and it is written for plain
 //! reading rather than for proof: slices, iterators, `Result`. Two implementations that come from
@@ -25,6 +26,8 @@
 //! | [`newer`] | the chooser |
 //! | [`sha384`] | SHA-384 |
 //! | [`fingerprint`] | fingerprints of public keys |
+//! | [`hmac`] | HMAC-SHA-384-192 |
+//! | [`confirm`] | MacKey, KEK and confirmation tags |
 //! | [`random`] | the numbers that inputs are drawn by |
 //! | [`sample`] | inputs: permitted records, faults, damage |
 //! | [`worked`] | the worked values of the documents |
@@ -34,9 +37,11 @@ mod frame;
 pub mod agreement;
 pub mod attributes;
 pub mod build;
+pub mod confirm;
 pub mod crc;
 pub mod file;
 pub mod fingerprint;
+pub mod hmac;
 pub mod kind;
 pub mod listing;
 pub mod newer;

@@ -33,6 +33,12 @@ pub enum Refusal {
     WrongAttributes,
     /// 15: the Fingerprint in the Subject is not that of the public key.
     FingerprintDiffers,
+    /// 16: Z is not 96 bytes.
+    WrongZ,
+    /// 17: the response's identities or TVP differ from the request's.
+    OtherRequest,
+    /// 18: the tag differs.
+    TagDiffers,
 }
 
 impl Refusal {
@@ -54,6 +60,9 @@ impl Refusal {
             Refusal::OtherSubject => 13,
             Refusal::WrongAttributes => 14,
             Refusal::FingerprintDiffers => 15,
+            Refusal::WrongZ => 16,
+            Refusal::OtherRequest => 17,
+            Refusal::TagDiffers => 18,
         }
     }
 

@@ -59,11 +59,11 @@ fn other(character: u8) -> u8 {
 }
 
 /// Another character in one place.
-fn change(text: &mut [u8], place: usize) {
+pub(super) fn change(text: &mut [u8], place: usize) {
     text[place] = other(text[place]);
 }
 
-fn change_last(text: &mut [u8]) {
+pub(super) fn change_last(text: &mut [u8]) {
     change(text, text.len() - 1);
 }
 

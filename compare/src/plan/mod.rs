@@ -5,11 +5,13 @@ mod agreement;
 mod alphabets;
 mod attributes;
 mod building;
+mod confirmations;
 mod dates;
 mod fields;
 mod files;
 mod fingerprints;
 mod hashes;
+mod hmacs;
 mod lists;
 mod long;
 mod newer;
@@ -50,6 +52,8 @@ pub fn all() -> Vec<Case> {
         dates::add,
         hashes::add,
         fingerprints::add,
+        hmacs::add,
+        confirmations::add,
     ];
     let mut plan = Plan { cases: Vec::new(), random: Random::with_seed(0) };
     for (seed, add) in (1..).zip(groups) {

@@ -4,6 +4,7 @@
 
 mod cards;
 mod damage;
+mod exchange;
 mod fault;
 mod input;
 mod list_fault;
@@ -12,6 +13,7 @@ mod subject;
 
 pub use cards::{printable, wrapped_key, wrapped_key_fields, Cards};
 pub use damage::{damaged, damaged_anywhere, Place};
+pub use exchange::Exchange;
 pub use fault::{faulty, faulty_fields, finished, with_a_wrong_field, Fault};
 pub use input::{anything, file, line};
 pub use list_fault::{faulty_list, ListFault};
