@@ -2,8 +2,8 @@
  * Calls every function of the header, on what is accepted and on what is refused, and compares everything that it answers and
  * leaves in an output. The exit status is 1 if anything is not as expected; the last line says how many comparisons were made.
  *
- * Here stand records and texts. Wrapped keys and their attributes stand in wrapped.c; SHA-384 and Fingerprints in hashes.c; the
- * check, the text types, files and names in parts.c.
+ * Here stand records and texts. Wrapped keys and their attributes stand in wrapped.c; SHA-384 and Fingerprints in hashes.c;
+ * HMAC and the tags of a key agreement in confirmations.c; the check, the text types, files and names in parts.c.
  */
 #include "expect.h"
 #include "worked.h"
@@ -33,6 +33,41 @@ bool untouched(const uint8_t *out, size_t from, size_t to)
         }
     }
     return true;
+}
+
+bool are_digits_of(const uint8_t *bytes, size_t len, const char *digits)
+{
+    bool are_same = strlen(digits) == 2 * len;
+    for (size_t i = 0; are_same && i < len; i++) {
+        char pair[3];
+        (void)snprintf(pair, sizeof pair, "%02X", (unsigned)bytes[i]);
+        are_same = memcmp(pair, digits + 2 * i, 2) == 0;
+    }
+    return are_same;
+}
+
+void seal(char *text, size_t len)
+{
+    char check[5];
+    (void)snprintf(check, sizeof check, "%04X", (unsigned)obscurlane_crc_of((const uint8_t *)text, len - 4));
+    memcpy(text + len - 4, check, 4);
+}
+
+size_t write_with(const char *record, const char *old, const char *with, char out[ROOM])
+{
+    const char *at = strstr(record, old);
+    EXPECT(at != NULL);
+    int len = snprintf(out, ROOM, "%.*s%s%s", (int)(at - record), record, with, at + strlen(old));
+    EXPECT(len > 0 && len < ROOM);
+    char *field = out, *end;
+    while ((end = strchr(field, '|')) != NULL) {
+        if (memchr(field, ':', (size_t)(end - field)) != NULL) {
+            seal(field, (size_t)(end - field));
+        }
+        field = end + 1;
+    }
+    seal(out, (size_t)len);
+    return (size_t)len;
 }
 
 /* ---- samples, taken apart and put together by their marks alone */
@@ -460,6 +495,7 @@ int main(void)
     newer();
     call_for_wrapped_keys();
     call_for_hashes();
+    call_for_confirmations();
     call_parts();
     printf("every function: %lu as expected\n", expectations);
     return EXIT_SUCCESS;

@@ -1,5 +1,5 @@
-/* Reads the load request of the worked example once, prints its fields by their names, and makes its three texts; then prints
- * the attributes of its second wrapped key, and the Fingerprint of the centre's public key. */
+/* Reads the load request of the worked example once, prints its fields by their names, makes its three texts and says whether
+ * its tag is right; then prints the attributes of its second wrapped key, and the Fingerprint of the centre's public key. */
 #include "obscurlane.h"
 #include "worked.h"
 
@@ -13,6 +13,16 @@ static const size_t key_len = sizeof key - 1;
 static void print_text(const char *name, obscurlane_written made)
 {
     printf("%s: %s, %zu bytes\n", name, obscurlane_reason(made.no), made.len);
+}
+
+/* Whether the request was made with this Z; then its two keys are there. */
+static void print_confirmation(void)
+{
+    static const char z[] = WORKED_Z;
+    uint8_t mac_key[OBSCURLANE_KEY_BYTES], kek[OBSCURLANE_KEY_BYTES];
+    obscurlane_confirmed said = obscurlane_confirm_request((const uint8_t *)z, OBSCURLANE_Z_BYTES, (const uint8_t *)request,
+                                                           request_len, mac_key, sizeof mac_key, kek, sizeof kek);
+    printf("MacTag: %s\n", obscurlane_reason(said.no));
 }
 
 /* The name is the first three characters of a card, the value all others. */
@@ -64,6 +74,7 @@ int main(void)
     print_text("SharedInfo", obscurlane_shared_info(bytes, request_len, text, sizeof text));
     print_text("module text", obscurlane_module_text(bytes, request_len, text, sizeof text));
     print_text("centre text", obscurlane_centre_text(bytes, request_len, text, sizeof text));
+    print_confirmation();
 
     printf("%s, its attributes\n", obscurlane_kind_name(OBSCURLANE_KIND_KEY));
     print_attributes();

@@ -1,4 +1,5 @@
-/* What the files of the test of every function share: every.c, wrapped.c, hashes.c and parts.c. */
+/* What the files of the test of every function share: every.c, wrapped.c, hashes.c, confirmations.c and
+ * parts.c. */
 #ifndef EXPECT_H
 #define EXPECT_H
 
@@ -14,17 +15,32 @@
 /* What stands in a lent output before a call. */
 #define UNTOUCHED 0xA5
 
+/* Room for a record of more bytes than are read. */
+enum { ROOM = OBSCURLANE_LONGEST_READ + 16 };
+
 /* Counts the comparison, and ends the program where it does not hold. */
 void expect(bool holds, const char *what, const char *file, int line);
 
 /* Every byte from `from` to before `to` is as it was lent. */
 bool untouched(const uint8_t *out, size_t from, size_t to);
 
+/* The bytes are those of the HEX characters. */
+bool are_digits_of(const uint8_t *bytes, size_t len, const char *digits);
+
+/* Makes the check at the end of a record or identity right. */
+void seal(char *text, size_t len);
+
+/* The record with one text in the place of another, and its identities' checks and its own made right again; its length. */
+size_t write_with(const char *record, const char *old, const char *with, char out[ROOM]);
+
 /* Calls the functions for attributes, and those that read or build on wrapped keys. */
 void call_for_wrapped_keys(void);
 
 /* Calls the functions for SHA-384 and for Fingerprints. */
 void call_for_hashes(void);
+
+/* Calls the functions for HMAC and for the tags that confirm a key agreement. */
+void call_for_confirmations(void);
 
 /* Calls the functions for the check, the text types and files, and those for names. */
 void call_parts(void);

@@ -20,11 +20,7 @@ static bool are_same(obscurlane_digest a, obscurlane_digest b)
 
 static bool is_hash(obscurlane_digest digest, const char *digits)
 {
-    char text[2 * sizeof digest.bytes + 1];
-    for (size_t i = 0; i < sizeof digest.bytes; i++) {
-        (void)snprintf(text + 2 * i, 3, "%02X", (unsigned)digest.bytes[i]);
-    }
-    return strcmp(text, digits) == 0;
+    return are_digits_of(digest.bytes, sizeof digest.bytes, digits);
 }
 
 static const struct {
@@ -155,7 +151,7 @@ static void states_of_any_bytes(void)
 
 /* ---- Fingerprints */
 
-enum { PRINT = OBSCURLANE_LONGEST_FINGERPRINT, ROOM = OBSCURLANE_LONGEST_READ + 2 };
+enum { PRINT = OBSCURLANE_LONGEST_FINGERPRINT };
 
 /* No room, one byte too few, just the room, and more. */
 static const size_t rooms[] = {0, PRINT - 1, PRINT, PRINT + 1};
@@ -222,26 +218,6 @@ static void worked_prints(void)
 }
 
 /* ---- keys in which something is changed */
-
-static void seal(char *text, size_t len)
-{
-    char check[5];
-    (void)snprintf(check, sizeof check, "%04X", (unsigned)obscurlane_crc_of((const uint8_t *)text, len - 4));
-    memcpy(text + len - 4, check, 4);
-}
-
-/* The key with one text in the place of another, and its Subject's check and its own made right again; its length. */
-static size_t write_with(const char *key, const char *old, const char *with, char out[ROOM])
-{
-    const char *at = strstr(key, old);
-    EXPECT(at != NULL);
-    int len = snprintf(out, ROOM, "%.*s%s%s", (int)(at - key), key, with, at + strlen(old));
-    EXPECT(len > 0 && len < ROOM);
-    char *subject = strchr(out, '|') + 1;
-    seal(subject, (size_t)(strchr(subject, '|') - subject));
-    seal(out, (size_t)len);
-    return (size_t)len;
-}
 
 /* Every character of a Fingerprint. */
 static void changed_prints(void)

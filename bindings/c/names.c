@@ -20,6 +20,9 @@ static const char *const reasons[] = {
     [OBSCURLANE_NOT_ALIKE] = "the Subjects of the two keys differ in kind, Manufacturer or MID",
     [OBSCURLANE_WRONG_ATTRIBUTES] = "the attribute list is not one that clause 7.5.1 or Appendix B permits",
     [OBSCURLANE_WRONG_FINGERPRINT] = "the Fingerprint in the Subject is not the right one",
+    [OBSCURLANE_WRONG_Z] = "Z is not 96 bytes",
+    [OBSCURLANE_OTHER_REQUEST] = "the response's identities or TVP differ from the request's",
+    [OBSCURLANE_WRONG_TAG] = "the tag differs",
 };
 
 struct kind {

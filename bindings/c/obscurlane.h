@@ -1,6 +1,7 @@
 /*
  * Obscurlane: reading, checking and building the identity, public key, load request, load response and wrapped key records
- * of STS 600-4-2, the texts that a key agreement hashes, and SHA-384 with the Fingerprints that are made by it.
+ * of STS 600-4-2, the texts that a key agreement hashes, the tags that confirm it, and SHA-384 with the Fingerprints that are
+ * made by it.
  *
  * Link with libexports.a, which `bindings/archive` proves, compiles for the machine that it runs on and puts into
  * target/staticlib/; or with the one that `bindings/archive module` puts into target/module/target/staticlib/, which has the
@@ -24,8 +25,8 @@
  * - `field` is the number of the field that a refusal is about, and 0 where it is about none or nothing is refused.
  * - Starts and lengths are places in the bytes that were given: nothing is copied. With a refusal they are all 0, and every
  *   kind is OBSCURLANE_KIND_NONE. (A line of a file has its place whatever its answer.)
- * - With a refusal an output is as it was, every byte. Where a text or record is written, it stands at the front, and the
- *   bytes past its length are as they were.
+ * - With a refusal an output is as it was, every byte. Where a text, record or key is written, it stands at the front,
+ *   and the bytes past its length are as they were.
  * - Fields, attributes and items are counted from 1, so field n of an answer is its starts[n - 1] and lens[n - 1]. Starts and
  *   places are counted from 0.
  *
@@ -39,10 +40,10 @@
 #include <stddef.h>
 #include <stdint.h>
 
-#define OBSCURLANE_VERSION "0.5.1"
+#define OBSCURLANE_VERSION "0.6.0"
 #define OBSCURLANE_VERSION_MAJOR 0
-#define OBSCURLANE_VERSION_MINOR 5
-#define OBSCURLANE_VERSION_PATCH 1
+#define OBSCURLANE_VERSION_MINOR 6
+#define OBSCURLANE_VERSION_PATCH 0
 
 #ifdef __cplusplus
 extern "C" {
@@ -84,7 +85,13 @@ enum {
     /* The attribute list is not one that clause 7.5.1 or Appendix B permits. */
     OBSCURLANE_WRONG_ATTRIBUTES = 14,
     /* The Fingerprint in the Subject is not the right one. */
-    OBSCURLANE_WRONG_FINGERPRINT = 15
+    OBSCURLANE_WRONG_FINGERPRINT = 15,
+    /* Z is not 96 bytes. */
+    OBSCURLANE_WRONG_Z = 16,
+    /* The response's identities or TVP differ from the request's. */
+    OBSCURLANE_OTHER_REQUEST = 17,
+    /* The tag differs. */
+    OBSCURLANE_WRONG_TAG = 18
 };
 
 /*
@@ -186,7 +193,11 @@ enum {
                                      1 + OBSCURLANE_LONGEST_IDENT + 1 + OBSCURLANE_LONGEST_IDENT,
     OBSCURLANE_LONGEST_CENTRE_TEXT = 1 + 3 + 1 + OBSCURLANE_LONGEST_IDENTITY + OBSCURLANE_LONGEST_IDENTITY + 17 + 98,
     /* The longest Fingerprint: all have this length. */
-    OBSCURLANE_LONGEST_FINGERPRINT = 16
+    OBSCURLANE_LONGEST_FINGERPRINT = 16,
+    /* Z, the shared value of a key agreement, has just so many bytes. */
+    OBSCURLANE_Z_BYTES = 96,
+    /* MacKey and KEK have so many each: an output for one of them is enough with these. */
+    OBSCURLANE_KEY_BYTES = 24
 };
 
 /* ---- reading */
@@ -376,6 +387,51 @@ obscurlane_sha384_state obscurlane_sha384_begin(void);
 obscurlane_sha384_state obscurlane_sha384_add(obscurlane_sha384_state state, const uint8_t *bytes, size_t bytes_len);
 obscurlane_digest obscurlane_sha384_end(obscurlane_sha384_state state);
 
+/* ---- HMAC-SHA-384-192: the leftmost 24 bytes of HMAC with SHA-384, as FIPS 198-1 defines it */
+
+/* The 24 bytes of a tag. */
+typedef struct {
+    uint8_t bytes[24];
+} obscurlane_tag;
+
+/* The tag of a text under a key. Both may be of any length, and a key longer than 128 bytes is hashed first. */
+obscurlane_tag obscurlane_hmac_of(const uint8_t *key, size_t key_len, const uint8_t *text, size_t text_len);
+
+/*
+ * ---- the tags that confirm a key agreement
+ *
+ * MacKey and KEK come from Z, the shared value of OBSCURLANE_Z_BYTES bytes, and from a load request: they are the first and the
+ * last 24 bytes of the SHA-384 of Z, of the bytes 00 00 00 01 and of SharedInfo. The request's MacTag is right where it is, as
+ * HEX(48), the tag of the module text under MacKey; a response's, the tag of the centre text.
+ *
+ * Z, MacKey and KEK are secret. What is promised of the time that the calls take, and of bytes that they leave on the stack,
+ * stands in docs/TRUST.md: a tag is compared over all of its 24 bytes, whichever differs first; beyond its length, no branch
+ * depends on Z but the answer 0 or OBSCURLANE_WRONG_TAG; and bytes of keys are not wiped from the stack.
+ */
+
+enum { OBSCURLANE_REQUEST = 1, OBSCURLANE_RESPONSE = 2 };
+
+/* `which` is OBSCURLANE_REQUEST or OBSCURLANE_RESPONSE with that record's own refusal. It is 0 otherwise, and so is `field`. */
+typedef struct {
+    uint8_t no;
+    uint8_t field;
+    uint8_t which;
+} obscurlane_confirmed;
+
+/* Whether the MacTag of a load request is right for Z; where it is, MacKey and KEK are written, and otherwise neither output is
+ * touched. Answers what obscurlane_read_record answers to the request, but OBSCURLANE_UNKNOWN_KIND for a record of another
+ * kind; then OBSCURLANE_WRONG_Z, OBSCURLANE_SHORT_OUTPUT for an output of fewer than OBSCURLANE_KEY_BYTES bytes, and
+ * OBSCURLANE_WRONG_TAG: 0 to 7, 9, 10, 16, or 18. */
+obscurlane_confirmed obscurlane_confirm_request(const uint8_t *z, size_t z_len, const uint8_t *request, size_t request_len,
+                                                uint8_t *mac_key, size_t mac_key_len, uint8_t *kek, size_t kek_len);
+
+/* Whether the MacTag of a load response is right for Z and for the request that it answers. The request's own MacTag is not
+ * looked at, and no key is written. Answers what obscurlane_read_record answers to the request, then to the response, but
+ * OBSCURLANE_UNKNOWN_KIND for a record of another kind; then OBSCURLANE_WRONG_Z, OBSCURLANE_OTHER_REQUEST where ID_KMC, ID_SM
+ * or TVP of the two differ in a byte, and OBSCURLANE_WRONG_TAG: 0 to 7, 9, or 16 to 18. */
+obscurlane_confirmed obscurlane_confirm_response(const uint8_t *z, size_t z_len, const uint8_t *request, size_t request_len,
+                                                 const uint8_t *response, size_t response_len);
+
 /* ---- the check, CRC16-MODBUS, which a record has as four HEX characters, the higher byte first */
 
 /* The check of the bytes; FFFF hex for none. */
@@ -412,7 +468,7 @@ bool obscurlane_is_print(const uint8_t *s, size_t s_len);
 
 /* ---- names, in names.c; every answer is a text that stays */
 
-/* A number in words, as "the check differs" for OBSCURLANE_WRONG_CHECK. A number above 15 has words of its own. */
+/* A number in words, as "the check differs" for OBSCURLANE_WRONG_CHECK. A number above 18 has words of its own. */
 const char *obscurlane_reason(uint8_t no);
 
 /* A kind's name, as "VKLOAD.REQ.1"; "none" for OBSCURLANE_KIND_NONE and any other number. */

@@ -5,9 +5,6 @@
 #include <stdio.h>
 #include <string.h>
 
-/* Room for a wrapped key of more bytes than are read. */
-enum { ROOM = OBSCURLANE_LONGEST_READ + 16 };
-
 /* The first wrapped key of the worked example by its fields. Its list has the required names alone. */
 #define NONCE "000000000000000000000001"
 #define LIST "ACT19930101T000000Z;BDT19930101T000000Z;DKG02;KEN255;KRN1;KTC2;SGC0000123456;"
