@@ -23,3 +23,7 @@ pub const LONGEST_MODULE_TEXT: usize = header::LONGEST_MODULE_TEXT;
 pub const LONGEST_CENTRE_TEXT: usize = header::LONGEST_CENTRE_TEXT;
 /// The longest Fingerprint: all have this length.
 pub const LONGEST_FINGERPRINT: usize = header::LONGEST_FINGERPRINT;
+/// Z, the shared value of a key agreement, has just so many bytes.
+pub const Z_BYTES: usize = header::Z_BYTES;
+/// MacKey and KEK have so many each: an output for one of them is enough with these.
+pub const KEY_BYTES: usize = header::KEY_BYTES;

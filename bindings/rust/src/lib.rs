@@ -14,10 +14,12 @@ mod agreement;
 mod attributes;
 mod building;
 mod check;
+mod confirm;
 pub mod field;
 mod files;
 mod fingerprint;
 mod hash;
+mod hmac;
 mod kind;
 mod lengths;
 mod newer;
@@ -34,13 +36,16 @@ pub use building::build;
 #[cfg(feature = "alloc")]
 pub use building::build_parts;
 pub use check::{crc_of, Crc};
+pub use confirm::{confirm_request, confirm_response, ConfirmRefusal};
 pub use files::{count, line_at, lines, Line, Lines, Totals};
 pub use fingerprint::{check_fingerprint, write_fingerprint};
 pub use hash::{sha384_of, Sha384};
+pub use hmac::hmac_of;
 pub use kind::Kind;
 pub use lengths::{
-    LONGEST_CENTRE_TEXT, LONGEST_FINGERPRINT, LONGEST_IDENT, LONGEST_IDENTITY, LONGEST_MODULE_TEXT,
-    LONGEST_PUBKEY, LONGEST_READ, LONGEST_RECORD, LONGEST_SHARED_INFO,
+    KEY_BYTES, LONGEST_CENTRE_TEXT, LONGEST_FINGERPRINT, LONGEST_IDENT, LONGEST_IDENTITY,
+    LONGEST_MODULE_TEXT, LONGEST_PUBKEY, LONGEST_READ, LONGEST_RECORD, LONGEST_SHARED_INFO,
+    Z_BYTES,
 };
 pub use newer::{newer, NewerRefusal};
 pub use record::{identity_field, record_field, Field, Fields, Record};

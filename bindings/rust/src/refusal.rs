@@ -48,6 +48,12 @@ pub enum Reason {
     WrongAttributes = 14,
     /// 15: the Fingerprint in the Subject is not the right one.
     WrongFingerprint = 15,
+    /// 16: Z is not 96 bytes.
+    WrongZ = 16,
+    /// 17: the response's identities or TVP differ from the request's.
+    OtherRequest = 17,
+    /// 18: the tag differs.
+    WrongTag = 18,
 }
 
 impl Reason {
@@ -68,6 +74,9 @@ impl Reason {
         Reason::NotAlike,
         Reason::WrongAttributes,
         Reason::WrongFingerprint,
+        Reason::WrongZ,
+        Reason::OtherRequest,
+        Reason::WrongTag,
     ];
 
     /// The number, from 1.
@@ -108,6 +117,9 @@ impl Reason {
                 "the attribute list is not one that clause 7.5.1 or Appendix B permits"
             }
             Reason::WrongFingerprint => "the Fingerprint in the Subject is not the right one",
+            Reason::WrongZ => "Z is not 96 bytes",
+            Reason::OtherRequest => "the response's identities or TVP differ from the request's",
+            Reason::WrongTag => "the tag differs",
         }
     }
 }

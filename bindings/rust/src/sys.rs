@@ -77,6 +77,20 @@ pub struct Digest {
     pub bytes: [u8; 48],
 }
 
+/// The bytes of a tag.
+#[repr(C)]
+pub struct Tag {
+    pub bytes: [u8; 24],
+}
+
+/// What is said of a request or a response, and with a refusal of its own which of the two is refused.
+#[repr(C)]
+pub struct Confirmed {
+    pub no: u8,
+    pub field: u8,
+    pub which: u8,
+}
+
 /// A hash value.
 #[derive(Clone, Copy, PartialEq, Eq, Hash)]
 #[repr(C)]
@@ -188,6 +202,26 @@ extern "C" {
     fn obscurlane_sha384_add(state: Sha384State, bytes: *const u8, bytes_len: usize)
         -> Sha384State;
     fn obscurlane_sha384_end(state: Sha384State) -> Digest;
+
+    fn obscurlane_hmac_of(key: *const u8, key_len: usize, text: *const u8, text_len: usize) -> Tag;
+    fn obscurlane_confirm_request(
+        z: *const u8,
+        z_len: usize,
+        request: *const u8,
+        request_len: usize,
+        mac_key: *mut u8,
+        mac_key_len: usize,
+        kek: *mut u8,
+        kek_len: usize,
+    ) -> Confirmed;
+    fn obscurlane_confirm_response(
+        z: *const u8,
+        z_len: usize,
+        request: *const u8,
+        request_len: usize,
+        response: *const u8,
+        response_len: usize,
+    ) -> Confirmed;
 }
 
 // ---- the check
@@ -411,4 +445,44 @@ pub fn sha384_add(state: Sha384State, bytes: &[u8]) -> Sha384State {
 pub fn sha384_end(state: Sha384State) -> Digest {
     // SAFETY: numbers alone.
     unsafe { obscurlane_sha384_end(state) }
+}
+
+// ---- HMAC, and the tags of a key agreement
+
+#[inline]
+pub fn hmac_of(key: &[u8], text: &[u8]) -> Tag {
+    // SAFETY: slices' pointers and lengths, which are only read.
+    unsafe { obscurlane_hmac_of(key.as_ptr(), key.len(), text.as_ptr(), text.len()) }
+}
+
+#[inline]
+pub fn confirm_request(z: &[u8], request: &[u8], mac_key: &mut [u8], kek: &mut [u8]) -> Confirmed {
+    // SAFETY: slices' pointers and lengths, and `mac_key` and `kek` overlap nothing.
+    unsafe {
+        obscurlane_confirm_request(
+            z.as_ptr(),
+            z.len(),
+            request.as_ptr(),
+            request.len(),
+            mac_key.as_mut_ptr(),
+            mac_key.len(),
+            kek.as_mut_ptr(),
+            kek.len(),
+        )
+    }
+}
+
+#[inline]
+pub fn confirm_response(z: &[u8], request: &[u8], response: &[u8]) -> Confirmed {
+    // SAFETY: slices' pointers and lengths, which are only read.
+    unsafe {
+        obscurlane_confirm_response(
+            z.as_ptr(),
+            z.len(),
+            request.as_ptr(),
+            request.len(),
+            response.as_ptr(),
+            response.len(),
+        )
+    }
 }

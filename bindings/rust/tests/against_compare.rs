@@ -7,15 +7,16 @@ mod held;
 use compare::kind::Kind;
 use compare::random::Random;
 use compare::refusal::Refusal as Expected;
-use compare::sample::{self, Fault, ListFault, Signed, Subject};
+use compare::sample::{self, Exchange, Fault, ListFault, Signed, Subject};
 use compare::{agreement, file, record, text};
 use held::attributes::{same_attribute, same_attributes, same_named};
+use held::confirm::{same_request, same_response};
 use held::reading::{same_identity, same_record};
 use held::{
     expect_share, expected, expected_at, expected_line, line_numbers, numbers, of_refusal, place,
-    rounds, same_output, Numbers, Seen,
+    rounds, same_output, NamedNumbers, Numbers, Seen,
 };
-use obscurlane::{Crc, NewerRefusal, Record, Refusal, LONGEST_RECORD};
+use obscurlane::{Crc, NewerRefusal, Record, Refusal, KEY_BYTES, LONGEST_RECORD, Z_BYTES};
 
 #[test]
 fn text_types() {
@@ -392,9 +393,6 @@ fn files() {
     }
 }
 
-/// A refusal and the record that it is about: 1 or 2, 0 where it is about both.
-type NamedNumbers = (u8, Numbers);
-
 fn named(refusal: NewerRefusal) -> NamedNumbers {
     match refusal {
         NewerRefusal::First(refusal) => (1, of_refusal(refusal)),
@@ -439,4 +437,70 @@ fn newer() {
     }
     seen.expect([0], 300);
     seen.expect([2, 13], 60);
+}
+
+#[test]
+fn tags() {
+    let mut random = Random::with_seed(16);
+    for _ in 0..rounds() {
+        let lengths = [0; 2].map(|_| random.below(300));
+        let [key, text] = lengths.map(|length| random.bytes(length));
+        let theirs = compare::hmac::tag(&key, &text);
+        assert_eq!(obscurlane::hmac_of(&key, &text), theirs, "{key:?} {text:?}");
+    }
+}
+
+/// A request and its response by their parts, of which Z or a tag may be wrong.
+fn any_exchange(random: &mut Random) -> Exchange {
+    let mut exchange = Exchange::any(random);
+    match random.below(8) {
+        0 => {
+            let length = random.one_of(&[0, Z_BYTES / 2, Z_BYTES - 1, Z_BYTES + 1, 2 * Z_BYTES]);
+            exchange.z = random.bytes(length);
+        }
+        1 => exchange.z = random.bytes(Z_BYTES),
+        2 => exchange.module_tag = sample::hex(random, text::MAC_DIGITS),
+        3 => exchange.centre_tag = sample::hex(random, text::MAC_DIGITS),
+        _ => {}
+    }
+    exchange
+}
+
+/// The record as it is, or with something wrong, or another one.
+fn any_of(random: &mut Random, kind: Kind, whole: Vec<u8>) -> Vec<u8> {
+    match random.below(8) {
+        0 => {
+            let fault = random.one_of(Fault::of(kind));
+            sample::faulty(random, kind, &[fault])
+        }
+        1 => sample::damaged_anywhere(random, &whole, 1),
+        2 => sample::resealed(&sample::damaged_anywhere(random, &whole, 1)),
+        3 if random.once_in(2) => sample::anything(random),
+        _ => whole,
+    }
+}
+
+#[test]
+fn confirmations() {
+    let mut random = Random::with_seed(17);
+    let mut seen = Seen::default();
+    for _ in 0..rounds() {
+        let mut exchange = any_exchange(&mut random);
+        let request = any_of(&mut random, Kind::VkloadReq, exchange.request());
+        match random.below(12) {
+            0 => exchange.tvp = sample::timestamp(&mut random),
+            1 => exchange.id_sm = sample::record(&mut random, Kind::Smid),
+            2 => exchange.id_kmc = sample::record(&mut random, Kind::Kmcid),
+            _ => {}
+        }
+        let response = any_of(&mut random, Kind::VkloadResp, exchange.response());
+        let rooms = [KEY_BYTES, KEY_BYTES, 64, 64, 64, KEY_BYTES - 1, 0];
+        let rooms = [0; 2].map(|_| random.one_of(&rooms));
+        let without_which = |(_, refusal)| refusal;
+        seen.add(&same_request(&exchange.z, &request, rooms).map_err(without_which));
+        let answer = same_response(&exchange.z, &request, &response);
+        seen.add(&answer.map_err(without_which));
+    }
+    seen.expect((0..=7).chain([9, 10, 16, 17, 18]), 9);
+    seen.expect([0, 18], 300);
 }

@@ -6,10 +6,11 @@ mod held;
 use compare::kind::{FieldType, Kind};
 use compare::random::Random;
 use compare::refusal::Refusal as Expected;
-use compare::sample::{self, Signed};
+use compare::sample::{self, Exchange, Signed};
 use compare::worked::worked;
 use compare::{agreement, file, record, text};
 use held::attributes::{same_attribute, same_attributes, same_named};
+use held::confirm::{same_request, same_response};
 use held::fingerprint::same_fingerprint;
 use held::reading::{same_identity, same_record};
 use held::{expected, expected_at, line_numbers, numbers, place, same_output};
@@ -78,6 +79,15 @@ fn hashes() {
     }
 }
 
+/// A key that is longer, and a text that is.
+#[test]
+fn tags() {
+    for bytes in longer(b"key") {
+        assert_eq!(obscurlane::hmac_of(&bytes, b"text"), compare::hmac::tag(&bytes, b"text"));
+        assert_eq!(obscurlane::hmac_of(b"key", &bytes), compare::hmac::tag(b"key", &bytes));
+    }
+}
+
 /// Whole records that are longer, and records of which one field is, with a right check.
 #[test]
 fn readings() {
@@ -99,6 +109,8 @@ fn readings() {
         assert_eq!(numbers(obscurlane::record_field(&bytes, 1)), Err((1, 0)));
         assert_eq!(same_attributes(&bytes), Err((1, 0)));
         assert_eq!(same_fingerprint(&bytes, 16), Err((1, 0)));
+        assert_eq!(same_request(&[7; 96], &bytes, [24; 2]), Err((1, (1, 0))));
+        assert_eq!(same_response(&[7; 96], &worked("VKLOADREQ"), &bytes), Err((2, (1, 0))));
     }
 }
 
@@ -142,6 +154,24 @@ fn fingerprints() {
     for room in [MORE, MORE + 1, MORE + 15, MORE + 16] {
         assert_eq!(same_fingerprint(&key, room), Err((15, 0)));
         assert_eq!(same_fingerprint(&worked("PUBKEY_KMC"), room), Ok(()));
+    }
+}
+
+/// A Z that is longer, and outputs whose lengths are short only modulo 65,536.
+#[test]
+fn confirmations() {
+    let exchange = Exchange::worked();
+    let (request, response) = (exchange.request(), exchange.response());
+    let zs = [longer(&exchange.z), longer(b"")].concat();
+    for z in zs {
+        assert_eq!(same_request(&z, &request, [24; 2]), Err((0, (16, 0))));
+        assert_eq!(same_response(&z, &request, &response), Err((0, (16, 0))));
+    }
+    for room in [MORE, MORE + 1, MORE + 23, MORE + 24] {
+        for rooms in [[room, 24], [24, room], [room, room]] {
+            assert_eq!(same_request(&exchange.z, &request, rooms), Ok(()));
+        }
+        assert_eq!(same_request(&exchange.z, &request, [room, 23]), Err((0, (10, 0))));
     }
 }
 

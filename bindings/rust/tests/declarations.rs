@@ -8,7 +8,7 @@ use std::path::{Path, PathBuf};
 
 /// The structs that are handed over: as `crates/exports` names them, and in C. `sys` has them by the words of the latter behind the
 /// first.
-const STRUCTS: [(&str, &str); 11] = [
+const STRUCTS: [(&str, &str); 13] = [
     ("reading::Answer", "obscurlane_answer"),
     ("fields::Place", "obscurlane_place"),
     ("put::Written", "obscurlane_written"),
@@ -20,6 +20,8 @@ const STRUCTS: [(&str, &str); 11] = [
     ("Digest", "obscurlane_digest"),
     ("sha384::Words", "obscurlane_sha384_words"),
     ("sha384::Sha384", "obscurlane_sha384_state"),
+    ("Tag", "obscurlane_tag"),
+    ("confirm::Confirmed", "obscurlane_confirmed"),
 ];
 
 // ---- the files
@@ -303,9 +305,14 @@ fn header_names() -> Vec<(String, String)> {
     names.collect()
 }
 
-/// The numbers of a group of the header's names, by the rest of each name.
+fn is_length(name: &str) -> bool {
+    name.starts_with("LONGEST_") || name.ends_with("_BYTES")
+}
+
+/// The numbers of a group of the header's names, by the rest of each name. Lengths are in no group.
 fn header_numbers(group: &str) -> BTreeMap<String, usize> {
-    let of_group = header_names().into_iter().filter_map(|(name, set)| {
+    let names = header_names().into_iter().filter(|(name, _)| !is_length(name));
+    let of_group = names.filter_map(|(name, set)| {
         let rest = name.strip_prefix(group)?.to_owned();
         Some((rest, set.parse().ok()?))
     });
@@ -336,7 +343,7 @@ fn hold<T: Ord + std::fmt::Debug>(declared: Vec<T>, exported: Vec<T>) {
 #[test]
 fn the_header_declares_every_function() {
     let mut there: Vec<String> = functions().iter().map(c_declaration).collect();
-    assert_eq!(there.len(), 33);
+    assert_eq!(there.len(), 36);
     there.extend(functions_of_c());
     hold(header_declarations(), there);
 }
@@ -454,14 +461,14 @@ fn the_crate_has_the_headers_fields() {
 #[test]
 fn the_crate_has_the_headers_reasons() {
     let mut others = header_numbers("");
-    let groups = FIELDS.map(|(group, _)| group).into_iter().chain(["KIND_", "LONGEST_"]);
+    let groups = FIELDS.map(|(group, _)| group).into_iter().chain(["KIND_"]);
     let groups: Vec<&str> = groups.collect();
     others.retain(|name, _| !groups.iter().any(|group| name.starts_with(group)));
     let others: BTreeMap<String, usize> =
         others.into_iter().map(|(name, no)| (in_rust(&name), no)).collect();
 
     let reasons = Reason::ALL.iter().map(|of| (format!("{of:?}"), usize::from(of.number())));
-    let and = [("Accepted", 0), ("First", 1), ("Second", 2)];
+    let and = [("Accepted", 0), ("First", 1), ("Second", 2), ("Request", 1), ("Response", 2)];
     let and = and.map(|(name, number)| (name.to_owned(), number));
     assert_eq!(others, reasons.chain(and).collect());
 }
@@ -487,7 +494,7 @@ fn the_crate_has_the_words_of_c() {
 fn every_length_is_taken_over_and_tried() {
     let taken = read("bindings/rust/src/lengths.rs");
     let tests = read("bindings/rust/tests/longest.rs");
-    for (name, _) in header_names().iter().filter(|(name, _)| name.starts_with("LONGEST_")) {
+    for (name, _) in header_names().iter().filter(|(name, _)| is_length(name)) {
         let constant = format!("pub const {name}: usize = header::{name};");
         assert!(taken.contains(&constant), "lengths.rs does not take over {name}");
         assert!(words(&tests).any(|word| word == name), "{name} is not tried");

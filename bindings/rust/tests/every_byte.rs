@@ -6,10 +6,11 @@ mod held;
 use compare::kind::{FieldType, Kind};
 use compare::random::Random;
 use compare::record;
-use compare::sample::{self, PublicKey};
+use compare::sample::{self, Exchange, PublicKey};
 use compare::worked::worked;
 use compare::{agreement, file, text};
 use held::attributes::{same_attributes, same_named};
+use held::confirm::{same_request, same_response};
 use held::fingerprint::same_fingerprint;
 use held::reading::{same_identity, same_record};
 use held::{expected, expected_at, line_numbers, numbers, place, same_output, Seen};
@@ -164,6 +165,63 @@ fn fingerprints() {
         });
     }
     seen.expect([0, 2, 5, 6, 7, 15], 10);
+}
+
+/// In every place of a key and of a text.
+#[test]
+fn tags() {
+    let bytes = Random::with_seed(66).bytes(24);
+    everywhere(&bytes, |changed| {
+        assert_eq!(obscurlane::hmac_of(changed, &bytes), compare::hmac::tag(changed, &bytes));
+        assert_eq!(obscurlane::hmac_of(&bytes, changed), compare::hmac::tag(&bytes, changed));
+    });
+}
+
+/// In every place of Z, and in a request, with the check made right again.
+#[test]
+fn confirmations() {
+    let exchange = Exchange::worked();
+    let (request, response) = (exchange.request(), exchange.response());
+    let mut seen = Seen::default();
+    let without_which = |(_, refusal)| refusal;
+    everywhere(&exchange.z, |z| {
+        assert_eq!(same_request(z, &request, [24; 2]).is_ok(), z == exchange.z);
+    });
+    for place in places(Kind::VkloadReq, &exchange.request_fields()) {
+        at_place(&request, place, |changed| {
+            let changed = sample::resealed(changed);
+            let asked = same_request(&exchange.z, &changed, [24; 2]);
+            seen.add(&asked.map_err(without_which));
+            let answered = same_response(&exchange.z, &changed, &response);
+            seen.add(&answered.map_err(without_which));
+        });
+    }
+    seen.expect([0, 2, 5, 6, 7, 17, 18], 10);
+}
+
+/// In the kinds of places that a response has, and in every place of its fields, with the check of an identity and its own made
+/// right again.
+#[test]
+fn responses_to_a_request() {
+    let exchange = Exchange::worked();
+    let mut seen = Seen::default();
+    for place in places(Kind::VkloadResp, &exchange.response_fields()) {
+        at_place(&exchange.response(), place, |changed| {
+            let response = sample::resealed(changed);
+            let answer = same_response(&exchange.z, &exchange.request(), &response);
+            seen.add(&answer.map_err(|(_, refusal)| refusal));
+        });
+    }
+    for index in 0..exchange.response_fields().len() {
+        let mut fields = exchange.response_fields();
+        everywhere(&exchange.response_fields()[index], |field| {
+            fields[index] = if index < 2 { sample::resealed(field) } else { field.to_vec() };
+            let response = sample::of_kind(Kind::VkloadResp, &fields);
+            let answer = same_response(&exchange.z, &exchange.request(), &response);
+            seen.add(&answer.map_err(|(_, refusal)| refusal));
+        });
+    }
+    seen.expect([0, 2, 5, 6, 7, 17, 18], 10);
 }
 
 /// First, middle and last place of every field.

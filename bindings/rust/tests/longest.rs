@@ -1,10 +1,12 @@
-//! Each `LONGEST_` constant is the length of the longest thing of its name: it is made, and one byte less is no room for it.
+//! Each `LONGEST_` constant is the length of the longest thing of its name: it is made, and one byte less is no room for it. Each
+//! `_BYTES` constant is the only length that there is of its name.
 //! What the table of kinds allows is computed by `compare/`.
 
 use compare::kind::{FieldType, Kind};
 use compare::random::Random;
-use compare::sample::{self, PublicKey};
-use obscurlane::{Reason, Record, Refusal, LONGEST_READ};
+use compare::sample::{self, Exchange, PublicKey};
+use obscurlane::{confirm_request, confirm_response, ConfirmRefusal};
+use obscurlane::{Reason, Record, Refusal, KEY_BYTES, LONGEST_READ, Z_BYTES};
 
 /// What a call writes with as much room as it takes; one byte less is no room.
 fn made(call: impl Fn(&mut [u8]) -> Result<usize, Refusal>) -> Vec<u8> {
@@ -124,6 +126,30 @@ fn fingerprints() {
         assert_eq!(print, shortest.right_print());
         assert_eq!(print.len(), obscurlane::LONGEST_FINGERPRINT);
     }
+}
+
+/// A byte less and a byte more are no Z; a byte less is no room for a key, and a byte more stays as it was.
+#[test]
+fn keys_and_what_they_come_from() {
+    let exchange = Exchange::any(&mut Random::with_seed(55));
+    let (request, response) = (exchange.request(), exchange.response());
+    let longer = [&exchange.z[..], b"Z"].concat();
+    let (mut mac_key, mut kek) = ([0xA5; KEY_BYTES + 1], [0xA5; KEY_BYTES + 1]);
+    for z in [&longer[..Z_BYTES - 1], &longer[..Z_BYTES + 1]] {
+        let refusal = Err(ConfirmRefusal::WrongZ);
+        assert_eq!(confirm_request(z, &request, &mut mac_key, &mut kek), refusal);
+        assert_eq!(confirm_response(z, &request, &response), refusal);
+    }
+    let z = &longer[..Z_BYTES];
+    assert_eq!(confirm_response(z, &request, &response), Ok(()));
+    let refusal = Err(ConfirmRefusal::ShortOutput);
+    assert_eq!(confirm_request(z, &request, &mut mac_key[2..], &mut kek), refusal);
+    assert_eq!(confirm_request(z, &request, &mut mac_key, &mut kek[2..]), refusal);
+    assert_eq!((mac_key, kek), ([0xA5; KEY_BYTES + 1], [0xA5; KEY_BYTES + 1]));
+    assert_eq!(confirm_request(z, &request, &mut mac_key, &mut kek), Ok(()));
+    let keys = compare::confirm::Keys::of(z, &request);
+    assert_eq!(mac_key[..], [&keys.mac_key[..], &[0xA5]].concat());
+    assert_eq!(kek[..], [&keys.kek[..], &[0xA5]].concat());
 }
 
 #[test]

@@ -1,7 +1,11 @@
 //! The worked example and that of Appendix A, and what the crate says of its own names and numbers.
 
+use compare::text::base16;
 use compare::worked::{appendix_a, worked, IDENTITIES, RECORDS, WRAPPED_KEYS};
-use obscurlane::{field, Identity, Kind, Reason, Record, Sha384, View, WrappedKey};
+use obscurlane::{
+    confirm_request, confirm_response, field, Identity, Kind, Reason, Record, Sha384, View,
+    WrappedKey, KEY_BYTES,
+};
 
 #[test]
 fn every_value_is_accepted() {
@@ -119,6 +123,46 @@ fn fingerprints_of_other_kinds() {
         }
     }
     assert_eq!(out, [0; obscurlane::LONGEST_FINGERPRINT]);
+}
+
+/// The keys that Z gives, and both tags, by the calls and by what they are made of.
+#[test]
+fn tags_and_keys() {
+    let [z, request, response] = ["Z", "VKLOADREQ", "VKLOADRESP"].map(worked);
+    let (mut mac_key, mut kek) = ([0; KEY_BYTES], [0; KEY_BYTES]);
+    assert_eq!(confirm_request(&z, &request, &mut mac_key, &mut kek), Ok(()));
+    assert_eq!((&mac_key[..], &kek[..]), (&worked("MACKEY")[..], &worked("KEK")[..]));
+    assert_eq!(confirm_response(&z, &request, &response), Ok(()));
+    assert_eq!(obscurlane::sha384_of(&worked("KDF_INPUT")), [mac_key, kek].concat()[..]);
+    for (text, tag) in [("MACDATA_SM", "MACTAG_SM"), ("MACDATA_KMC", "MACTAG_KMC")] {
+        let ours = obscurlane::hmac_of(&mac_key, &worked(text));
+        assert_eq!(base16(&ours).as_bytes(), worked(tag), "{tag}");
+    }
+}
+
+/// Every other kind in the place of each, with a check or without one.
+#[test]
+fn tags_of_other_kinds() {
+    let [z, request, response] = ["Z", "VKLOADREQ", "VKLOADRESP"].map(worked);
+    let mut keys = [[0; KEY_BYTES]; 2];
+    let [mac_key, kek] = &mut keys;
+    let unknown = Some(Reason::UnknownKind);
+    for name in IDENTITIES.iter().chain(&RECORDS) {
+        let record = worked(name);
+        for bytes in [&record[..], &record[..record.len() - 1]] {
+            if !name.ends_with("VKLOADREQ") {
+                let asked = confirm_request(&z, bytes, mac_key, kek).err();
+                assert_eq!(asked.map(|refusal| refusal.reason()), unknown, "{name}");
+                let asked = confirm_response(&z, bytes, &response).err();
+                assert_eq!(asked.map(|refusal| refusal.reason()), unknown, "{name}");
+            }
+            if !name.ends_with("VKLOADRESP") {
+                let answered = confirm_response(&z, &request, bytes).err();
+                assert_eq!(answered.map(|refusal| refusal.reason()), unknown, "{name}");
+            }
+        }
+    }
+    assert_eq!(keys, [[0; KEY_BYTES]; 2]);
 }
 
 /// Every card by its number and by its name, and the list as the cipher takes it.

@@ -3,6 +3,7 @@
 #![allow(dead_code)] // each program takes what it needs
 
 pub mod attributes;
+pub mod confirm;
 pub mod fingerprint;
 pub mod reading;
 
@@ -30,6 +31,9 @@ pub fn expect_share(percent: RangeInclusive<usize>, times: usize, what: &str) {
 /// A refusal's number, and the number of the field that it is about, 0 where it is about none.
 pub type Numbers = (u8, usize);
 
+/// A refusal and the record that it is about: 1 or 2, 0 where it is about both or none.
+pub type NamedNumbers = (u8, Numbers);
+
 pub fn of_refusal(refusal: Refusal) -> Numbers {
     (refusal.reason.number(), refusal.field.unwrap_or(0))
 }
@@ -44,6 +48,11 @@ pub fn expected<T>(answer: Result<T, Expected>) -> Result<T, Numbers> {
     answer.map_err(|refusal| (refusal.number(), usize::from(refusal.field())))
 }
 
+/// An output of this room, with other bytes than zeros.
+pub fn lent(room: usize) -> Vec<u8> {
+    (0..room).map(|index| index as u8 ^ 0xA5).collect()
+}
+
 /// Lends both sides an output of this room: they give the same answer and leave the same bytes, and a refused call leaves its
 /// output as it was. Gives back the answer.
 pub fn same_output(
@@ -52,7 +61,7 @@ pub fn same_output(
     theirs: impl FnOnce(&mut [u8]) -> Result<usize, Expected>,
     input: &impl Debug,
 ) -> Result<usize, Numbers> {
-    let lent: Vec<u8> = (0..room).map(|index| index as u8 ^ 0xA5).collect();
+    let lent = lent(room);
     let (mut out, mut wanted) = (lent.clone(), lent.clone());
     let answer = numbers(ours(&mut out));
     assert_eq!(answer, expected(theirs(&mut wanted)), "{input:?}");
@@ -92,7 +101,7 @@ pub fn expected_at(file: &[u8], place: usize) -> Option<LineNumbers> {
 
 /// How often each number was answered, 0 being accepted.
 #[derive(Debug, Default)]
-pub struct Seen([usize; 16]);
+pub struct Seen([usize; 19]);
 
 impl Seen {
     pub fn add<T>(&mut self, answer: &Result<T, Numbers>) {
