@@ -2,14 +2,15 @@
 //! check, sixteen bytes at a step; words in the place of bytes where something is looked for; and every field gone over once,
 //! by its type, which finds its end as well. Only what is refused is gone over again, to count its fields.
 
+use crate::fast_confirm;
 use crate::fast_hash::{self, Sha384};
 use crate::kinds::{
     Kind, Type, IDENTITIES, PUBLIC_KEYS, RECORDS, WRONG_IDENTITY, WRONG_KIND, WRONG_TEXT,
 };
 use crate::side::{
-    Fields, Line, Pieces, Reads, Refusal, Side, MISSING_CHECK, MISSING_PART, MOST_FIELDS,
-    PRINT_TO_END, SHORT_OUTPUT, TOO_LONG, UNFINISHED, UNKNOWN_KIND, UNPAIRED, WRONG_ATTRIBUTES,
-    WRONG_CHECK, WRONG_COUNT, WRONG_FINGERPRINT,
+    Fields, Line, NamedRefusal, Pieces, Reads, Refusal, Side, MISSING_CHECK, MISSING_PART,
+    MOST_FIELDS, PRINT_TO_END, SHORT_OUTPUT, TOO_LONG, UNFINISHED, UNKNOWN_KIND, UNPAIRED,
+    WRONG_ATTRIBUTES, WRONG_CHECK, WRONG_COUNT, WRONG_FINGERPRINT,
 };
 use obscurlane::{LONGEST_IDENT, LONGEST_READ};
 
@@ -64,7 +65,7 @@ const fn is_hexadecimal(byte: u8) -> bool {
 }
 
 /// The value of a hexadecimal character.
-const fn value(character: u8) -> u8 {
+pub const fn value(character: u8) -> u8 {
     (character & 15) + 9 * (character >> 6)
 }
 
@@ -313,7 +314,7 @@ fn check_of(text: &[u8; CHECK_LENGTH]) -> Option<u16> {
 // ---- reading
 
 /// The kind and the fields of a record of one of the wanted kinds.
-fn read<'a>(bytes: &'a [u8], wanted: &[Kind]) -> Result<(Kind, Fields<'a>), Refusal> {
+pub fn read<'a>(bytes: &'a [u8], wanted: &[Kind]) -> Result<(Kind, Fields<'a>), Refusal> {
     if bytes.len() > LONGEST_READ {
         return Err(TOO_LONG);
     }
@@ -406,7 +407,7 @@ fn permitted<'a>(kind: Kind, mut rest: &'a [u8], lens: &[usize]) -> Result<Field
     check_together(kind, &fields).map(|()| fields)
 }
 
-fn decoded(point: &[u8]) -> [u8; POINT_BYTES] {
+pub fn decoded(point: &[u8]) -> [u8; POINT_BYTES] {
     let mut bytes = [0; POINT_BYTES];
     for (byte, pair) in bytes.iter_mut().zip(point.chunks_exact(2)) {
         *byte = 16 * value(pair[0]) + value(pair[1]);
@@ -414,7 +415,7 @@ fn decoded(point: &[u8]) -> [u8; POINT_BYTES] {
     bytes
 }
 
-fn write_text(items: &[&[u8]], out: &mut [u8]) -> Result<usize, Refusal> {
+pub fn write_text(items: &[&[u8]], out: &mut [u8]) -> Result<usize, Refusal> {
     let total = 1 + items.iter().map(|item| 1 + item.len()).sum::<usize>();
     let out = out.get_mut(..total).ok_or(SHORT_OUTPUT)?;
     let mut writer = Writer { out, at: 0 };
@@ -524,5 +525,22 @@ impl Side for Fast {
         let digits = print.chunks_exact(2).map(|pair| 16 * value(pair[0]) + value(pair[1]));
         let is_right = digits.zip(sha384.end()).take(8).all(|(said, right)| said == right);
         is_right.then_some(()).ok_or(WRONG_FINGERPRINT)
+    }
+
+    fn hmac_of(key: &[u8], text: &[u8]) -> [u8; 24] {
+        fast_hash::hmac_of(key, text)
+    }
+
+    fn confirm_request(
+        z: &[u8],
+        request: &[u8],
+        mac_key: &mut [u8],
+        kek: &mut [u8],
+    ) -> Result<(), NamedRefusal> {
+        fast_confirm::confirm_request(z, request, mac_key, kek)
+    }
+
+    fn confirm_response(z: &[u8], request: &[u8], response: &[u8]) -> Result<(), NamedRefusal> {
+        fast_confirm::confirm_response(z, request, response)
     }
 }

@@ -1,5 +1,5 @@
-//! SHA-384 for `fast.rs`: the message schedule in sixteen words that are replaced as the rounds go, sixteen rounds to a turn with
-//! no word moved, and a state that is changed where it stands.
+//! SHA-384 and HMAC for `fast.rs`: the message schedule in sixteen words that are replaced as the rounds go, sixteen rounds to a
+//! turn with no word moved, and a state that is changed where it stands.
 
 use crate::constants::{ROUND_WORDS, START};
 
@@ -125,4 +125,29 @@ pub fn sha384_of(bytes: &[u8]) -> [u8; 48] {
     let mut sha384 = Sha384::begin();
     sha384.add(bytes);
     sha384.end()
+}
+
+// ---- HMAC
+
+/// A hash of the key's block, every byte of it mixed with the same one.
+fn keyed(key: &[u8], pad: u8) -> Sha384 {
+    let mut block = [pad; BLOCK];
+    block.iter_mut().zip(key).for_each(|(byte, of_key)| *byte ^= of_key);
+    let mut sha384 = Sha384::begin();
+    sha384.add(&block);
+    sha384
+}
+
+pub fn hmac_of(key: &[u8], text: &[u8]) -> [u8; 24] {
+    let hash;
+    let key = if key.len() > BLOCK {
+        hash = sha384_of(key);
+        &hash[..]
+    } else {
+        key
+    };
+    let (mut inner, mut outer) = (keyed(key, 0x36), keyed(key, 0x5C));
+    inner.add(text);
+    outer.add(&inner.end());
+    *outer.end().first_chunk().expect("more bytes than are kept")
 }

@@ -3,7 +3,8 @@
 use crate::side::{Pieces, Reads, PRINT_TO_END};
 use compare::kind::Kind;
 use compare::random::Random;
-use compare::sample::{self, Cards, PublicKey, Signed, Subject};
+use compare::sample::{self, Cards, Exchange, PublicKey, Signed, Subject};
+use obscurlane::{KEY_BYTES, Z_BYTES};
 
 /// A record as bytes and as what it is built from.
 pub struct Sample {
@@ -76,23 +77,46 @@ impl Printed {
     }
 }
 
+/// The load request and the response of the worked example, with the right tags under another Z.
+pub struct Agreed {
+    pub z: Vec<u8>,
+    pub request: Vec<u8>,
+    pub response: Vec<u8>,
+}
+
+impl Agreed {
+    fn new(random: &mut Random, worked: &Exchange) -> Agreed {
+        let exchange = Exchange { z: random.bytes(Z_BYTES), ..worked.clone() }.confirmed();
+        let (request, response) = (exchange.request(), exchange.response());
+        Agreed { z: exchange.z, request, response }
+    }
+
+    /// Some key.
+    pub fn key(&self) -> &[u8] {
+        &self.z[..KEY_BYTES]
+    }
+}
+
 /// Numbers for each sort of input by themselves, so that one that is added leaves the others as they were.
 pub struct Draws {
     records: Random,
     wrapped_keys: Random,
     hashed: Random,
+    agreed: Random,
 }
 
 impl Draws {
-    pub fn with_seeds([records, wrapped_keys, hashed]: [u64; 3]) -> Draws {
-        let [records, wrapped_keys, hashed] =
-            [records, wrapped_keys, hashed].map(Random::with_seed);
-        Draws { records, wrapped_keys, hashed }
+    pub fn with_seeds(seeds: [u64; 4]) -> Draws {
+        let [records, wrapped_keys, hashed, agreed] = seeds.map(Random::with_seed);
+        Draws { records, wrapped_keys, hashed, agreed }
     }
 }
 
 /// The lengths of the messages that are hashed: about what is hashed for a Fingerprint, 4 KB, and the longest, 64 KB.
 pub const MESSAGES: [usize; 3] = [250, 1 << 12, 1 << 16];
+
+/// The length of the text that a tag is made of: that of the worked example's module text.
+pub const TAGGED: usize = 276;
 
 /// How many messages of this length there are among so many records: as many, but no more than 1 MB of them.
 pub const fn messages_among(length: usize, records: usize) -> usize {
@@ -112,13 +136,14 @@ pub struct Inputs {
     pub requests: Vec<Vec<u8>>,
     pub wrapped_keys: Vec<Sample>,
     pub printed: Vec<Printed>,
+    pub agreed: Vec<Agreed>,
     /// Messages are parts of it, each of which starts a byte behind the one before.
     bytes: Vec<u8>,
 }
 
 impl Inputs {
     pub fn new(draws: &mut Draws, count: usize) -> Inputs {
-        let Draws { records: random, wrapped_keys, hashed } = draws;
+        let Draws { records: random, wrapped_keys, hashed, agreed } = draws;
         let mut samples: Vec<Sample> = (0..count)
             .map(|index| {
                 let kind = match index % 5 {
@@ -139,8 +164,10 @@ impl Inputs {
         let requests = (0..count).map(|_| sample::record(random, Kind::VkloadReq)).collect();
         let wrapped_keys = (0..count).map(|_| Sample::wrapped_key(wrapped_keys)).collect();
         let printed = (0..count).map(|_| Printed::new(hashed)).collect();
+        let worked = Exchange::worked();
+        let agreed = (0..count).map(|_| Agreed::new(agreed, &worked)).collect();
         let bytes = hashed.bytes(MESSAGES[2] + count);
-        Inputs { samples, file, requests, wrapped_keys, printed, bytes }
+        Inputs { samples, file, requests, wrapped_keys, printed, agreed, bytes }
     }
 
     pub fn messages(&self, length: usize) -> impl Iterator<Item = &[u8]> {

@@ -1,12 +1,20 @@
 //! The library, through its crate.
 
-use crate::side::{Fields, Line, Pieces, Reads, Refusal, Side, MOST_FIELDS};
-use obscurlane::{Record, Sha384};
+use crate::side::{Fields, Line, NamedRefusal, Pieces, Reads, Refusal, Side, MOST_FIELDS};
+use obscurlane::{ConfirmRefusal, Record, Sha384};
 
 pub struct Library;
 
 fn refusal(refusal: obscurlane::Refusal) -> Refusal {
     (refusal.reason.number(), refusal.field.unwrap_or(0))
+}
+
+fn named(refused: ConfirmRefusal) -> NamedRefusal {
+    match refused {
+        ConfirmRefusal::Request(of) => (1, refusal(of)),
+        ConfirmRefusal::Response(of) => (2, refusal(of)),
+        other => (0, (other.reason().number(), 0)),
+    }
 }
 
 fn read(reads: Reads, bytes: &[u8]) -> Result<Record<'_>, Refusal> {
@@ -77,5 +85,22 @@ impl Side for Library {
 
     fn check_fingerprint(record: &[u8]) -> Result<(), Refusal> {
         obscurlane::check_fingerprint(record).map_err(refusal)
+    }
+
+    fn hmac_of(key: &[u8], text: &[u8]) -> [u8; 24] {
+        obscurlane::hmac_of(key, text)
+    }
+
+    fn confirm_request(
+        z: &[u8],
+        request: &[u8],
+        mac_key: &mut [u8],
+        kek: &mut [u8],
+    ) -> Result<(), NamedRefusal> {
+        obscurlane::confirm_request(z, request, mac_key, kek).map_err(named)
+    }
+
+    fn confirm_response(z: &[u8], request: &[u8], response: &[u8]) -> Result<(), NamedRefusal> {
+        obscurlane::confirm_response(z, request, response).map_err(named)
     }
 }

@@ -7,20 +7,22 @@
 mod beside;
 mod constants;
 mod fast;
+mod fast_confirm;
 mod fast_hash;
 mod inputs;
 mod kinds;
 mod library;
 mod plain;
+mod plain_confirm;
 mod plain_hash;
 mod same;
 mod side;
 
 use beside::{serve, Beside, SERVE};
 use fast::Fast;
-use inputs::{messages_among, Draws, Inputs, Sample, MESSAGES};
+use inputs::{messages_among, Draws, Inputs, Sample, MESSAGES, TAGGED};
 use library::Library;
-use obscurlane::{LONGEST_MODULE_TEXT, LONGEST_PUBKEY};
+use obscurlane::{KEY_BYTES, LONGEST_MODULE_TEXT, LONGEST_PUBKEY};
 use plain::Plain;
 use same::same_answers;
 use side::{Reads, Side, MOST_FIELDS};
@@ -127,6 +129,28 @@ fn checking_a_fingerprint<S: Side>(inputs: &Inputs) {
     }
 }
 
+fn tagging<S: Side>(inputs: &Inputs) {
+    for (message, agreed) in inputs.messages(TAGGED).zip(&inputs.agreed) {
+        black_box(S::hmac_of(black_box(agreed.key()), black_box(message)));
+    }
+}
+
+fn confirming_a_request<S: Side>(inputs: &Inputs) {
+    let (mut mac_key, mut kek) = ([0; KEY_BYTES], [0; KEY_BYTES]);
+    for agreed in &inputs.agreed {
+        let (z, request) = (black_box(&agreed.z), black_box(&agreed.request));
+        black_box(S::confirm_request(z, request, &mut mac_key, &mut kek)).expect("right");
+        black_box((&mac_key, &kek));
+    }
+}
+
+fn confirming_a_response<S: Side>(inputs: &Inputs) {
+    for agreed in &inputs.agreed {
+        let (z, request) = (black_box(&agreed.z), black_box(&agreed.request));
+        black_box(S::confirm_response(z, request, black_box(&agreed.response))).expect("right");
+    }
+}
+
 // ---- the measurement
 
 /// A line of the table: what each side does in a turn, and how often.
@@ -156,7 +180,7 @@ macro_rules! hashing {
     };
 }
 
-const ROWS: [Row; 15] = [
+const ROWS: [Row; 18] = [
     row!("reading", reading),
     row!("reading, all places", reading_all_places),
     row!("seven fields, one reading", seven_fields_one_reading),
@@ -172,6 +196,9 @@ const ROWS: [Row; 15] = [
     hashing!("SHA-384, 64 KB", MESSAGES[2]),
     row!("the hash of a Fingerprint", the_hash_of_a_fingerprint),
     row!("checking a Fingerprint", checking_a_fingerprint),
+    row!("HMAC, 276 bytes", tagging),
+    row!("confirming a request", confirming_a_request),
+    row!("confirming a response", confirming_a_response),
 ];
 
 /// Nanoseconds for a turn.
@@ -279,7 +306,7 @@ fn table(sets: &[Inputs], beside: &mut Option<Beside>) -> io::Result<()> {
 fn main() -> io::Result<()> {
     let words: Vec<String> = env::args().skip(1).collect();
     let words: Vec<&str> = words.iter().map(String::as_str).collect();
-    let mut draws = Draws::with_seeds([2026, 2029, 2031]);
+    let mut draws = Draws::with_seeds([2026, 2029, 2031, 2033]);
     let sets: Vec<Inputs> = (0..SETS).map(|_| Inputs::new(&mut draws, TURN)).collect();
     for inputs in &sets {
         same_answers::<Library, Plain>(inputs);
@@ -303,7 +330,7 @@ mod tests {
 
     #[test]
     fn all_sides_give_the_same_answers() {
-        let inputs = Inputs::new(&mut Draws::with_seeds([2028, 2030, 2032]), 3_000);
+        let inputs = Inputs::new(&mut Draws::with_seeds([2028, 2030, 2032, 2034]), 3_000);
         same_answers::<Library, Plain>(&inputs);
         same_answers::<Library, Fast>(&inputs);
     }

@@ -7,11 +7,12 @@
 use crate::kinds::{
     Kind, Type, IDENTITIES, PUBLIC_KEYS, RECORDS, WRONG_IDENTITY, WRONG_KIND, WRONG_TEXT,
 };
+use crate::plain_confirm;
 use crate::plain_hash::{self, State};
 use crate::side::{
-    Fields, Line, Pieces, Reads, Refusal, Side, MISSING_CHECK, MISSING_PART, MOST_FIELDS,
-    PRINT_TO_END, SHORT_OUTPUT, TOO_LONG, UNFINISHED, UNKNOWN_KIND, UNPAIRED, WRONG_ATTRIBUTES,
-    WRONG_CHECK, WRONG_COUNT, WRONG_FINGERPRINT,
+    Fields, Line, NamedRefusal, Pieces, Reads, Refusal, Side, MISSING_CHECK, MISSING_PART,
+    MOST_FIELDS, PRINT_TO_END, SHORT_OUTPUT, TOO_LONG, UNFINISHED, UNKNOWN_KIND, UNPAIRED,
+    WRONG_ATTRIBUTES, WRONG_CHECK, WRONG_COUNT, WRONG_FINGERPRINT,
 };
 use obscurlane::{LONGEST_IDENT, LONGEST_READ};
 
@@ -147,8 +148,8 @@ fn are_attributes(list: &[u8]) -> bool {
 // ---- fields
 
 /// At most seven fields, and how many.
-struct Parts<'a> {
-    parts: Fields<'a>,
+pub struct Parts<'a> {
+    pub parts: Fields<'a>,
     count: usize,
 }
 
@@ -218,7 +219,7 @@ fn check_identity(permitted: &[Kind], field: &[u8]) -> Result<(), u8> {
 // ---- reading
 
 /// The kind and the fields of a record of one of the wanted kinds.
-fn read<'a>(bytes: &'a [u8], wanted: &[Kind]) -> Result<(Kind, Parts<'a>), Refusal> {
+pub fn read<'a>(bytes: &'a [u8], wanted: &[Kind]) -> Result<(Kind, Parts<'a>), Refusal> {
     if bytes.len() > LONGEST_READ {
         return Err(TOO_LONG);
     }
@@ -288,7 +289,7 @@ impl Item<'_> {
     }
 }
 
-fn hex_value(character: u8) -> u8 {
+pub fn hex_value(character: u8) -> u8 {
     match character {
         b'0'..=b'9' => character - b'0',
         _ => character - b'A' + 10,
@@ -484,5 +485,22 @@ impl Side for Plain {
             return Ok(());
         }
         Err(WRONG_FINGERPRINT)
+    }
+
+    fn hmac_of(key: &[u8], text: &[u8]) -> [u8; 24] {
+        plain_hash::hmac_of(key, text)
+    }
+
+    fn confirm_request(
+        z: &[u8],
+        request: &[u8],
+        mac_key: &mut [u8],
+        kek: &mut [u8],
+    ) -> Result<(), NamedRefusal> {
+        plain_confirm::confirm_request(z, request, mac_key, kek)
+    }
+
+    fn confirm_response(z: &[u8], request: &[u8], response: &[u8]) -> Result<(), NamedRefusal> {
+        plain_confirm::confirm_response(z, request, response)
     }
 }

@@ -1,5 +1,5 @@
-//! SHA-384 for `plain.rs`, in the library's form: a state by value, a message schedule of eighty words that is filled anew for
-//! each block, four rounds to a turn, whole blocks from where they stand, and a zeroed block for the bytes that wait.
+//! SHA-384 and HMAC for `plain.rs`, in the library's form: a state by value, a message schedule of eighty words that is filled
+//! anew for each block, four rounds to a turn, whole blocks from where they stand, and a zeroed block for the bytes that wait.
 
 use crate::constants::{ROUND_WORDS, START};
 
@@ -182,4 +182,28 @@ impl State {
 
 pub fn sha384_of(bytes: &[u8]) -> [u8; 48] {
     State::begin().add(bytes).end()
+}
+
+// ---- HMAC
+
+/// A hash of the key's block, every byte of it mixed with the same one.
+fn keyed(key: &[u8], pad: u8) -> State {
+    let mut block = if key.len() > BLOCK { block_of(&sha384_of(key)) } else { block_of(key) };
+    block.iter_mut().for_each(|byte| *byte ^= pad);
+    State::begin().add(&block)
+}
+
+/// The state before the first byte of the text.
+pub fn hmac_begin(key: &[u8]) -> State {
+    keyed(key, 0x36)
+}
+
+/// The tag of all bytes given, under the same key.
+pub fn hmac_end(key: &[u8], given: State) -> [u8; 24] {
+    let mac = keyed(key, 0x5C).add(&given.end()).end();
+    *mac.first_chunk().expect("more bytes than are kept")
+}
+
+pub fn hmac_of(key: &[u8], text: &[u8]) -> [u8; 24] {
+    hmac_end(key, hmac_begin(key).add(text))
 }

@@ -1,12 +1,12 @@
 //! That two sides give the same answers and leave the same outputs: to everything that is measured, and to as many inputs that
 //! are damaged or nothing at all.
 
-use crate::inputs::{Inputs, Printed, Sample, MESSAGES};
-use crate::side::{Fields, Reads, Refusal, Side};
+use crate::inputs::{Agreed, Inputs, Printed, Sample, MESSAGES, TAGGED};
+use crate::side::{Fields, NamedRefusal, Reads, Refusal, Side};
 use compare::kind::Kind;
 use compare::random::Random;
-use compare::sample::{self, Fault, ListFault, PublicKey};
-use obscurlane::{LONGEST_MODULE_TEXT, LONGEST_RECORD};
+use compare::sample::{self, Exchange, Fault, ListFault, PublicKey};
+use obscurlane::{KEY_BYTES, LONGEST_MODULE_TEXT, LONGEST_RECORD, Z_BYTES};
 
 /// The places of the fields, not only their bytes.
 fn places((kind, fields): (usize, Fields<'_>)) -> (usize, [Option<(*const u8, usize)>; 7]) {
@@ -135,6 +135,63 @@ fn same_fingerprints<A: Side, B: Side>(random: &mut Random, Printed { record, ..
     same_fingerprint::<A, B>(&sample::anything(random));
 }
 
+/// Of keys and texts of every short length, and of what is measured.
+fn same_tags<A: Side, B: Side>(inputs: &Inputs) {
+    let short: Vec<&[u8]> = (1..=300).filter_map(|length| inputs.messages(length).next()).collect();
+    let pairs = short.iter().copied().zip(short.iter().copied().rev());
+    let keys = short.iter().map(|&key| (key, &b""[..])).chain(pairs);
+    let measured = inputs.agreed.iter().map(Agreed::key).zip(inputs.messages(TAGGED));
+    for (key, text) in keys.chain(measured).chain([(&b""[..], &b""[..])]) {
+        assert_eq!(A::hmac_of(key, text), B::hmac_of(key, text), "{key:?} {text:?}");
+    }
+}
+
+/// The answer to a request, and what is left in outputs of these rooms.
+fn confirmed<S: Side>(
+    z: &[u8],
+    request: &[u8],
+    rooms: [usize; 2],
+) -> (Result<(), NamedRefusal>, [Vec<u8>; 2]) {
+    let mut outputs = rooms.map(|room| vec![0xA5; room]);
+    let [mac_key, kek] = &mut outputs;
+    (S::confirm_request(z, request, mac_key, kek), outputs)
+}
+
+/// Both calls, with rooms that are enough and one that is too short.
+fn same_confirmation<A: Side, B: Side>(z: &[u8], request: &[u8], response: &[u8]) {
+    const ROOMS: [[usize; 2]; 3] =
+        [[KEY_BYTES; 2], [KEY_BYTES - 1, KEY_BYTES], [KEY_BYTES + 1, KEY_BYTES - 1]];
+    for rooms in ROOMS {
+        let one = confirmed::<A>(z, request, rooms);
+        assert_eq!(one, confirmed::<B>(z, request, rooms), "{z:?} {request:?} {rooms:?}");
+    }
+    let one = A::confirm_response(z, request, response);
+    assert_eq!(one, B::confirm_response(z, request, response), "{z:?} {request:?} {response:?}");
+}
+
+/// Right tags; another Z, and one too short; each record damaged, with its check as it was and made right again; records of another
+/// exchange; and anything.
+fn same_confirmations<A: Side, B: Side>(random: &mut Random, agreed: &Agreed) {
+    let Agreed { z, request, response } = agreed;
+    assert_eq!(confirmed::<A>(z, request, [KEY_BYTES; 2]).0, Ok(()));
+    assert_eq!(A::confirm_response(z, request, response), Ok(()));
+    same_confirmation::<A, B>(z, request, response);
+    same_confirmation::<A, B>(&random.bytes(Z_BYTES), request, response);
+    same_confirmation::<A, B>(&z[1..], request, response);
+    for _ in 0..2 {
+        let asked = sample::damaged_anywhere(random, request, 1);
+        let answered = sample::damaged_anywhere(random, response, 1);
+        same_confirmation::<A, B>(z, &asked, response);
+        same_confirmation::<A, B>(z, &sample::resealed(&asked), response);
+        same_confirmation::<A, B>(z, request, &answered);
+        same_confirmation::<A, B>(z, request, &sample::resealed(&answered));
+    }
+    let other = Exchange::any(random);
+    same_confirmation::<A, B>(&other.z, &other.request(), &other.response());
+    same_confirmation::<A, B>(z, request, &other.response());
+    same_confirmation::<A, B>(z, &sample::anything(random), &sample::anything(random));
+}
+
 /// Stops where the two differ.
 pub fn same_answers<A: Side, B: Side>(inputs: &Inputs) {
     let mut random = Random::with_seed(2027);
@@ -162,6 +219,10 @@ pub fn same_answers<A: Side, B: Side>(inputs: &Inputs) {
     same_pieces::<A, B>(&mut random, inputs);
     for printed in &inputs.printed {
         same_fingerprints::<A, B>(&mut random, printed);
+    }
+    same_tags::<A, B>(inputs);
+    for agreed in &inputs.agreed {
+        same_confirmations::<A, B>(&mut random, agreed);
     }
     for request in &inputs.requests {
         same_texts::<A, B>(request, LONGEST_MODULE_TEXT);

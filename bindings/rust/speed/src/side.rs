@@ -14,6 +14,12 @@ pub const UNFINISHED: Refusal = (11, 0);
 pub const MISSING_PART: Refusal = (12, 0);
 pub const WRONG_ATTRIBUTES: Refusal = (14, 0);
 pub const WRONG_FINGERPRINT: Refusal = (15, 0);
+pub const WRONG_Z: Refusal = (16, 0);
+pub const OTHER_REQUEST: Refusal = (17, 0);
+pub const WRONG_TAG: Refusal = (18, 0);
+
+/// A refusal, and the record whose own it is: 1 the request, 2 the response, 0 neither.
+pub type NamedRefusal = (u8, Refusal);
 
 /// How many fields a record has at most.
 pub const MOST_FIELDS: usize = 7;
@@ -66,4 +72,14 @@ pub trait Side {
     fn hash_of(pieces: Pieces<'_>) -> [u8; 48];
     /// Reads a public key, and compares the Fingerprint in its Subject with the right one.
     fn check_fingerprint(record: &[u8]) -> Result<(), Refusal>;
+    fn hmac_of(key: &[u8], text: &[u8]) -> [u8; 24];
+    /// Reads a load request, and compares its MacTag with the right one; then writes MacKey and KEK.
+    fn confirm_request(
+        z: &[u8],
+        request: &[u8],
+        mac_key: &mut [u8],
+        kek: &mut [u8],
+    ) -> Result<(), NamedRefusal>;
+    /// Reads a load request and the response to it, and compares the response's MacTag with the right one.
+    fn confirm_response(z: &[u8], request: &[u8], response: &[u8]) -> Result<(), NamedRefusal>;
 }
