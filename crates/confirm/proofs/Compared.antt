@@ -2,7 +2,7 @@
 -- Assumes nothing.
 use Prim.Native.Nat.{ℕ, suc, _+_, _*_, _≤_, _<_}
 use mathlib.Core.Path.{_≡_, refl, sym, ap, ap₂, _∙_}
-use mathlib.Core.Bool.{Bool, true, false, _&&_}
+use mathlib.Core.Bool.{Bool, true, false, _&&_, and-true, and-assoc}
 use mathlib.Core.List.{[], _∷_}
 use native.Mathlib.Omega.{arith}
 use native.Mathlib.Numerals.{add-one}
@@ -51,10 +51,6 @@ byte-more d x y = both-ways (eqb (bitOr d (bitXor x y)) 0) (eqb d 0 && eqb x y) 
         let u = and-yes (eqb d 0) (eqb x y) t in
         rw (eqb→eq d 0 (u .0), eqb→eq x y (u .1), or-zero-l, xor-self) tt
 
-and-more : (a b c : Bool) → (a && (b && c)) ≡ ((a && b) && c)
-and-more true b c = refl
-and-more false b c = refl
-
 -- ---- the loop: what differs before i is in d
 
 abbrev pub Compared : Bytes → Bytes → ℕ → ℕ → Type 0
@@ -66,15 +62,11 @@ compared-more a b d {i} l h c =
     let y = getD b i 0 in
     let rest = same (drop (suc i) a) (drop (suc i) b) in
     let one : same (drop i a) (drop i b) ≡ (eqb x y && rest) = rw (drop-cons a i 0 h, drop-cons b i 0 (omega (arith, l))) in
-    c ∙ ap (λ (r : Bool). eqb d 0 && r) one ∙ and-more (eqb d 0) (eqb x y) rest ∙ rw (byte-more d x y, add-one)
+    c ∙ ap (λ (r : Bool). eqb d 0 && r) one ∙ sym (and-assoc (eqb d 0) (eqb x y) rest) ∙ rw (byte-more d x y, add-one)
 
 pub compared-all : (a b : Bytes) (d : ℕ) {i : ℕ} → length a ≡ length b → length a ≤ i → Compared a b d i → eqb d 0 ≡ same a b
 compared-all a b d {i} l h c =
     sym (c ∙ rw (drop-of-length-le a {i = i} h, drop-of-length-le b {i = i} (omega (arith, l))) (and-true (eqb d 0)))
-  where
-    and-true : (x : Bool) → (x && true) ≡ x
-    and-true true = refl
-    and-true false = refl
 
 -- ---- the characters of a tag are those of its bytes
 

@@ -8,7 +8,7 @@ use lib.Dec.{leb, eqb}
 use lib.ListN.{length, take, drop}
 use Rattle.text.specs.Text.{Bytes, same, between}
 use Rattle.text.specs.Later.{later}
-use Rattle.numbers.specs.Numbers.{tooLong, unknownKind, wrongCount, shortOutput, unfinished, missingItem, notAlike, wrongFingerprint}
+use Rattle.numbers.specs.Numbers.{tooLong, unknownKind, wrongCount, shortOutput, unfinished, missingItem, notAlike, wrongFingerprint, wrongZ, otherRequest, wrongTag}
 use Rattle.format.specs.Kinds.{Kind, fieldsOf, pubkeyKinds, allKinds}
 use Rattle.format.specs.Build.{recordOf, longestRecord}
 use Rattle.format.specs.Read.{Outcome, accepted, refused, answer, place, judged, readIdentity, readOf, readRecord}
@@ -28,6 +28,8 @@ use Rattle.agreement.specs.Texts.{textMade}
 use Rattle.files.specs.Walk.{lineSaid, numberOf, fieldOf}
 use Rattle.subjects.specs.Subjects.{gnt, alike}
 use Rattle.fingerprint.specs.Fingerprint.{rightPrint, printIn, checkBy, printMade}
+use Rattle.confirm.specs.Confirm as confirm
+use Rattle.confirm.specs.Confirm.{macKey, kek, moduleTag, centreTag, requestTag, responseTag, answers, denies, saysOf, requestBy, responseBy}
 use Rattle.newer.specs.Newer.{theFirst, theSecond, noChoice, bySubjects, byRecords, newer, choiceNo, choiceField, subject}
 
 module _ (P : ℕ → ℕ → Type 0) (z : P 0 0) where
@@ -80,6 +82,31 @@ module _ (P : ℕ → ℕ → Type 0) (z : P 0 0) where
       go true = z
       go false = more
   print-answered room (refused n i) h more = h
+
+  -- confirmation tags: 16 and 18 besides; of a request 10, of a response 17
+  pub request-answered : (x : Bytes) (m k : ℕ) (o : Outcome) → Of o → P wrongZ 0 → P shortOutput 0 → P wrongTag 0
+      → let r = saysOf (requestBy x m k o) in P (r .no) (r .field)
+  request-answered x m k (accepted j fs) h long short tag = go (eqb (length x) 96) (leb 24 m && leb 24 k) (same (requestTag fs) (moduleTag x fs))
+    where
+      go : (a b c : Bool)
+          → let r = saysOf (cond a (cond b (cond c (confirm.keys (macKey x fs) (kek x fs)) (denies wrongTag 0 0)) (denies shortOutput 0 0)) (denies wrongZ 0 0)) in P (r .no) (r .field)
+      go true true true = z
+      go true true false = tag
+      go true false c = short
+      go false b c = long
+  request-answered x m k (refused n i) h long short tag = h
+
+  pub response-answered : (x : Bytes) (o p : Outcome) → Of o → Of p → P wrongZ 0 → P otherRequest 0 → P wrongTag 0
+      → P (responseBy x o p .no) (responseBy x o p .field)
+  response-answered x (accepted j fs) (accepted k gs) h g long other tag = go (eqb (length x) 96) (answers fs gs) (same (responseTag gs) (centreTag x fs))
+    where
+      go : (a b c : Bool) → P (cond a (cond b (cond c 0 wrongTag) otherRequest) wrongZ) 0
+      go true true true = z
+      go true true false = tag
+      go true false c = other
+      go false b c = long
+  response-answered x (accepted j fs) (refused n i) h g long other tag = g
+  response-answered x (refused n i) p h g long other tag = h
 
   -- the fields alone: 2 besides; a building: 2, 5, 1 and 10
   module _ (fields : (k : Kind) (fs : List Bytes) (o : Outcome) → Of o → Of (judged readIdentity k fs o)) (kind : P unknownKind 0) where

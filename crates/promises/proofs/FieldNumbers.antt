@@ -7,15 +7,16 @@ use lib.Dec.{ltb}
 use lib.ListN.{length}
 use denote.Ref.{now}
 use Rattle.text.specs.Text.{Bytes, oneOf}
-use Rattle.format.specs.Kinds.{Kind, REQ, identityKinds, recordKinds, pubkeyKinds, keyKinds}
+use Rattle.format.specs.Kinds.{Kind, REQ, RESP, identityKinds, recordKinds, pubkeyKinds, keyKinds}
 use Rattle.format.specs.Read.{place, nobody, readIdentity, readOf, readRecord}
 use Rattle.format.proofs.Refusals.{naming, Names, judged-names, over-names}
 use Rattle.table.specs.Table.{kindsFrom}
 use Rattle.fields.specs.Attributes.{attributeNo}
 use Rattle.agreement.specs.Texts.{sharedItems, moduleItems, centreItems, sharedInfo, moduleText, centreText}
 use Rattle.fingerprint.specs.Fingerprint.{checkFingerprint, writeFingerprint}
+use Rattle.confirm.specs.Confirm.{confirmRequest, confirmResponse}
 use Rattle.promises.specs.FieldNumbers.{FieldNumbers}
-use Rattle.promises.proofs.Answered.{answered, wanted-answered, attribute-answered, text-answered, judge-answered, build-answered, line-answered, newer-answered, check-answered, print-answered}
+use Rattle.promises.proofs.Answered.{answered, wanted-answered, attribute-answered, text-answered, judge-answered, build-answered, line-answered, newer-answered, check-answered, print-answered, request-answered, response-answered}
 
 identity-names : (s : Bytes) → Names (readIdentity s)
 unfolding readIdentity
@@ -37,7 +38,7 @@ attribute-names : (s : Bytes) (wanted : ℕ) → NamesAt (attributeNo (readOf ke
 attribute-names s wanted = attribute-answered NamesAt refl (readOf keyKinds s) wanted (read-names keyKinds s) refl
 
 pub field-numbers : FieldNumbers
-unfolding sharedInfo moduleText centreText checkFingerprint writeFingerprint
+unfolding sharedInfo moduleText centreText checkFingerprint writeFingerprint confirmRequest confirmResponse
 field-numbers = record {
   read-identity = λ κs a r s p. rw p (answered NamesAt refl (readIdentity (now (a .0))) (identity-names (now (a .0))));
   read-record = λ κs a r s p. rw p (answered NamesAt refl (readRecord (now (a .0))) (record-names (now (a .0))));
@@ -61,4 +62,6 @@ field-numbers = record {
   newer = λ κs a r s p. rw (p .number-so, p .field-so) (newer-answered NamesAt refl refl identity-names (read-names pubkeyKinds) (now (a .0)) (now (a .1 .0)));
   check-fingerprint = λ κs a r s p. rw p (check-answered NamesAt refl (readOf pubkeyKinds (now (a .0))) (read-names pubkeyKinds (now (a .0))) refl);
   write-fingerprint = λ κs a r s p. rw (p .said) (print-answered NamesAt refl (length (now (a .1 .0))) (readOf pubkeyKinds (now (a .0))) (read-names pubkeyKinds (now (a .0))) refl);
+  confirm-request = λ κs a r s p. rw (p .said) (request-answered NamesAt refl (now (a .0)) (length (now (a .1 .1 .0))) (length (now (a .1 .1 .1 .0))) (readOf (REQ ∷ []) (now (a .1 .0))) (read-names (REQ ∷ []) (now (a .1 .0))) refl refl refl);
+  confirm-response = λ κs a r s p. rw p (response-answered NamesAt refl (now (a .0)) (readOf (REQ ∷ []) (now (a .1 .0))) (readOf (RESP ∷ []) (now (a .1 .1 .0))) (read-names (REQ ∷ []) (now (a .1 .0))) (read-names (RESP ∷ []) (now (a .1 .1 .0))) refl refl refl);
 }

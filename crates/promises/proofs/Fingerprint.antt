@@ -131,7 +131,7 @@ write-said s out out′ r w =
 
 -- ---- the characters
 
-every-digit : (bs : Bytes) → AreBytes bs → T (every hexadecimal (base16 bs))
+pub every-digit : (bs : Bytes) → AreBytes bs → T (every hexadecimal (base16 bs))
 every-digit [] h = tt
 every-digit (b ∷ bs) h =
     let u : b < 256 = h 0 in

@@ -17,9 +17,11 @@ use Rattle.fields.specs.Attributes.{listSaid, attributeNo, numberNamed}
 use Rattle.subjects.specs.Subjects.{alike}
 use Rattle.newer.specs.Newer.{newer}
 use Rattle.fingerprint.specs.Fingerprint.{checkFingerprint, writeFingerprint}
+use Rattle.hmac.specs.Hmac.{K₀, mixed, mac, hmac}
+use Rattle.confirm.specs.Confirm.{confirmRequest, confirmResponse}
 use Rattle.promises.specs.Values.{Value, AllCome, admittedFrom}
 use Rattle.promises.specs.Worked.{manufacturerIdFields, manufacturerId, moduleIdFields, moduleId, centreIdFields, centreId, manufacturerKeyFields, manufacturerKey, moduleKeyFields, moduleKey, centreKeyFields, centreKey, requestFields, request, responseFields, response, keyAttributes, keyFields, key, longAttributes}
-use Rattle.promises.specs.Fixed.{rows, alphabets, limits, labels, checks, numbers, building, texts, others, lists, keys, longKeys, days, dates, hashes, agreeing, differing, fingerprints, fixed}
+use Rattle.promises.specs.Fixed.{rows, alphabets, limits, labels, checks, numbers, building, texts, others, lists, keys, longKeys, days, dates, hashes, agreeing, differing, fingerprints, tags, confirming, fixed}
 
 -- two sets of values are one; a record, so that the checker finds which two
 record Come (vs : List Value) : Type 0 where
@@ -105,6 +107,14 @@ all-fingerprints : Come fingerprints
 unfolding fingerprints checkFingerprint writeFingerprint centreKey isPoint readOf readRecord manufacturerIdFields manufacturerId moduleIdFields moduleId centreIdFields centreId manufacturerKeyFields moduleKeyFields centreKeyFields recordOf withCheck checkText hexDigit crcOf addAll add bitSteps bitStep isIdent isTimestamp looks numberFrom isHex checkNo identityAnswer fieldAnswer wholeAnswer judged readAs readOver readIdentity K padding padded block H₀ word words schedule rounds compress hashed left384 sha384
 all-fingerprints = record { come = (refl, (refl, (refl, (refl, (refl, (refl, tt)))))) }
 
+all-tags : Come tags
+unfolding tags K₀ mixed mac hmac hexDigit K padding padded block H₀ word words schedule rounds compress hashed left384 sha384
+all-tags = record { come = (refl, tt) }
+
+all-confirming : Come confirming
+unfolding confirming confirmRequest confirmResponse requestFields responseFields isPoint readOf moduleIdFields moduleId centreIdFields centreId recordOf withCheck checkText hexDigit crcOf addAll add bitSteps bitStep isIdent isTimestamp looks numberFrom isHex checkNo identityAnswer fieldAnswer wholeAnswer judged readAs readOver readIdentity
+all-confirming = record { come = (refl, (refl, (refl, (refl, (refl, (refl, (refl, (refl, (refl, tt))))))))) }
+
 pub all-fixed : AllCome fixed
 unfolding fixed
-all-fixed = (all-rows and all-alphabets and all-limits and all-labels and all-checks and all-numbers and all-building and all-texts and all-others and all-lists and all-keys and all-long-keys and all-days and all-dates and all-hashes and all-agreeing and all-differing and all-fingerprints) .come
+all-fixed = (all-rows and all-alphabets and all-limits and all-labels and all-checks and all-numbers and all-building and all-texts and all-others and all-lists and all-keys and all-long-keys and all-days and all-dates and all-hashes and all-agreeing and all-differing and all-fingerprints and all-tags and all-confirming) .come

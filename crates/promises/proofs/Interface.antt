@@ -7,6 +7,7 @@ use Rattle.files.specs.Walk.{lineSaid, nextOf}
 use Rattle.files.specs.declared.Line.{Line}
 use Rattle.files.specs.declared.Line.the-variants.{Finished, Read}
 use Rattle.text.specs.Text.{Bytes}
+use Rattle.exports.specs.declared.confirming.Tag.{Tag}
 use Rattle.exports.specs.declared.hashing.Digest.{Digest}
 use Rattle.exports.specs.declared.walking.Found.{Found}
 use Rattle.exports.specs.Exports.{found}
@@ -57,4 +58,9 @@ interface = record {
   check-fingerprint = λ κs a r s p. p;
   write-fingerprint-said = λ κs a r s p. p .said;
   write-fingerprint-out = λ κs a r s p. p .left;
+  hmac-of = λ κs a r s p. ap {B = Tag} (λ (b : Bytes). record { bytes = b }) p;
+  confirm-request-said = λ κs a r s p. p .said;
+  confirm-request-mac-key = λ κs a r s p. p .mac-key-left;
+  confirm-request-kek = λ κs a r s p. p .kek-left;
+  confirm-response = λ κs a r s p. p;
 }

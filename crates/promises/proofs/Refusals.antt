@@ -7,10 +7,10 @@ use mathlib.Core.List.{List, [], _∷_}
 use lib.Dec.{T, leb, eqb}
 use lib.ListN.{length}
 use denote.Ref.{now}
-use Rattle.text.specs.Text.{Bytes, oneOf}
+use Rattle.text.specs.Text.{Bytes, every, oneOf}
 use Rattle.text.proofs.Tests.{or-right, one-of}
 use Rattle.numbers.specs.Numbers.{shortOutput}
-use Rattle.format.specs.Kinds.{Kind, REQ, identityKinds, recordKinds, pubkeyKinds, keyKinds}
+use Rattle.format.specs.Kinds.{Kind, REQ, RESP, identityKinds, recordKinds, pubkeyKinds, keyKinds}
 use Rattle.format.specs.Read.{Outcome, answer, judged, nobody, readIdentity, readOf, readRecord}
 use Rattle.format.proofs.Table.{All, every-kind}
 use Rattle.format.proofs.Refusals.{Gives, covers, check-given, judged-given, over-given}
@@ -22,9 +22,10 @@ use Rattle.items.specs.Items.{textItem}
 use Rattle.items.specs.Place.{placeFrom}
 use Rattle.agreement.specs.Texts.{sharedItems, moduleItems, centreItems, sharedInfo, moduleText, centreText}
 use Rattle.fingerprint.specs.Fingerprint.{checkFingerprint, writeFingerprint}
+use Rattle.confirm.specs.Confirm.{confirmRequest, confirmResponse}
 use Rattle.list_text.specs.Listing.{listText, listRoom, writeList}
-use Rattle.promises.specs.Refusals.{ofIdentities, ofRecords, ofPubkeys, ofKeys, ofTexts, Refusals}
-use Rattle.promises.proofs.Answered.{answered, wanted-answered, attribute-answered, text-answered, judge-answered, build-answered, line-answered, newer-answered, check-answered, print-answered}
+use Rattle.promises.specs.Refusals.{ofIdentities, ofRecords, ofPubkeys, ofKeys, ofLoads, ofTexts, Refusals}
+use Rattle.promises.proofs.Answered.{answered, wanted-answered, attribute-answered, text-answered, judge-answered, build-answered, line-answered, newer-answered, check-answered, print-answered, request-answered, response-answered}
 
 -- n is one of ns, whatever the field's number
 abbrev In : List ℕ → ℕ → ℕ → Type 0
@@ -52,6 +53,14 @@ record-given s = read-given recordKinds s
 request-given : (s : Bytes) → Gives ofTexts (readOf (REQ ∷ []) s)
 unfolding readOf
 request-given s = over-given ofTexts tt readIdentity (tt, tt, tt, tt, tt) (REQ ∷ []) (tt, tt) s
+
+pub load-given : (s : Bytes) (more : List ℕ) → T (every (oneOf more) ofLoads) → Gives more (readOf (REQ ∷ []) s) × Gives more (readOf (RESP ∷ []) s)
+unfolding readOf
+load-given s more t =
+    let among = one-of (oneOf more) ofLoads t in (
+      among (answer (readOf (REQ ∷ []) s)) (over-given ofLoads tt readIdentity (tt, tt, tt, tt, tt) (REQ ∷ []) (tt, tt) s),
+      among (answer (readOf (RESP ∷ []) s)) (over-given ofLoads tt readIdentity (tt, tt, tt, tt, tt) (RESP ∷ []) (tt, tt) s),
+    )
 
 wrapped-given : (s : Bytes) → Gives ofKeys (readOf keyKinds s)
 unfolding readOf
@@ -114,7 +123,7 @@ attribute-given : (s : Bytes) (wanted : ℕ) → T (oneOf (12 ∷ ofKeys) (attri
 attribute-given s wanted = attribute-answered (In (12 ∷ ofKeys)) tt (readOf keyKinds s) wanted (further 12 ofKeys (readOf keyKinds s) (wrapped-given s)) tt
 
 pub refusals : Refusals
-unfolding sharedInfo moduleText centreText checkFingerprint writeFingerprint
+unfolding sharedInfo moduleText centreText checkFingerprint writeFingerprint confirmRequest confirmResponse
 refusals = record {
   check-no = λ κs a r s p. rw p (check-given (0 ∷ 3 ∷ 4 ∷ []) tt (a .0) (now (a .1 .0)) tt tt);
   read-identity = λ κs a r s p. rw p (answered (In ofIdentities) tt (readIdentity (now (a .0))) (identity-given (now (a .0))));
@@ -142,4 +151,11 @@ refusals = record {
   newer = λ κs a r s p. rw (p .number-so) (newer-answered (In (13 ∷ ofPubkeys)) tt tt subject-given key-given (now (a .0)) (now (a .1 .0)));
   check-fingerprint = λ κs a r s p. rw p (check-answered (In (15 ∷ ofPubkeys)) tt (readOf pubkeyKinds (now (a .0))) (checked-given (now (a .0))) tt);
   write-fingerprint = λ κs a r s p. rw (p .said) (print-answered (In (10 ∷ ofPubkeys)) tt (length (now (a .1 .0))) (readOf pubkeyKinds (now (a .0))) (print-given (now (a .0))) tt);
+  confirm-request = λ κs a r s p.
+      let request = now (a .1 .0) in
+      rw (p .said) (request-answered (In (16 ∷ 10 ∷ 18 ∷ ofLoads)) tt (now (a .0)) (length (now (a .1 .1 .0))) (length (now (a .1 .1 .1 .0))) (readOf (REQ ∷ []) request) (load-given request (16 ∷ 10 ∷ 18 ∷ ofLoads) tt .0) tt tt tt);
+  confirm-response = λ κs a r s p.
+      let request = now (a .1 .0) in
+      let response = now (a .1 .1 .0) in
+      rw p (response-answered (In (16 ∷ 17 ∷ 18 ∷ ofLoads)) tt (now (a .0)) (readOf (REQ ∷ []) request) (readOf (RESP ∷ []) response) (load-given request (16 ∷ 17 ∷ 18 ∷ ofLoads) tt .0) (load-given response (16 ∷ 17 ∷ 18 ∷ ofLoads) tt .1) tt tt tt);
 }

@@ -62,11 +62,15 @@ use Rattle.fields.proofs.attribute_named.Reads as attribute-named
 use Rattle.put.proofs.put.Reads as put
 use Rattle.put.proofs.put_byte.Reads as put-byte
 use Rattle.put.proofs.put_hex.Reads as put-hex
+use Rattle.put.proofs.put_decoded.Reads as put-decoded
 use Rattle.put.proofs.refuse.Reads as refuse
 use Rattle.sha384.proofs.Sha384.begin.Reads as sha384-begin
 use Rattle.sha384.proofs.Sha384.add.Reads as sha384-add
 use Rattle.sha384.proofs.Sha384.end.Reads as sha384-end
 use Rattle.sha384.proofs.sha384_of.Reads as sha384-of
+use Rattle.hmac.proofs.begin.Reads as hmac-begin
+use Rattle.hmac.proofs.end.Reads as hmac-end
+use Rattle.hmac.proofs.hmac_of.Reads as hmac-of
 use Rattle.items.proofs.item_place.Reads as item-place
 use Rattle.items.proofs.text_item.Reads as text-item
 use Rattle.building.proofs.build.Reads as build
@@ -82,6 +86,8 @@ use Rattle.subjects.proofs.field_in.Reads as field-in
 use Rattle.subjects.proofs.are_alike.Reads as are-alike
 use Rattle.fingerprint.proofs.check_fingerprint.Reads as check-fingerprint
 use Rattle.fingerprint.proofs.write_fingerprint.Reads as write-fingerprint
+use Rattle.confirm.proofs.confirm_request.Reads as confirm-request
+use Rattle.confirm.proofs.confirm_response.Reads as confirm-response
 use Rattle.newer.proofs.newer_of.Reads as newer-of
 use Rattle.newer.proofs.newer.Reads as newer
 
@@ -181,11 +187,17 @@ pub record Determined : Type 0 where
   pub put-byte-out : OneLeft put-byte.Post (λ κs s. now (s .0))
   pub put-hex-next : OneAnswer put-hex.Post
   pub put-hex-out : OneLeft put-hex.Post (λ κs s. now (s .0))
+  pub put-decoded-next : OneAnswer put-decoded.Post
+  pub put-decoded-out : OneLeft put-decoded.Post (λ κs s. now (s .0))
   -- sha384
   pub sha384-begin : OneAnswer sha384-begin.Post
   pub sha384-add : OneAnswer sha384-add.Post
   pub sha384-end : OneAnswer sha384-end.Post
   pub sha384-of : OneAnswer sha384-of.Post
+  -- hmac
+  pub hmac-begin : OneAnswer hmac-begin.Post
+  pub hmac-end : OneAnswer hmac-end.Post
+  pub hmac-of : OneAnswer hmac-of.Post
   -- building
   pub build-said : OneAnswer build.Post
   pub build-out : OneLeft build.Post (λ κs s. now (s .1 .1 .1 .0))
@@ -216,6 +228,11 @@ pub record Determined : Type 0 where
   pub check-fingerprint : OneAnswer check-fingerprint.Post
   pub write-fingerprint-said : OneAnswer write-fingerprint.Post
   pub write-fingerprint-out : OneLeft write-fingerprint.Post (λ κs s. now (s .1 .0))
+  -- confirm
+  pub confirm-request-said : OneAnswer confirm-request.Post
+  pub confirm-request-mac-key : OneLeft confirm-request.Post (λ κs s. now (s .1 .1 .0))
+  pub confirm-request-kek : OneLeft confirm-request.Post (λ κs s. now (s .1 .1 .1 .0))
+  pub confirm-response : OneAnswer confirm-response.Post
   -- newer
   pub newer-of : OneAnswer newer-of.Post
   pub newer-part : OnePart newer.Post

@@ -30,6 +30,8 @@ use Rattle.newer.proofs.newer_of.Reads as newer-of
 use Rattle.newer.proofs.newer.Reads as newer
 use Rattle.fingerprint.proofs.check_fingerprint.Reads as check-fingerprint
 use Rattle.fingerprint.proofs.write_fingerprint.Reads as write-fingerprint
+use Rattle.confirm.proofs.confirm_request.Reads as confirm-request
+use Rattle.confirm.proofs.confirm_response.Reads as confirm-response
 
 -- a field is named, by its number from 1, exactly with 6, 7 and 9; the field number is 0 with every other number
 abbrev pub NamesField : {K : Type 0} {A R S : K → Type 0} → ((κs : K) → A κs → R κs → S κs → Type 0) → ((κs : K) → R κs → S κs → ℕ) → ((κs : K) → R κs → S κs → ℕ) → Type 0
@@ -59,3 +61,5 @@ pub record FieldNumbers : Type 0 where
   pub newer : NamesField newer.Post (λ κs r s. now (s .1 .1 .0)) (λ κs r s. now (s .1 .1 .1 .0))
   pub check-fingerprint : NamesField check-fingerprint.Post (λ κs r s. r .no) (λ κs r s. r .field)
   pub write-fingerprint : NamesField write-fingerprint.Post (λ κs r s. r .no) (λ κs r s. r .field)
+  pub confirm-request : NamesField confirm-request.Post (λ κs r s. r .no) (λ κs r s. r .field)
+  pub confirm-response : NamesField confirm-response.Post (λ κs r s. r .no) (λ κs r s. r .field)

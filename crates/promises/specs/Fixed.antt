@@ -6,7 +6,7 @@ use Prim.Native.Char.{code}
 use mathlib.Core.Bool.{Bool, true, false}
 use mathlib.Core.List.{List, [], _∷_, _++_}
 use lib.ListN.{take, drop, replicate, set}
-use Rattle.numbers.specs.Numbers.{tooLong, unknownKind, missingCheck, wrongCheck, wrongCount, wrongText, wrongIdentity, unpaired, wrongKind, shortOutput, unfinished, missingItem, notAlike, wrongAttributes, wrongFingerprint}
+use Rattle.numbers.specs.Numbers.{tooLong, unknownKind, missingCheck, wrongCheck, wrongCount, wrongText, wrongIdentity, unpaired, wrongKind, shortOutput, unfinished, missingItem, notAlike, wrongAttributes, wrongFingerprint, wrongZ, otherRequest, wrongTag}
 use Rattle.text.specs.Text.{Bytes, ascii, isIdent, isTimestamp, isHex, isPrintable, Ident, Timestamp, Point, Sig, Mac, Print, Protected, Hex, isOf}
 use Rattle.text.specs.Base16.{base16}
 use Rattle.sha384.specs.Sha384.{sha384}
@@ -27,6 +27,9 @@ use Rattle.files.specs.Walk.{lineSaid, numberOf}
 use Rattle.newer.specs.Newer.{newer, choiceNo}
 use Rattle.fingerprint.specs.Fingerprint.{checkFingerprint, writeFingerprint}
 use Rattle.fingerprint.specs.declared.Checked.{Checked}
+use Rattle.hmac.specs.Hmac.{hmac}
+use Rattle.confirm.specs.Confirm.{saysOf, confirmRequest, confirmResponse}
+use Rattle.confirm.specs.declared.Confirmed.{Confirmed}
 use Rattle.promises.specs.Values.{Value, number, bytes, test, types, admitted}
 use Rattle.promises.specs.Worked.{manufacturerId, moduleIdFields, moduleId, centreId, manufacturerKeyFields, manufacturerKey, moduleKeyFields, moduleKey, centreKeyFields, centreKey, requestFields, request, responseFields, response, keyAttributes, keyFields, key, longAttributes}
 
@@ -147,8 +150,8 @@ said o = answer o ∷ place o ∷ []
 
 unfoldable pub numbers : List Value
 numbers =
-    bytes (tooLong ∷ unknownKind ∷ missingCheck ∷ wrongCheck ∷ wrongCount ∷ wrongText ∷ wrongIdentity ∷ unpaired ∷ wrongKind ∷ shortOutput ∷ unfinished ∷ missingItem ∷ notAlike ∷ wrongAttributes ∷ wrongFingerprint ∷ [])
-    (1 ∷ 2 ∷ 3 ∷ 4 ∷ 5 ∷ 6 ∷ 7 ∷ 8 ∷ 9 ∷ 10 ∷ 11 ∷ 12 ∷ 13 ∷ 14 ∷ 15 ∷ [])
+    bytes (tooLong ∷ unknownKind ∷ missingCheck ∷ wrongCheck ∷ wrongCount ∷ wrongText ∷ wrongIdentity ∷ unpaired ∷ wrongKind ∷ shortOutput ∷ unfinished ∷ missingItem ∷ notAlike ∷ wrongAttributes ∷ wrongFingerprint ∷ wrongZ ∷ otherRequest ∷ wrongTag ∷ [])
+    (1 ∷ 2 ∷ 3 ∷ 4 ∷ 5 ∷ 6 ∷ 7 ∷ 8 ∷ 9 ∷ 10 ∷ 11 ∷ 12 ∷ 13 ∷ 14 ∷ 15 ∷ 16 ∷ 17 ∷ 18 ∷ [])
     ∷ bytes (said (readRecord (ascii "PK.ECDH.1"))) (2 ∷ 0 ∷ [])
     ∷ bytes (said (readRecord (ascii "PK.ECDH.1:x"))) (2 ∷ 0 ∷ [])
     ∷ bytes (said (readRecord moduleId)) (2 ∷ 0 ∷ [])
@@ -408,5 +411,33 @@ fingerprints =
     ∷ bytes (saidOf (writeFingerprint (recordOf ECDH otherPrint) 15)) (10 ∷ 0 ∷ [])
     ∷ []
 
+-- ---- document 02, E5: RFC 4231's first test case, cut to 192 bits
+
+unfoldable pub tags : List Value
+tags = bytes (base16 (hmac (replicate 20 0x0B) (ascii "Hi There"))) (ascii "AFD03944D84895626B0825F4AB46907F15F9DADBE4101EC6") ∷ []
+
+-- each number in its order, with every later fault present too: no Z is 003's, and no output has room where it is not said
+abbrev pub answer3 : Confirmed → Bytes
+answer3 c = c .no ∷ c .field ∷ c .which ∷ []
+
+abbrev pub mistyped : Bytes
+mistyped = ascii "VKLOAD.REQ.1|0000"
+
+abbrev pub otherZ : Bytes
+otherZ = replicate 96 0
+
+unfoldable pub confirming : List Value
+confirming =
+    bytes (answer3 (saysOf (confirmRequest [] mistyped 0 0))) (4 ∷ 0 ∷ 1 ∷ [])
+    ∷ bytes (answer3 (saysOf (confirmRequest [] (recordOf RESP responseFields) 0 0))) (2 ∷ 0 ∷ 1 ∷ [])
+    ∷ bytes (answer3 (saysOf (confirmRequest (drop 1 otherZ) (recordOf REQ requestFields) 0 0))) (16 ∷ 0 ∷ 0 ∷ [])
+    ∷ bytes (answer3 (saysOf (confirmRequest otherZ (recordOf REQ requestFields) 23 24))) (10 ∷ 0 ∷ 0 ∷ [])
+    ∷ bytes (answer3 (saysOf (confirmRequest otherZ (recordOf REQ requestFields) 24 23))) (10 ∷ 0 ∷ 0 ∷ [])
+    ∷ bytes (answer3 (confirmResponse [] mistyped (ascii "VKLOAD.RESP.1|0000"))) (4 ∷ 0 ∷ 1 ∷ [])
+    ∷ bytes (answer3 (confirmResponse [] (recordOf REQ requestFields) (ascii "VKLOAD.RESP.1|0000"))) (4 ∷ 0 ∷ 2 ∷ [])
+    ∷ bytes (answer3 (confirmResponse (0 ∷ otherZ) (recordOf REQ requestFields) (recordOf RESP (set responseFields 2 leapDay)))) (16 ∷ 0 ∷ 0 ∷ [])
+    ∷ bytes (answer3 (confirmResponse otherZ (recordOf REQ requestFields) (recordOf RESP (set responseFields 2 leapDay)))) (17 ∷ 0 ∷ 0 ∷ [])
+    ∷ []
+
 unfoldable pub fixed : List Value
-fixed = rows ++ alphabets ++ limits ++ labels ++ checks ++ numbers ++ building ++ texts ++ others ++ lists ++ keys ++ longKeys ++ days ++ dates ++ hashes ++ agreeing ++ differing ++ fingerprints
+fixed = rows ++ alphabets ++ limits ++ labels ++ checks ++ numbers ++ building ++ texts ++ others ++ lists ++ keys ++ longKeys ++ days ++ dates ++ hashes ++ agreeing ++ differing ++ fingerprints ++ tags ++ confirming

@@ -35,6 +35,9 @@ use Rattle.exports.proofs.hashing.obscurlane_sha384_end.Reads as sha384-end
 use Rattle.exports.proofs.hashing.obscurlane_sha384_of.Reads as sha384-of
 use Rattle.exports.proofs.hashing.obscurlane_check_fingerprint.Reads as check-fingerprint
 use Rattle.exports.proofs.hashing.obscurlane_write_fingerprint.Reads as write-fingerprint
+use Rattle.exports.proofs.confirming.obscurlane_hmac_of.Reads as hmac-of
+use Rattle.exports.proofs.confirming.obscurlane_confirm_request.Reads as confirm-request
+use Rattle.exports.proofs.confirming.obscurlane_confirm_response.Reads as confirm-response
 use lib.ListN.{length}
 use Rattle.crc16.specs.Crc.{begin, add, end, crcOf}
 use Rattle.text.specs.Text.{isIdent, isTimestamp, isHex, isPoint, isSig, isMac, isPrint}
@@ -53,6 +56,8 @@ use Rattle.newer.specs.Newer.{newer as newest, choiceSaid}
 use Rattle.sha384.specs.Sha384.{sha384}
 use Rattle.sha384.specs.State.{begun, added, ended}
 use Rattle.fingerprint.specs.Fingerprint.{checkFingerprint, writeFingerprint}
+use Rattle.hmac.specs.Hmac.{hmac}
+use Rattle.confirm.specs.Confirm.{saysOf, macKeyOf, kekOf, confirmRequest, confirmResponse}
 use Rattle.exports.specs.Exports.{found}
 use Rattle.promises.specs.Calls.{Answers, Leaves}
 
@@ -106,3 +111,11 @@ pub record Interface : Type 0 where
   pub check-fingerprint : Answers check-fingerprint.Post (λ κs a. checkFingerprint (now (a .0)))
   pub write-fingerprint-said : Answers write-fingerprint.Post (λ κs a. says (writeFingerprint (now (a .0)) (length (now (a .1 .0)))))
   pub write-fingerprint-out : Leaves write-fingerprint.Post (λ κs s. now (s .1 .0)) (λ κs a. leaves (writeFingerprint (now (a .0)) (length (now (a .1 .0)))) (now (a .1 .0)))
+  -- HMAC, and confirmation tags
+  pub hmac-of : Answers hmac-of.Post (λ κs a. record { bytes = hmac (now (a .0)) (now (a .1 .0)) })
+  pub confirm-request-said : Answers confirm-request.Post (λ κs a. saysOf (confirmRequest (now (a .0)) (now (a .1 .0)) (length (now (a .1 .1 .0))) (length (now (a .1 .1 .1 .0)))))
+  pub confirm-request-mac-key : Leaves confirm-request.Post (λ κs s. now (s .1 .1 .0))
+      (λ κs a. leaves (macKeyOf (confirmRequest (now (a .0)) (now (a .1 .0)) (length (now (a .1 .1 .0))) (length (now (a .1 .1 .1 .0))))) (now (a .1 .1 .0)))
+  pub confirm-request-kek : Leaves confirm-request.Post (λ κs s. now (s .1 .1 .1 .0))
+      (λ κs a. leaves (kekOf (confirmRequest (now (a .0)) (now (a .1 .0)) (length (now (a .1 .1 .0))) (length (now (a .1 .1 .1 .0))))) (now (a .1 .1 .1 .0)))
+  pub confirm-response : Answers confirm-response.Post (λ κs a. confirmResponse (now (a .0)) (now (a .1 .0)) (now (a .1 .1 .0)))

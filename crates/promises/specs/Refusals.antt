@@ -34,6 +34,8 @@ use Rattle.newer.proofs.newer_of.Reads as newer-of
 use Rattle.newer.proofs.newer.Reads as newer
 use Rattle.fingerprint.proofs.check_fingerprint.Reads as check-fingerprint
 use Rattle.fingerprint.proofs.write_fingerprint.Reads as write-fingerprint
+use Rattle.confirm.proofs.confirm_request.Reads as confirm-request
+use Rattle.confirm.proofs.confirm_response.Reads as confirm-response
 
 -- the number that `number` picks of an answer is one of ns, whatever the contract Q allows
 abbrev pub GivesOnly : {K : Type 0} {A R S : K → Type 0} → ((κs : K) → A κs → R κs → S κs → Type 0) → ((κs : K) → R κs → S κs → ℕ) → List ℕ → Type 0
@@ -54,7 +56,10 @@ ofPubkeys = 0 ∷ 1 ∷ 2 ∷ 3 ∷ 4 ∷ 5 ∷ 6 ∷ 7 ∷ 8 ∷ 9 ∷ []
 abbrev pub ofKeys : List ℕ
 ofKeys = 0 ∷ 1 ∷ 2 ∷ 3 ∷ 4 ∷ 5 ∷ 6 ∷ 14 ∷ []
 
--- a request has no Issuer and Signature, and no attributes
+-- a request and a response have no Issuer and Signature, and no attributes
+abbrev pub ofLoads : List ℕ
+ofLoads = 0 ∷ 1 ∷ 2 ∷ 3 ∷ 4 ∷ 5 ∷ 6 ∷ 7 ∷ 9 ∷ []
+
 abbrev pub ofTexts : List ℕ
 ofTexts = 0 ∷ 1 ∷ 2 ∷ 3 ∷ 4 ∷ 5 ∷ 6 ∷ 7 ∷ 9 ∷ 10 ∷ []
 
@@ -93,3 +98,6 @@ pub record Refusals : Type 0 where
   -- the Fingerprint of a public key: no other call gives 15
   pub check-fingerprint : GivesOnly check-fingerprint.Post (λ κs r s. r .no) (15 ∷ ofPubkeys)
   pub write-fingerprint : GivesOnly write-fingerprint.Post (λ κs r s. r .no) (10 ∷ ofPubkeys)
+  -- confirmation tags: no other call gives 16, 17 or 18
+  pub confirm-request : GivesOnly confirm-request.Post (λ κs r s. r .no) (16 ∷ 10 ∷ 18 ∷ ofLoads)
+  pub confirm-response : GivesOnly confirm-response.Post (λ κs r s. r .no) (16 ∷ 17 ∷ 18 ∷ ofLoads)

@@ -59,11 +59,15 @@ use Rattle.fields.proofs.attribute_named.Reads as attribute-named
 use Rattle.put.proofs.put.Reads as put
 use Rattle.put.proofs.put_byte.Reads as put-byte
 use Rattle.put.proofs.put_hex.Reads as put-hex
+use Rattle.put.proofs.put_decoded.Reads as put-decoded
 use Rattle.put.proofs.refuse.Reads as refuse
 use Rattle.sha384.proofs.Sha384.begin.Reads as sha384-begin
 use Rattle.sha384.proofs.Sha384.add.Reads as sha384-add
 use Rattle.sha384.proofs.Sha384.end.Reads as sha384-end
 use Rattle.sha384.proofs.sha384_of.Reads as sha384-of
+use Rattle.hmac.proofs.begin.Reads as hmac-begin
+use Rattle.hmac.proofs.end.Reads as hmac-end
+use Rattle.hmac.proofs.hmac_of.Reads as hmac-of
 use Rattle.items.proofs.item_place.Reads as item-place
 use Rattle.items.proofs.text_item.Reads as text-item
 use Rattle.building.proofs.build.Reads as build
@@ -79,6 +83,8 @@ use Rattle.subjects.proofs.field_in.Reads as field-in
 use Rattle.subjects.proofs.are_alike.Reads as are-alike
 use Rattle.fingerprint.proofs.check_fingerprint.Reads as check-fingerprint
 use Rattle.fingerprint.proofs.write_fingerprint.Reads as write-fingerprint
+use Rattle.confirm.proofs.confirm_request.Reads as confirm-request
+use Rattle.confirm.proofs.confirm_response.Reads as confirm-response
 use Rattle.newer.proofs.newer_of.Reads as newer-of
 use Rattle.newer.proofs.newer.Reads as newer
 use Rattle.exports.proofs.check.obscurlane_crc_begin.Reads as c-crc-begin
@@ -114,6 +120,9 @@ use Rattle.exports.proofs.hashing.obscurlane_sha384_end.Reads as c-sha384-end
 use Rattle.exports.proofs.hashing.obscurlane_sha384_of.Reads as c-sha384-of
 use Rattle.exports.proofs.hashing.obscurlane_check_fingerprint.Reads as c-check-fingerprint
 use Rattle.exports.proofs.hashing.obscurlane_write_fingerprint.Reads as c-write-fingerprint
+use Rattle.exports.proofs.confirming.obscurlane_hmac_of.Reads as c-hmac-of
+use Rattle.exports.proofs.confirming.obscurlane_confirm_request.Reads as c-confirm-request
+use Rattle.exports.proofs.confirming.obscurlane_confirm_response.Reads as c-confirm-response
 
 -- the call whose `requires` is P takes any arguments a, whatever the lifetimes κs
 abbrev pub Takes : {K : Type 0} {A : K → Type 0} → ((κs : K) → A κs → Type 0) → Type 0
@@ -186,12 +195,17 @@ pub record Total : Type 0 where
   pub put : Takes put.Pre
   pub put-byte : Takes put-byte.Pre
   pub put-hex : Takes put-hex.Pre
+  pub put-decoded : Takes put-decoded.Pre
   pub refuse : Takes refuse.Pre
   -- sha384
   pub sha384-begin : Takes sha384-begin.Pre
   pub sha384-add : Takes sha384-add.Pre
   pub sha384-end : Takes sha384-end.Pre
   pub sha384-of : Takes sha384-of.Pre
+  -- hmac
+  pub hmac-begin : Takes hmac-begin.Pre
+  pub hmac-end : Takes hmac-end.Pre
+  pub hmac-of : Takes hmac-of.Pre
   -- items
   pub item-place : Takes item-place.Pre
   pub text-item : Takes text-item.Pre
@@ -215,6 +229,9 @@ pub record Total : Type 0 where
   -- fingerprint
   pub check-fingerprint : Takes check-fingerprint.Pre
   pub write-fingerprint : Takes write-fingerprint.Pre
+  -- confirm
+  pub confirm-request : Takes confirm-request.Pre
+  pub confirm-response : Takes confirm-response.Pre
   -- newer
   pub newer-of : Takes newer-of.Pre
   pub newer : Takes newer.Pre
@@ -252,3 +269,6 @@ pub record Total : Type 0 where
   pub c-sha384-of : Takes c-sha384-of.Pre
   pub c-check-fingerprint : Takes c-check-fingerprint.Pre
   pub c-write-fingerprint : Takes c-write-fingerprint.Pre
+  pub c-hmac-of : Takes c-hmac-of.Pre
+  pub c-confirm-request : Takes c-confirm-request.Pre
+  pub c-confirm-response : Takes c-confirm-response.Pre

@@ -20,6 +20,7 @@ ghost use Rattle.promises.specs.Demand3.{Demand3};
 ghost use Rattle.promises.specs.Newer.{Newer};
 ghost use Rattle.promises.specs.Hash.{Hash};
 ghost use Rattle.promises.specs.Fingerprint.{Fingerprints};
+ghost use Rattle.promises.specs.Confirmation.{Confirmations};
 ghost use Rattle.promises.specs.Witnesses.{Witnesses};
 ghost use Rattle.promises.specs.Forms.{Forms};
 ghost use Rattle.promises.specs.Values.{AllCome};
@@ -27,5 +28,5 @@ ghost use Rattle.promises.specs.Starred.{starred};
 ghost use Rattle.promises.specs.Fixed.{fixed};
 
 fn promised()
-    ensures { λ _. ⌜ Total × Determined × Interface × Refusals × FieldNumbers × Check × TextTypes × Conversion × Calendar × Reading × Attributes × Building × Rebuilding × Agreement × Files × Listing × Demand3 × Newer × Hash × Fingerprints × Witnesses × Forms × AllCome starred × AllCome fixed ⌝ }
+    ensures { λ _. ⌜ Total × Determined × Interface × Refusals × FieldNumbers × Check × TextTypes × Conversion × Calendar × Reading × Attributes × Building × Rebuilding × Agreement × Files × Listing × Demand3 × Newer × Hash × Fingerprints × Confirmations × Witnesses × Forms × AllCome starred × AllCome fixed ⌝ }
 {}

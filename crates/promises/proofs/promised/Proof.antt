@@ -20,6 +20,7 @@ use Rattle.promises.proofs.Demand3.{demand3}
 use Rattle.promises.proofs.Newer.{newest}
 use Rattle.promises.proofs.Hash.{hash}
 use Rattle.promises.proofs.Fingerprint.{fingerprints}
+use Rattle.promises.proofs.Confirmation.{confirmations}
 use Rattle.promises.proofs.Witnesses.{witnesses}
 use Rattle.promises.proofs.Forms.{forms}
 use Rattle.promises.proofs.Starred.{all-starred}
@@ -28,7 +29,7 @@ use Rattle.promises.proofs.promised.Statement.{statement}
 use Rattle.promises.proofs.promised.Tie as tie
 
 returns : tie.Need-returns
-returns c = (total, determined, interface, refusals, field-numbers, check, text-types, conversion, calendar, reading, attributes, building, rebuilding, agreement, files, listing, demand3, newest, hash, fingerprints, witnesses, forms, all-starred, all-fixed)
+returns c = (total, determined, interface, refusals, field-numbers, check, text-types, conversion, calendar, reading, attributes, building, rebuilding, agreement, files, listing, demand3, newest, hash, fingerprints, confirmations, witnesses, forms, all-starred, all-fixed)
 
 pub promised-spec : {M : Type 1} → statement M
 promised-spec = tie.close (tie.spec returns)
