@@ -1,4 +1,5 @@
 // The other calls, by their numbers in the case file.
+use crate::confirmations;
 use crate::hashes;
 use crate::say;
 
@@ -139,6 +140,7 @@ pub(crate) fn run<'a>(op: usize, n: usize, a: &'a [u8], b: &'a [u8]) {
         32 => hashes::print_hash(a),
         33 => hashes::print_by_state(n, a),
         34 => hashes::print_check(a),
+        36 => confirmations::print_hmac(a, b),
         _ => {}
     }
 }

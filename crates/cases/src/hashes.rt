@@ -9,7 +9,7 @@ fn print_byte(byte: u8) {
     say::number(byte as usize);
 }
 
-fn print_bytes(bytes: &[u8]) {
+pub(crate) fn print_bytes(bytes: &[u8]) {
     let mut i: usize = 0;
     while i < bytes.len() {
         print_byte(bytes[i]);

@@ -2,6 +2,7 @@
 // prints an answer for each. What it must print, the file stdout, is what compare/ answered. compare/README.md has the form
 // of both files.
 mod calls;
+mod confirmations;
 mod hashes;
 mod input;
 mod outputs;
@@ -13,10 +14,10 @@ ghost use mathlib.Core.Path.{_≡_};
 ghost use lib.ListN.{length};
 
 // Room for the case file. The length is stated because a proof that looked at this many zeros would be slow.
-fn room() -> [u8; 2097152]
-    ensures { λ r. ⌜ 2097152 ≡ length r ⌝ }
+fn room() -> [u8; 3145728]
+    ensures { λ r. ⌜ 3145728 ≡ length r ⌝ }
 {
-    [0; 2097152]
+    [0; 3145728]
 }
 
 // One case, by its head: the call, its number n, and its label and its strings a, b and c. An output that is lent has n
@@ -31,6 +32,8 @@ fn run_case(file: &[u8], head: &[u8]) {
     match op {
         24..=27 => outputs::write(op, a, b, c, n, input::cut(file, 0, 1024)),
         35 => outputs::write(op, a, b, c, n, input::cut(file, 0, 1024)),
+        37 => confirmations::print_request(a, b, c, n, input::cut(file, 0, 1024)),
+        38 => confirmations::print_response(a, b, c),
         64..=127 => sweeps::sweep(op % 64, n, a, b, c),
         _ => calls::run(op, n, a, b),
     }

@@ -1,5 +1,6 @@
 // The calls that a step names. Each prints what the library hands back, and answers up to which place the value known
 // agrees.
+use crate::confirmations;
 use crate::say;
 
 // ---- building from the fields that reading hands back
@@ -214,12 +215,26 @@ const FINGERPRINT: usize = 15;
 
 const CHECK_FINGERPRINT: usize = 16;
 
-const BUILD: usize = 17;
+const HMAC: usize = 17;
+
+const MODULE_TAG: usize = 18;
+
+const CENTRE_TAG: usize = 19;
+
+const MAC_KEY: usize = 20;
+
+const KEK: usize = 21;
+
+const CONFIRM_REQUEST: usize = 22;
+
+const CONFIRM_RESPONSE: usize = 23;
+
+const BUILD: usize = 24;
 
 // Which of the names a word is; BUILD where it is none of them.
 fn call_of(name: &[u8]) -> usize {
     let names =
-        b"newer file shared_info module_text centre_text module_item read_identity read_record identity_field record_field attribute attribute_named attributes sha384 thousandfold fingerprint check_fingerprint";
+        b"newer file shared_info module_text centre_text module_item read_identity read_record identity_field record_field attribute attribute_named attributes sha384 thousandfold fingerprint check_fingerprint hmac module_tag centre_tag mac_key kek confirm_request confirm_response";
     let mut k: usize = 0;
     while k < BUILD {
         if text::are_same(name, frame::part(b' ', names, k)) {
@@ -230,7 +245,14 @@ fn call_of(name: &[u8]) -> usize {
     k
 }
 
-pub(crate) fn run<'a>(name: &[u8], n: usize, a: &'a [u8], b: &'a [u8], known: &[u8]) -> usize {
+pub(crate) fn run<'a>(
+    name: &[u8],
+    n: usize,
+    a: &'a [u8],
+    b: &'a [u8],
+    c: &[u8],
+    known: &[u8],
+) -> usize {
     let call = call_of(name);
     match call {
         FILE => file(known, a, b),
@@ -243,6 +265,13 @@ pub(crate) fn run<'a>(name: &[u8], n: usize, a: &'a [u8], b: &'a [u8], known: &[
         THOUSANDFOLD => thousandfold(known, a),
         FINGERPRINT => fingerprint(known, a),
         CHECK_FINGERPRINT => say::part(known, fingerprint::check_fingerprint(a).no, b"accepted"),
+        HMAC => confirmations::hmac(known, n, a, b),
+        MODULE_TAG => confirmations::module_tag(known, a, b),
+        CENTRE_TAG => confirmations::centre_tag(known, a, b),
+        MAC_KEY => confirmations::key(known, false, n, a, b),
+        KEK => confirmations::key(known, true, n, a, b),
+        CONFIRM_REQUEST => confirmations::confirm_request(known, a, b),
+        CONFIRM_RESPONSE => confirmations::confirm_response(known, a, b, c),
         BUILD => rebuild(known, a),
         _ => part(known, call, n, a, b),
     }

@@ -1,6 +1,7 @@
-// What a call hands back, as text: the bytes themselves, those of a key agreement text in hexadecimal characters, or
-// `refused` and the number. It is printed piece by piece and held against the value known: a function is told up to which
-// place that agrees, and answers up to which it agrees then. A place past the end of the value known stands for none.
+// What a call hands back, as text: the bytes themselves, those of a key agreement text, a hash, a key or a tag in hexadecimal
+// characters, or `refused` and the number. It is printed piece by piece and held against the value known: a function is told
+// up to which place that agrees, and answers up to which it agrees then. A place past the end of the value known stands for
+// none.
 use libc::STDOUT_FILENO;
 
 pub(crate) fn text(s: &[u8]) {
