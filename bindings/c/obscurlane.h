@@ -73,7 +73,7 @@ enum {
     OBSCURLANE_UNPAIRED = 8,
     /* An identity field is of a kind not permitted there; its number comes too. */
     OBSCURLANE_WRONG_KIND = 9,
-    /* The lent output is shorter than the record or text needs. */
+    /* The lent output is shorter than the record, text or key needs. */
     OBSCURLANE_SHORT_OUTPUT = 10,
     /* The last line of a file has bytes and no line feed. */
     OBSCURLANE_UNFINISHED = 11,

@@ -35,7 +35,7 @@ pub enum Reason {
     Unpaired = 8,
     /// 9: an identity field is of a kind not permitted there; its number comes too.
     WrongKind = 9,
-    /// 10: the lent output is shorter than the record or text needs.
+    /// 10: the lent output is shorter than the record, text or key needs.
     ShortOutput = 10,
     /// 11: the last line of a file has bytes and no line feed.
     Unfinished = 11,
