@@ -25,11 +25,11 @@ use Rattle.format.specs.Kinds.{Kind, REQ, RESP, Field, Text, fieldsOf}
 use Rattle.format.specs.Build.{FitAll, Fits, IsIdentity, Permitted, Built, recordOf}
 use Rattle.format.specs.Read.{Outcome, accepted, refused, answer, readOf}
 use Rattle.format.proofs.Table.{among-one}
-use Rattle.format.proofs.Fields.{fit-length, record-short}
+use Rattle.format.proofs.Fields.{fit-length, fit-at, record-short}
 use Rattle.format.proofs.Exactly.{identity-tame, read-exact, read-honest}
 use Rattle.format.proofs.Refusals.{Gives}
 use Rattle.items.specs.Items.{lvConcat}
-use Rattle.agreement.specs.Texts.{idSm, idKmc, tvp, sharedItems, moduleItems}
+use Rattle.agreement.specs.Texts.{idSm, idKmc, tvp, sharedItems, moduleItems, centreItems}
 use Rattle.hmac.specs.Hmac.{mixed, ipad, mac, hmac}
 use Rattle.hmac.specs.State.{hmacBegun, hmacEnded}
 use Rattle.hmac.proofs.Tags.{tag-size, tag-bytes}
@@ -349,12 +349,11 @@ fit-set (s ∷ ts) [] j t h f = absurd h
 fit-set (s ∷ ts) (x ∷ fs) zero t h f = (f, h .1)
 fit-set (s ∷ ts) (x ∷ fs) (suc j) t h f = (h .0, fit-set ts fs j t (h .1) f)
 
-is-mac : (z : Bytes) (fs : List Bytes) → T (isMac (moduleTag z fs))
+is-mac : (k text : Bytes) → T (isMac (base16 (hmac k text)))
 unfolding isHex
-is-mac z fs =
-    let tag = hmac (macKey z fs) (lvConcat (moduleItems fs)) in
-    yes-and (eqb (length (base16 tag)) 48) (every hexadecimal (base16 tag))
-    (rw (length-base16 tag, tag-size (macKey z fs) (lvConcat (moduleItems fs))) tt) (every-digit tag (tag-bytes (macKey z fs) (lvConcat (moduleItems fs))))
+is-mac k text =
+    let tag = hmac k text in
+    yes-and (eqb (length (base16 tag)) 48) (every hexadecimal (base16 tag)) (rw (length-base16 tag, tag-size k text) tt) (every-digit tag (tag-bytes k text))
 
 module _ (z : Bytes) (fs : List Bytes) (p : Permitted REQ fs) where
   abbrev right : List Bytes
@@ -362,7 +361,7 @@ module _ (z : Bytes) (fs : List Bytes) (p : Permitted REQ fs) where
 
   right-fit : FitAll IsIdentity (fieldsOf REQ) right
   unfolding Fits
-  right-fit = fit-set (fieldsOf REQ) fs 6 (moduleTag z fs) (p .fit) (is-mac z fs)
+  right-fit = fit-set (fieldsOf REQ) fs 6 (moduleTag z fs) (p .fit) (is-mac (macKey z fs) (lvConcat (moduleItems fs)))
 
   right-built : Built (REQ ∷ []) (recordOf REQ right) REQ right
   right-built = record {
@@ -386,6 +385,37 @@ module _ (z : Bytes) (fs : List Bytes) (p : Permitted REQ fs) where
   confirmed m k l hm hk =
       request-so z (recordOf REQ right) m k right right-built
       ∙ ap plain (rw (eq-eqb (length z) 96 l, le-leb 24 m hm, le-leb 24 k hk, T-true (same (requestTag right) (moduleTag z right)) (yes-same (requestTag right) (moduleTag z right) right-tag)))
+
+  -- and its response
+
+  abbrev its-response : List Bytes
+  its-response = idKmc fs ∷ idSm fs ∷ tvp fs ∷ centreTag z fs ∷ []
+
+  response-fit : FitAll IsIdentity (fieldsOf RESP) its-response
+  unfolding FitAll Fits
+  response-fit =
+      let at : (j : ℕ) → j < 7 → Fits IsIdentity (getD (fieldsOf REQ) j (Text Ident)) (getD fs j []) = λ j h. fit-at IsIdentity (fieldsOf REQ) fs (p .fit) j h in
+      (at 1 (omega arith), (at 0 (omega arith), (at 2 (omega arith), (is-mac (macKey z fs) (lvConcat (centreItems fs)), tt))))
+
+  request-built : Built (REQ ∷ []) (recordOf REQ fs) REQ fs
+  request-built = record { of-kind = tt; permitted = p; built = refl }
+
+  response-built : Built (RESP ∷ []) (recordOf RESP its-response) RESP its-response
+  response-built = record {
+    of-kind = tt;
+    permitted = record {
+      fit = response-fit;
+      both = tt;
+      attributes = tt;
+      short = le→leb (length (recordOf RESP its-response)) 1024 (le-trans (record-short IsIdentity identity-tame RESP its-response tt response-fit) (lit≤ tt));
+    };
+    built = refl;
+  }
+
+  answered : length z ≡ 96 → confirmResponse z (recordOf REQ fs) (recordOf RESP its-response) ≡ plain 0
+  answered l =
+      response-so z (recordOf REQ fs) (recordOf RESP its-response) fs its-response request-built response-built
+      ∙ ap plain (rw (eq-eqb (length z) 96 l, T-true (same (idKmc fs) (idKmc fs)) (same-refl (idKmc fs)), T-true (same (idSm fs) (idSm fs)) (same-refl (idSm fs)), T-true (same (tvp fs) (tvp fs)) (same-refl (tvp fs)), T-true (same (centreTag z fs) (centreTag z fs)) (same-refl (centreTag z fs))))
 
 -- ---- HMAC in slices
 
@@ -415,4 +445,5 @@ confirmations = record {
   response-z = response-z;
   other-tag = other-tag;
   confirmed = λ z fs m k p. confirmed z fs p m k;
+  answered = λ z fs p. answered z fs p;
 }

@@ -103,3 +103,6 @@ pub record Confirmations : Type 0 where
   -- whatever the fields and Z, the request that has the right tag is built and confirmed
   pub confirmed : (z : Bytes) (fs : List Bytes) (m k : ℕ) → Permitted REQ fs → length z ≡ 96 → 24 ≤ m → 24 ≤ k
       → saysOf (confirmRequest z (recordOf REQ (set fs 6 (moduleTag z fs))) m k) ≡ plain 0
+  -- and so is its response
+  pub answered : (z : Bytes) (fs : List Bytes) → Permitted REQ fs → length z ≡ 96
+      → confirmResponse z (recordOf REQ fs) (recordOf RESP (idKmc fs ∷ idSm fs ∷ tvp fs ∷ centreTag z fs ∷ [])) ≡ plain 0
