@@ -61,9 +61,9 @@ module _ (z request m k : Bytes) (a : Answer) (e : a ≡ answerOf (readOf (REQ �
   abbrev found : Confirmation
   found = confirmRequest z request (length m) (length k)
 
-  pub request-refused : (a .no ≡ 0 → ⊥) → Confirms found m k m k (record { no = a .no; field = a .field; which = 1 })
+  pub request-refused : (r : Confirmed) → (a .no ≡ 0 → ⊥) → r ≡ saysOf (denies (a .no) (a .field) 1) → Confirms found m k m k r
   unfolding confirmRequest
-  request-refused n = rw (untaken (readOf (REQ ∷ []) request) a e n) (denied-so _ refl)
+  request-refused r n f = rw (untaken (readOf (REQ ∷ []) request) a e n) (denied-so r f)
 
   module _ (n : a .no ≡ 0) where
     abbrev fs : List Bytes
@@ -110,14 +110,14 @@ module _ (z request m k : Bytes) (a : Answer) (e : a ≡ answerOf (readOf (REQ �
 -- ---- of a response, with the request that it answers
 
 module _ (z request response : Bytes) (a : Answer) (e : a ≡ answerOf (readOf (REQ ∷ []) request)) where
-  pub first-refused : (a .no ≡ 0 → ⊥) → record { no = a .no; field = a .field; which = 1 } ≡ confirmResponse z request response
+  pub first-refused : (r : Confirmed) → (a .no ≡ 0 → ⊥) → r ≡ record { no = a .no; field = a .field; which = 1 } → r ≡ confirmResponse z request response
   unfolding confirmResponse
-  first-refused n = rw (untaken (readOf (REQ ∷ []) request) a e n)
+  first-refused r n g = g ∙ rw (untaken (readOf (REQ ∷ []) request) a e n)
 
   module _ (n : a .no ≡ 0) (b : Answer) (f : b ≡ answerOf (readOf (RESP ∷ []) response)) where
-    pub second-refused : (b .no ≡ 0 → ⊥) → record { no = b .no; field = b .field; which = 2 } ≡ confirmResponse z request response
+    pub second-refused : (r : Confirmed) → (b .no ≡ 0 → ⊥) → r ≡ record { no = b .no; field = b .field; which = 2 } → r ≡ confirmResponse z request response
     unfolding confirmResponse
-    second-refused o = rw (one-read REQ request a e n, untaken (readOf (RESP ∷ []) response) b f o)
+    second-refused r o g = g ∙ rw (one-read REQ request a e n, untaken (readOf (RESP ∷ []) response) b f o)
 
     module _ (o : b .no ≡ 0) where
       abbrev asked : List Bytes

@@ -5,12 +5,9 @@ mod tags;
 mod texts;
 
 ghost use mathlib.Core.Path.{_≡_};
-ghost use Prim.Native.Nat.{_*_};
 ghost use lib.ListN.{length};
-ghost use Rattle.format.specs.Kinds.{REQ, RESP};
-ghost use Rattle.format.specs.Read.{fieldsIn};
 ghost use Rattle.places.specs.Places.{fieldAt};
-ghost use Rattle.confirm.specs.Confirm.{answers, Confirms, confirmRequest, confirmResponse};
+ghost use Rattle.confirm.specs.Confirm.{Confirms, confirmRequest, confirmResponse};
 ghost use Rattle.confirm.specs.Steps.{answersAt};
 
 // Z has so many bytes: two shared secrets of 48.
@@ -43,6 +40,17 @@ fn say(no: u8) -> Confirmed
         no,
         field: 0,
         which: NEITHER,
+    }
+}
+
+// A record's own refusal.
+fn refuse(answer: reading::Answer, which: u8) -> Confirmed
+    ensures { λ r. ⌜ r ≡ record { no = answer .no; field = answer .field; which = which } ⌝ }
+{
+    Confirmed {
+        no: answer.no,
+        field: answer.field,
+        which,
     }
 }
 
@@ -81,11 +89,7 @@ pub fn confirm_request(z: &[u8], request: &[u8], mac_key: &mut [u8], kek: &mut [
 {
     let asked = reading::read_of(table::REQ, table::RESP, request);
     if asked.no != numbers::ACCEPTED {
-        return Confirmed {
-            no: asked.no,
-            field: asked.field,
-            which: REQUEST,
-        };
+        return refuse(asked, REQUEST);
     }
     if z.len() != Z_BYTES {
         return say(numbers::WRONG_Z);
@@ -117,19 +121,11 @@ pub fn confirm_response(z: &[u8], request: &[u8], response: &[u8]) -> Confirmed
 {
     let asked = reading::read_of(table::REQ, table::RESP, request);
     if asked.no != numbers::ACCEPTED {
-        return Confirmed {
-            no: asked.no,
-            field: asked.field,
-            which: REQUEST,
-        };
+        return refuse(asked, REQUEST);
     }
     let answered = reading::read_of(table::RESP, table::KEY, response);
     if answered.no != numbers::ACCEPTED {
-        return Confirmed {
-            no: answered.no,
-            field: answered.field,
-            which: RESPONSE,
-        };
+        return refuse(answered, RESPONSE);
     }
     if z.len() != Z_BYTES {
         return say(numbers::WRONG_Z);

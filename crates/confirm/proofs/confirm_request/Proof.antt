@@ -1,16 +1,12 @@
 -- `confirm::confirm_request` meets its contract.
 -- Assumes nothing.
 use denote.Ref.{now}
-use mathlib.Core.Path.{_≡_, refl}
-use mathlib.Core.Bool.{true, false}
+use mathlib.Core.Path.{_≡_}
 use native.Mathlib.Omega.{arith}
 use lib.ListN.{length, length-take}
 use borrow.Author.Tests.{not-true, not-false}
 use Rattle.agreement.proofs.Request.{request-suited, request-places}
-use Rattle.format.specs.Kinds.{REQ}
-use Rattle.format.specs.Read.{fieldsIn}
-use Rattle.confirm.proofs.Records.{request-tag, response-tag}
-use Rattle.confirm.proofs.Calls.{request-refused, z-wrong, mac-key-short, kek-short, mac-tag, request-tag-wrong, keys-written}
+use Rattle.confirm.proofs.Calls.{mac-tag, request-refused, z-wrong, mac-key-short, kek-short, request-tag-wrong, keys-written}
 use borrow.Author.Needs.{needs}
 use Rattle.confirm.proofs.confirm_request.Statement.{statement}
 use Rattle.confirm.proofs.confirm_request.Tie as tie
@@ -18,8 +14,11 @@ use Rattle.confirm.proofs.confirm_request.Tie as tie
 read-of-requires : tie.Need-read-of-requires
 read-of-requires c κs = search needs
 
+refuse-requires : tie.Need-refuse-requires
+refuse-requires c κs = search needs
+
 returns : tie.Need-returns
-returns c = request-refused (now (c .before .before .before .before .before .before .before .args .z)) (now (c .before .before .before .before .before .before .before .args .request)) (now (c .before .before .before .before .before .before .before .args .mac-key)) (now (c .before .before .before .before .before .before .before .args .kek)) _ (c .before .before .read-of .ensures) (c .if1 .taken)
+returns c = request-refused (now (c .before .before .before .before .before .before .before .before .args .z)) (now (c .before .before .before .before .before .before .before .before .args .request)) (now (c .before .before .before .before .before .before .before .before .args .mac-key)) (now (c .before .before .before .before .before .before .before .before .args .kek)) _ (c .before .before .before .read-of .ensures) _ (c .before .if1 .taken) (c .refuse .ensures)
 
 say-requires : tie.Need-say-requires
 say-requires c κs = search needs
@@ -109,6 +108,7 @@ confirm-request-spec =
     tie.close
     (tie.spec
     read-of-requires
+    refuse-requires
     returns
     say-requires
     returns-2

@@ -1,16 +1,13 @@
 -- `confirm::confirm_response` meets its contract.
 -- Assumes nothing.
 use denote.Ref.{now}
-use mathlib.Core.Path.{_≡_, refl}
+use mathlib.Core.Path.{_≡_}
 use mathlib.Core.Bool.{true, false}
 use native.Mathlib.Omega.{arith}
 use lib.ListN.{length, length-take}
 use borrow.Author.Tests.{not-true, not-false}
 use Rattle.agreement.proofs.Request.{request-suited, request-places}
-use Rattle.format.specs.Kinds.{REQ}
-use Rattle.format.specs.Read.{fieldsIn}
-use Rattle.confirm.proofs.Records.{request-tag, response-tag}
-use Rattle.confirm.proofs.Calls.{first-refused, second-refused, response-z-wrong, other-request, its-mac-tag, response-said}
+use Rattle.confirm.proofs.Calls.{its-mac-tag, first-refused, second-refused, response-z-wrong, other-request, response-said}
 use borrow.Author.Needs.{needs}
 use Rattle.confirm.proofs.confirm_response.Statement.{statement}
 use Rattle.confirm.proofs.confirm_response.Tie as tie
@@ -18,14 +15,20 @@ use Rattle.confirm.proofs.confirm_response.Tie as tie
 read-of-requires : tie.Need-read-of-requires
 read-of-requires c κs = search needs
 
+refuse-requires : tie.Need-refuse-requires
+refuse-requires c κs = search needs
+
 returns : tie.Need-returns
-returns c = first-refused (now (c .before .before .before .before .before .before .args .z)) (now (c .before .before .before .before .before .before .args .request)) (now (c .before .before .before .before .before .before .args .response)) _ (c .before .before .read-of .ensures) (c .if1 .taken)
+returns c = first-refused (now (c .before .before .before .before .before .before .before .args .z)) (now (c .before .before .before .before .before .before .before .args .request)) (now (c .before .before .before .before .before .before .before .args .response)) _ (c .before .before .before .read-of .ensures) _ (c .before .if1 .taken) (c .refuse .ensures)
 
 read-of-requires-2 : tie.Need-read-of-requires-2
 read-of-requires-2 c κs = search needs
 
+refuse-requires-2 : tie.Need-refuse-requires-2
+refuse-requires-2 c κs = search needs
+
 returns-2 : tie.Need-returns-2
-returns-2 c = second-refused (now (c .before .before .before .before .before .before .before .before .before .args .z)) (now (c .before .before .before .before .before .before .before .before .before .args .request)) (now (c .before .before .before .before .before .before .before .before .before .args .response)) _ (c .before .before .before .before .before .read-of .ensures) (c .before .before .before .if1 .left) _ (c .before .before .read-of2 .ensures) (c .if2 .taken)
+returns-2 c = second-refused (now (c .before .before .before .before .before .before .before .before .before .before .args .z)) (now (c .before .before .before .before .before .before .before .before .before .before .args .request)) (now (c .before .before .before .before .before .before .before .before .before .before .args .response)) _ (c .before .before .before .before .before .before .read-of .ensures) (c .before .before .before .before .if1 .left) _ (c .before .before .before .read-of2 .ensures) _ (c .before .if2 .taken) (c .refuse2 .ensures)
 
 say-requires : tie.Need-say-requires
 say-requires c κs = search needs
@@ -85,8 +88,10 @@ confirm-response-spec =
     tie.close
     (tie.spec
     read-of-requires
+    refuse-requires
     returns
     read-of-requires-2
+    refuse-requires-2
     returns-2
     say-requires
     returns-3
