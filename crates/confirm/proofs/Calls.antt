@@ -27,7 +27,7 @@ use Rattle.reading.proofs.Answers.{untaken}
 use Rattle.agreement.specs.Texts.{moduleItems, centreItems}
 use Rattle.agreement.proofs.Request.{one-read, one-permitted, one-field}
 use Rattle.confirm.specs.declared.Confirmed.{Confirmed}
-use Rattle.confirm.specs.Confirm.{kdf, derived, macKey, kek, moduleTag, centreTag, requestTag, responseTag, answers, Confirmation, keys, denies, saysOf, Confirms, confirmRequest, confirmResponse}
+use Rattle.confirm.specs.Confirm.{kdf, derived, macKey, moduleTag, centreTag, requestTag, responseTag, answers, Confirmation, keys, denies, saysOf, Confirms, confirmRequest, confirmResponse}
 use Rattle.confirm.specs.Steps.{answersAt}
 use Rattle.confirm.proofs.Compared.{same-said}
 use Rattle.confirm.proofs.Records.{request-tag, response-tag, answers-so}

@@ -1,11 +1,10 @@
 -- What the calls find in an accepted request and in an accepted response: the tags, and whether one answers the other.
 -- Assumes nothing.
-use Prim.Native.Nat.{ℕ, _<_}
-use mathlib.Core.Path.{_≡_, sym, ap, ap₂, _∙_}
+use Prim.Native.Nat.{ℕ}
+use mathlib.Core.Path.{_≡_, sym, ap₂, _∙_}
 use mathlib.Core.Bool.{Bool, true, false}
-use mathlib.Core.List.{List, [], _∷_}
+use mathlib.Core.List.{List}
 use native.Mathlib.Omega.{arith}
-use lib.ListN.{getD}
 use lib.Dec.{T}
 use Rattle.text.specs.Text.{Bytes, same, isHex}
 use Rattle.format.specs.Kinds.{REQ, RESP, fieldsOf}

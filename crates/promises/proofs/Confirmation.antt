@@ -7,7 +7,7 @@ use mathlib.Core.Bool.{Bool, true, false, not, cond, _&&_, and-false}
 use mathlib.Core.List.{List, [], _∷_, _++_}
 use native.Mathlib.Omega.{arith}
 use native.Mathlib.Nat.{le-trans}
-use lib.ListN.{length, take, drop, getD, set, take-append-drop, length-drop}
+use lib.ListN.{length, take, getD, set, take-append-drop, length-drop}
 use lib.Seq.{length-take-le, getD-take, getD-set-same, getD-set-other}
 use lib.Dec.{T, leb, eqb, eqb→eq, leb→le, le→leb, not-T, T-not, lit≤}
 use mir.Facts.{and-yes, yes-and}

@@ -1,7 +1,6 @@
 -- `confirm::does_answer` meets its contract.
 -- Assumes nothing.
 use denote.Ref.{now}
-use mathlib.Core.Path.{_∙_}
 use borrow.Author.Tests.{not-true, not-false}
 use Rattle.places.specs.Places.{fieldAt}
 use Rattle.confirm.proofs.Records.{first-apart, second-apart, all-alike}

@@ -1,14 +1,13 @@
 -- `put::put_decoded` meets its contract. The loop's invariant: the bytes of i pairs are written.
 -- Assumes nothing.
 use denote.Ref.{now}
-use Prim.Native.Nat.{_+_, _-_, _*_, _/_}
+use Prim.Native.Nat.{_+_, _-_, _*_}
 use mathlib.Core.Path.{sym}
 use mathlib.Core.List.{[], _∷_}
 use native.Mathlib.Omega.{arith}
 use lib.ListN.{length, drop}
 use borrow.Author.Tests.{not-true, not-false}
 use Rattle.text.specs.Base16.{base16Decode}
-use Rattle.put.specs.Decoded.{decoded}
 use Rattle.put.proofs.Copying.{copy-not}
 use Rattle.put.proofs.Pieces.{put-of, puts-of, put-as, put-length}
 use Rattle.put.proofs.Underway.{Underway, begin, has-room, go-on, finish}

@@ -1,7 +1,6 @@
 -- `confirm::tags::derived` meets its contract.
 -- Assumes nothing.
 use denote.Ref.{now}
-use mathlib.Core.Path.{_∙_}
 use Rattle.confirm.proofs.Keys.{derived-so}
 use borrow.Author.Needs.{needs}
 use Rattle.confirm.proofs.tags.derived.Statement.{statement}
