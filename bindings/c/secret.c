@@ -1,5 +1,7 @@
-/* The calls that are lent something secret, here bytes that were never written: valgrind follows each of them, and tells where a
- * branch or a place in memory hangs on one. bindings/c/secret runs this, a call at a time, and counts. */
+/* The calls that are lent something secret. valgrind follows bytes that were never written, and tells where a branch or a place in
+ * memory hangs on one: so the secret is the worked example's Z, mixed twice with such a byte. Its bytes are right, a tag that is
+ * compared byte by byte is compared to its end, and valgrind follows every one of them. bindings/c/secret runs this, a call at a
+ * time, and counts. */
 #include "obscurlane.h"
 #include "worked.h"
 #include <stdlib.h>
@@ -32,12 +34,18 @@ static void call(const char *name, const uint8_t *secret)
 
 int main(int count, char **names)
 {
-    uint8_t *secret = malloc(OBSCURLANE_Z_BYTES);
+    static const char z[] = WORKED_Z;
+    volatile uint8_t *unwritten = malloc(1);
+    uint8_t secret[OBSCURLANE_Z_BYTES];
 
-    if (count != 2 || secret == NULL) {
+    if (count != 2 || unwritten == NULL) {
         return 2;
     }
+    for (size_t i = 0; i < sizeof secret; i++) {
+        secret[i] = (uint8_t)((uint8_t)z[i] ^ *unwritten);
+        secret[i] = (uint8_t)(secret[i] ^ *unwritten);
+    }
     call(names[1], secret);
-    free(secret);
+    free((void *)unwritten);
     return 0;
 }
