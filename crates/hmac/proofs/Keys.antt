@@ -15,13 +15,13 @@ use Rattle.put.specs.Put.{Puts}
 use Rattle.put.proofs.Pieces.{put-of}
 use Rattle.sha384.specs.Sha384.{sha384}
 use Rattle.sha384.specs.State.{zeroed}
-use Rattle.sha384.proofs.Taken.{zeroed-more}
+use Rattle.hashing.proofs.Zeros.{zeroed-more}
 use Rattle.hmac.specs.Hmac.{K₀, mixed}
 
 -- ---- zeros after the key, or after its hash
 
 filled : (x : Bytes) {o : Bytes} {r : ℕ} → length x ≤ 128 → Puts (replicate 128 0) 0 x o r → o ≡ zeroed x
-filled x h p = put-of (omega arith) p .written ∙ zeroed-more [] x refl (omega arith)
+filled x h p = put-of (omega arith) p .written ∙ zeroed-more 128 [] x refl (omega arith)
 
 module _ (k : Bytes) where
   pub key-long : {h o : Bytes} {r : ℕ} → 128 < length k → length h ≡ 48 → h ≡ sha384 k → Puts (replicate 128 0) 0 h o r → o ≡ K₀ k

@@ -1,25 +1,18 @@
 -- What is hashed becomes 48 bytes.
 -- Assumes nothing.
-use Prim.Native.Nat.{ℕ, zero, suc}
+use Prim.Native.Nat.{ℕ, _/_, _^_}
 use mathlib.Core.Path.{_≡_, refl}
-use mathlib.Core.List.{List, [], _++_}
+use mathlib.Core.List.{List, [], _∷_, _++_}
 use native.Mathlib.Omega.{arith}
 use lib.ListN.{length}
 use Rattle.text.proofs.Hexadecimal.{AreBytes}
+use Rattle.hashing.proofs.Bytes.{bytes-more}
 use Rattle.sha384.specs.declared.Words.{Words}
 use Rattle.sha384.specs.Sha384.{bytes8, left384, sha384}
 
 -- a word's bytes, and others behind them
 word-bytes : (x : ℕ) (rest : List ℕ) → AreBytes rest → AreBytes (bytes8 x ++ rest)
-word-bytes x rest h zero = omega arith
-word-bytes x rest h (suc zero) = omega arith
-word-bytes x rest h (suc (suc zero)) = omega arith
-word-bytes x rest h (suc (suc (suc zero))) = omega arith
-word-bytes x rest h (suc (suc (suc (suc zero)))) = omega arith
-word-bytes x rest h (suc (suc (suc (suc (suc zero))))) = omega arith
-word-bytes x rest h (suc (suc (suc (suc (suc (suc zero)))))) = omega arith
-word-bytes x rest h (suc (suc (suc (suc (suc (suc (suc zero))))))) = omega arith
-word-bytes x rest h (suc (suc (suc (suc (suc (suc (suc (suc k)))))))) = h k
+word-bytes x = bytes-more (x / 2 ^ 56 ∷ x / 2 ^ 48 ∷ x / 2 ^ 40 ∷ x / 2 ^ 32 ∷ x / 2 ^ 24 ∷ x / 2 ^ 16 ∷ x / 2 ^ 8 ∷ x ∷ [])
 
 left-bytes : (v : Words) → AreBytes (left384 v)
 unfolding left384

@@ -1,10 +1,12 @@
 -- SHA-384: FIPS 180-4, section by section. A message, a block and a digest are lists of bytes, a word is a number below 2 to the 64th; of
--- the bytes of a word the highest comes first.
+-- the bytes of a word the highest comes first. Loops and blocks, which SHA-1 has too: crate `hashing`.
 -- Assumes nothing.
-use Prim.Native.Nat.{ℕ, zero, suc, _+_, _-_, _*_, _/_, _%_, _^_}
+use Prim.Native.Nat.{ℕ, _+_, _-_, _*_, _/_, _%_, _^_}
 use mathlib.Core.List.{List, [], _∷_, _++_}
-use lib.ListN.{length, take, drop, getD, replicate}
+use lib.ListN.{length, getD, replicate}
 use lib.Bits.{bitAnd, bitOr, bitXor}
+use Rattle.hashing.specs.Turns.{turns, grown}
+use Rattle.hashing.specs.Blocks
 use Rattle.sha384.specs.declared.Words.{Words}
 
 -- ---- 3.2 operations on 64-bit words
@@ -95,8 +97,8 @@ padded m = m ++ padding (length m)
 
 -- ---- 5.2.2 parsing: the i-th block of 1024 bits, from 0
 
-unfoldable pub block : List ℕ → ℕ → List ℕ
-block m i = take 128 (drop (128 * i) m)
+abbrev pub block : List ℕ → ℕ → List ℕ
+block = Blocks.block 128
 
 -- ---- 5.3.4 the initial hash value
 
@@ -123,8 +125,7 @@ word m i =
 
 -- the first t words of a block
 unfoldable pub words : List ℕ → ℕ → List ℕ
-words m zero = []
-words m (suc t) = words m t ++ word m (8 * t) ∷ []
+words m = grown (λ w t. word m (8 * t)) []
 
 -- the word after the words w of a schedule: σ₁(W t−2) + W t−7 + σ₀(W t−15) + W t−16, where t is 16 + n
 abbrev pub next : List ℕ → ℕ → ℕ
@@ -132,8 +133,7 @@ next w n = plus (plus (plus (σ₁ (getD w (n + 14) 0)) (getD w (n + 9) 0)) (σ�
 
 -- the first 16 + n words of the message schedule of a block
 unfoldable pub schedule : List ℕ → ℕ → List ℕ
-schedule m zero = words m 16
-schedule m (suc n) = schedule m n ++ next (schedule m n) n ∷ []
+schedule m = grown next (words m 16)
 
 abbrev pub T₁ : Words → ℕ → ℕ → ℕ
 T₁ v k w = plus (plus (plus (plus (v .h) (Σ₁ (v .e))) (Ch (v .e) (v .f) (v .g))) k) w
@@ -157,8 +157,7 @@ round v k w =
 
 -- the first t rounds, with the constants k and the schedule w
 unfoldable pub rounds : List ℕ → List ℕ → Words → ℕ → Words
-rounds k w v zero = v
-rounds k w v (suc t) = round (rounds k w v t) (getD k t 0) (getD w t 0)
+rounds k w = turns (λ v t. round v (getD k t 0) (getD w t 0))
 
 -- word by word
 abbrev pub sums : Words → Words → Words
@@ -179,9 +178,8 @@ unfoldable pub compress : Words → List ℕ → Words
 compress v m = sums (rounds K (schedule m 64) v 80) v
 
 -- the hash value after the first i blocks of m, from the hash value v before them
-unfoldable pub hashed : Words → List ℕ → ℕ → Words
-hashed v m zero = v
-hashed v m (suc i) = compress (hashed v m i) (block m i)
+abbrev pub hashed : Words → List ℕ → ℕ → Words
+hashed = Blocks.hashed 128 compress
 
 -- the leftmost 384 bits
 unfoldable pub left384 : Words → List ℕ

@@ -1,7 +1,7 @@
 -- `fingerprint::hash_of` meets its contract.
 -- Assumes nothing.
 use mathlib.Core.Path.{_∙_}
-use Rattle.sha384.specs.State.{addedAll}
+use Rattle.hashing.specs.State.{addedAll}
 use Rattle.fingerprint.proofs.Prints.{hashed-pieces}
 use borrow.Author.Needs.{needs}
 use Rattle.fingerprint.proofs.hash_of.Statement.{statement}

@@ -4,7 +4,7 @@ use mathlib.Core.Path.{refl, _∙_}
 use mathlib.Core.List.{[]}
 use native.Mathlib.Omega.{arith}
 use Rattle.put.proofs.Pieces.{put-of}
-use Rattle.sha384.proofs.Taken.{zeroed-more}
+use Rattle.hashing.proofs.Zeros.{zeroed-more}
 use borrow.Author.Needs.{needs}
 use Rattle.sha384.proofs.block_of.Statement.{statement}
 use Rattle.sha384.proofs.block_of.Tie as tie
@@ -16,7 +16,7 @@ put-requires : tie.Need-put-requires
 put-requires c κs = search needs
 
 returns : tie.Need-returns
-returns c = put-of (omega arith) (c .before .put .ensures) .written ∙ zeroed-more [] (c .before .before .before .before .args .front .now) refl (omega arith)
+returns c = put-of (omega arith) (c .before .put .ensures) .written ∙ zeroed-more 128 [] (c .before .before .before .before .args .front .now) refl (omega arith)
 
 pub block-of-spec : {M : Type 1} → statement M
 block-of-spec = tie.close (tie.spec slice-aggregate-put put-requires returns)

@@ -1,8 +1,6 @@
 -- `sha384::sha384_of` meets its contract.
 -- Assumes nothing.
-use Prim.Native.Nat.{ℕ}
 use mathlib.Core.Path.{ap, _∙_}
-use mathlib.Core.List.{List}
 use Rattle.sha384.specs.declared.Sha384.{Sha384}
 use Rattle.sha384.specs.State.{added, ended}
 use Rattle.sha384.proofs.Pieces.{ended-once}

@@ -1,10 +1,14 @@
 -- `sha384::Sha384::add` meets its contract.
 -- Assumes nothing.
 use Prim.Native.Nat.{_-_, _%_}
-use mathlib.Core.Path.{_≡_, refl}
+use mathlib.Core.Path.{_≡_, refl, _∙_}
 use native.Mathlib.Omega.{arith}
 use lib.ListN.{length, length-take}
-use Rattle.sha384.proofs.Added.{whole-fits, added-short, added-long}
+use Rattle.hashing.proofs.Added.{added-short, added-long}
+use Rattle.sha384.specs.Sha384.{compress}
+use Rattle.sha384.specs.State.{keeping, added}
+use Rattle.sha384.proofs.Taken.{enough}
+use Rattle.sha384.proofs.Added.{whole-fits, used-is, counted}
 use borrow.Author.Needs.{needs}
 use Rattle.sha384.proofs.Sha384.add.Statement.{statement}
 use Rattle.sha384.proofs.Sha384.add.Tie as tie
@@ -34,7 +38,8 @@ put-requires : tie.Need-put-requires
 put-requires c κs = search needs
 
 returns : tie.Need-returns
-returns c = added-short (c .before .before .before .before .before .before .before .before .before .before .before .before .args .self) (c .before .before .before .before .before .before .before .before .before .before .before .before .args .bytes .now) (search needs) (c .before .before .before .before .before .plus .ensures) (c .before .before .before .before .higher .ensures) (c .before .before .before .if1 .taken) (c .before .before .before .before .before .before .block-of .ensures) (c .before .put .ensures)
+unfolding added
+returns c = counted (c .before .before .before .before .before .before .before .before .before .before .before .before .args .self) (c .before .before .before .before .before .before .before .before .before .before .before .before .args .bytes .now) (c .before .before .before .before .before .plus .ensures) (c .before .before .before .before .higher .ensures) ∙ added-short 128 compress keeping enough (c .before .before .before .before .before .before .before .before .before .before .before .before .args .self) (c .before .before .before .before .before .before .before .before .before .before .before .before .args .bytes .now) (search needs) (used-is (c .before .before .before .before .before .before .before .before .before .before .before .before .args .self)) (c .before .before .before .if1 .taken) (c .before .before .before .before .before .before .block-of .ensures) (c .before .put .ensures)
 
 slice-aggregate-put-2 : tie.Need-slice-aggregate-put-2
 slice-aggregate-put-2 c = search needs
@@ -82,7 +87,8 @@ block-of-requires-2 : tie.Need-block-of-requires-2
 block-of-requires-2 c κs = search needs
 
 returns-2 : tie.Need-returns-2
-returns-2 c = added-long (c .before .before .before .before .before .before .before .before .before .before .before .before .before .before .before .before .before .before .args .self) (c .before .before .before .before .before .before .before .before .before .before .before .before .before .before .before .before .before .before .args .bytes .now) (search (needs, c .before .before .before .before .before .before .before .before .before .before .before .before .before .before .before .before .before .before .good)) (c .before .before .before .before .before .before .before .before .before .before .before .plus .ensures) (c .before .before .before .before .before .before .before .before .before .before .higher .ensures) (c .before .before .before .before .before .before .before .before .before .if1 .left) (c .before .before .before .before .before .before .before .before .before .before .before .before .block-of .ensures) (c .before .before .before .before .before .before .put2 .ensures) refl refl (c .before .before .hash-both .ensures) (c .block-of2 .ensures)
+unfolding added
+returns-2 c = counted (c .before .before .before .before .before .before .before .before .before .before .before .before .before .before .before .before .before .before .args .self) (c .before .before .before .before .before .before .before .before .before .before .before .before .before .before .before .before .before .before .args .bytes .now) (c .before .before .before .before .before .before .before .before .before .before .before .plus .ensures) (c .before .before .before .before .before .before .before .before .before .before .higher .ensures) ∙ added-long 128 compress keeping enough (c .before .before .before .before .before .before .before .before .before .before .before .before .before .before .before .before .before .before .args .self) (c .before .before .before .before .before .before .before .before .before .before .before .before .before .before .before .before .before .before .args .bytes .now) (search (needs, c .before .before .before .before .before .before .before .before .before .before .before .before .before .before .before .before .before .before .good)) (used-is (c .before .before .before .before .before .before .before .before .before .before .before .before .before .before .before .before .before .before .args .self)) (c .before .before .before .before .before .before .before .before .before .if1 .left) (c .before .before .before .before .before .before .before .before .before .before .before .before .block-of .ensures) (c .before .before .before .before .before .before .put2 .ensures) refl refl (c .before .before .hash-both .ensures) (c .block-of2 .ensures)
 
 pub add-spec : {M : Type 1} → statement M
 add-spec =

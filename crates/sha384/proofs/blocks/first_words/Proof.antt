@@ -3,9 +3,11 @@
 use Prim.Native.Nat.{ℕ, _-_, _≤_}
 use mathlib.Core.Path.{_≡_, refl, sym, ap, _∙_}
 use native.Mathlib.Omega.{arith}
+use mathlib.Core.List.{[]}
 use lib.ListN.{take}
+use Rattle.hashing.specs.Turns.{turns, grown}
 use Rattle.sha384.specs.Sha384.{words}
-use Rattle.sha384.proofs.Rounds.{Filled, words-step}
+use Rattle.hashing.proofs.Turns.{Filled, grown-step}
 use borrow.Author.Needs.{needs}
 use Rattle.sha384.proofs.blocks.first_words.Statement.{statement}
 use Rattle.sha384.proofs.blocks.first_words.Tie as tie
@@ -17,7 +19,7 @@ abbrev μ-loop : tie.MeasureT-loop
 μ-loop block w₀ t₀ w t = 16 - t
 
 loop-holds : tie.Need-loop-holds Inv-loop μ-loop
-unfolding words
+unfolding words grown turns
 loop-holds c = (search needs, record { room = search needs; whole = refl; front = refl })
 
 mul-word-at : tie.Need-mul-word-at Inv-loop μ-loop
@@ -39,7 +41,8 @@ loop-less : tie.Need-loop-less Inv-loop μ-loop
 loop-less c = search needs
 
 loop-again : tie.Need-loop-again Inv-loop μ-loop
-loop-again c = (search needs, words-step (c .before .before .before .before .args .block .now) (c .before .before .loop .inv .1) (omega arith) (c .word-at .ensures))
+unfolding words
+loop-again c = (search needs, grown-step _ [] (c .before .before .loop .inv .1) (omega arith) (c .word-at .ensures))
 
 returns : tie.Need-returns Inv-loop μ-loop
 returns c = let e : c .before .loop .t ≡ 16 = omega arith in (c .before .loop .inv .1 .whole, ap (λ (j : ℕ). take j (c .before .loop .w)) (sym e) ∙ c .before .loop .inv .1 .front ∙ ap (words (c .before .before .before .args .block .now)) e)

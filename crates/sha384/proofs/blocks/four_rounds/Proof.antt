@@ -1,6 +1,7 @@
 -- `sha384::blocks::four_rounds` meets its contract.
 -- Assumes nothing.
-use Rattle.sha384.proofs.Rounds.{rounds-four}
+use Rattle.hashing.proofs.Turns.{turns-four}
+use Rattle.sha384.specs.Sha384.{rounds}
 use borrow.Author.Needs.{needs}
 use Rattle.sha384.proofs.blocks.four_rounds.Statement.{statement}
 use Rattle.sha384.proofs.blocks.four_rounds.Tie as tie
@@ -84,7 +85,8 @@ round-requires-4 : tie.Need-round-requires-4
 round-requires-4 c κs = search needs
 
 returns : tie.Need-returns
-returns c = λ u e. rounds-four (c .before .before .before .before .before .before .before .before .before .before .before .before .args .k .now) (c .before .before .before .before .before .before .before .before .before .before .before .before .args .w .now) u (c .before .before .before .before .before .before .before .before .before .before .before .before .args .i) e (c .before .before .before .before .before .before .before .before .before .round .ensures) (c .before .before .before .before .before .before .round2 .ensures) (c .before .before .before .round3 .ensures) (c .round4 .ensures)
+unfolding rounds
+returns c = λ u e. turns-four _ u (c .before .before .before .before .before .before .before .before .before .before .before .before .args .i) e (c .before .before .before .before .before .before .before .before .before .round .ensures) (c .before .before .before .before .before .before .round2 .ensures) (c .before .before .before .round3 .ensures) (c .round4 .ensures)
 
 pub four-rounds-spec : {M : Type 1} → statement M
 four-rounds-spec =

@@ -4,8 +4,10 @@ use Prim.Native.Nat.{_-_, _/_, _≤_}
 use mathlib.Core.Path.{_≡_, refl, ap, _∙_}
 use native.Mathlib.Omega.{arith}
 use lib.ListN.{length, length-take, length-drop}
-use Rattle.sha384.specs.Sha384.{hashed}
-use Rattle.sha384.proofs.Taken.{hashed-more}
+use Rattle.hashing.specs.Turns.{turns}
+use Rattle.hashing.specs.Blocks as blocks
+use Rattle.sha384.specs.Sha384.{compress, hashed}
+use Rattle.hashing.proofs.Blocks.{hashed-more}
 use borrow.Author.Needs.{needs}
 use Rattle.sha384.proofs.blocks.hash_by.Statement.{statement}
 use Rattle.sha384.proofs.blocks.hash_by.Tie as tie
@@ -17,7 +19,7 @@ abbrev μ-loop : tie.MeasureT-loop
 μ-loop k bytes hash₀ count i₀ hash i = count - i
 
 loop-holds : tie.Need-loop-holds Inv-loop μ-loop
-unfolding hashed
+unfolding turns blocks.hashed
 loop-holds c = ((refl, search needs), refl)
 
 mul-start : tie.Need-mul-start Inv-loop μ-loop
@@ -45,7 +47,7 @@ loop-less : tie.Need-loop-less Inv-loop μ-loop
 loop-less c = search needs
 
 loop-again : tie.Need-loop-again Inv-loop μ-loop
-loop-again c = ((c .before .before .before .loop .inv .0 .0, search needs), hashed-more (c .before .before .before .before .before .args .v) (c .before .before .before .before .before .args .bytes .now) (c .before .before .before .loop .i) (c .before .before .before .loop .inv .1) (c .compress .ensures))
+loop-again c = ((c .before .before .before .loop .inv .0 .0, search needs), hashed-more 128 compress (c .before .before .before .before .before .args .v) (c .before .before .before .before .before .args .bytes .now) (c .before .before .before .loop .i) (c .before .before .before .loop .inv .1) (c .compress .ensures))
 
 returns : tie.Need-returns Inv-loop μ-loop
 returns c = let e : c .before .loop .i ≡ length (c .before .before .before .args .bytes .now) / 128 = omega arith in c .before .loop .inv .1 ∙ ap (hashed (c .before .before .before .args .v) (c .before .before .before .args .bytes .now)) e

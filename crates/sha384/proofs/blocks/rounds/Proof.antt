@@ -3,6 +3,7 @@
 use mathlib.Core.Path.{_≡_, refl, ap, _∙_}
 use Prim.Native.Nat.{_-_, _%_, _≤_}
 use native.Mathlib.Omega.{arith}
+use Rattle.hashing.specs.Turns.{turns}
 use Rattle.sha384.specs.Sha384.{rounds}
 use borrow.Author.Needs.{needs}
 use Rattle.sha384.proofs.blocks.rounds.Statement.{statement}
@@ -15,7 +16,7 @@ abbrev μ-loop : tie.MeasureT-loop
 μ-loop k w u₀ t₀ u t = 80 - t
 
 loop-holds : tie.Need-loop-holds Inv-loop μ-loop
-unfolding rounds
+unfolding rounds turns
 loop-holds c = ((search needs, refl), refl)
 
 four-rounds-requires : tie.Need-four-rounds-requires Inv-loop μ-loop

@@ -3,8 +3,10 @@
 use Prim.Native.Nat.{_+_, _-_, _≤_}
 use mathlib.Core.Path.{_≡_, ap, _∙_}
 use native.Mathlib.Omega.{arith}
-use Rattle.sha384.specs.Sha384.{schedule}
-use Rattle.sha384.proofs.Rounds.{Filled, schedule-step, filled-all}
+use Rattle.hashing.specs.Turns.{turns, grown}
+use Rattle.sha384.specs.Sha384.{next, schedule}
+use Rattle.hashing.proofs.Turns.{Filled, schedule-step, filled-all}
+use Rattle.sha384.proofs.Rounds.{next-front}
 use borrow.Author.Needs.{needs}
 use Rattle.sha384.proofs.blocks.schedule.Statement.{statement}
 use Rattle.sha384.proofs.blocks.schedule.Tie as tie
@@ -19,7 +21,7 @@ first-words-requires : tie.Need-first-words-requires Inv-loop μ-loop
 first-words-requires c κs = search needs
 
 loop-holds : tie.Need-loop-holds Inv-loop μ-loop
-unfolding schedule
+unfolding schedule grown turns
 loop-holds c = (search needs, record { room = search needs; whole = c .first-words .ensures .0; front = c .first-words .ensures .1 })
 
 next-word-requires : tie.Need-next-word-requires Inv-loop μ-loop
@@ -41,7 +43,8 @@ loop-less : tie.Need-loop-less Inv-loop μ-loop
 loop-less c = search needs
 
 loop-again : tie.Need-loop-again Inv-loop μ-loop
-loop-again c = (search needs, schedule-step (c .before .before .before .before .before .before .args .block .now) (c .before .before .before .loop .inv .1) (c .before .before .loop-test .taken) (c .next-word .ensures))
+unfolding schedule
+loop-again c = (search needs, schedule-step next _ next-front (c .before .before .before .loop .inv .1) (c .before .before .loop-test .taken) (c .next-word .ensures))
 
 returns : tie.Need-returns Inv-loop μ-loop
 returns c = let e : c .before .loop .n ≡ 64 = omega arith in filled-all (c .before .loop .inv .1) (omega arith) ∙ ap (schedule (c .before .before .before .before .args .block .now)) e

@@ -1,6 +1,5 @@
 -- `sha384::ending::put_word` meets its contract.
 -- Assumes nothing.
-use mathlib.Core.Path.{_≡_}
 use borrow.Author.Needs.{needs}
 use Rattle.sha384.proofs.ending.put_word.Statement.{statement}
 use Rattle.sha384.proofs.ending.put_word.Tie as tie
