@@ -9,14 +9,40 @@ use native.Mathlib.Nat.{add-zero, add-suc}
 use native.Mathlib.Omega.{arith}
 use lib.ListN.{length, replicate}
 use Rattle.text.specs.Text.{Bytes}
+use Rattle.format.specs.Read.{Outcome, readRecord}
 use Rattle.format.specs.Files as files
-use Rattle.format.specs.Files.{Said, finished, read, lineAt, walk}
+use Rattle.format.specs.Files.{Said, finished, read, lineAtOver, lineAt, walk}
 use Rattle.format.proofs.Lines.{lineTo, unfinishedTo, at-end, at-line, at-unfinished, by-place, next-inside, rest, rest-walk, rest-onward, rest-step}
 use Rattle.files.specs.Walk.{lineSaid, nextOf}
 use Rattle.files.specs.Steps.{Begins, Stepped, Steps, none, more}
 use Rattle.files.specs.declared.Line.{Line}
 use Rattle.files.specs.declared.Line.the-variants.{Finished}
 use Rattle.files.specs.declared.Reader.{Reader}
+
+-- ---- what is left from a place on, whatever call is asked about the lines
+
+module _ (call : Bytes → Outcome) (file : Bytes) where
+  some-left : (place : ℕ) (l : files.Line) → lineAtOver call file place ≡ read l → rest call file place ≡ [] → ⊥
+  some-left place l e r =
+      let z : l ∷ rest call file (l .next) ≡ [] = sym (rest-step call file place l e) ∙ r in
+      let o : _≡_ {A = ℕ} 0 1 = cc in
+      omega arith
+
+  pub none-left : (place : ℕ) → rest call file place ≡ [] → length file ≤ place
+  none-left place r =
+      by-place file place (λ h. h)
+      (λ e f h. absurd (some-left place (lineTo call file place e) (at-line call file place e f h) r))
+      (λ e f l h. absurd (some-left place (unfinishedTo file place e) (at-unfinished call file place e f l h) r))
+
+  pub first-left : (place : ℕ) (l : files.Line) (ls : List files.Line) → rest call file place ≡ l ∷ ls → (lineAtOver call file place ≡ read l) × (rest call file (l .next) ≡ ls)
+  first-left place l ls r = go (lineAtOver call file place) refl
+    where
+      go : (s : Said) → lineAtOver call file place ≡ s → (lineAtOver call file place ≡ read l) × (rest call file (l .next) ≡ ls)
+      go (finished p) e = absurd (let z : l ∷ ls ≡ [] = sym r ∙ rest-onward call file place ∙ rw e in let o : _≡_ {A = ℕ} 0 1 = cc in omega arith)
+      go (read k) e =
+          let z : k ∷ rest call file (k .next) ≡ l ∷ ls = sym (rest-step call file place k e) ∙ r in
+          let same : k ≡ l = cc in
+          (e ∙ ap read same, rw (← same) (cc))
 
 -- ---- the file call
 
@@ -33,40 +59,18 @@ module _ (file : Bytes) where
   at-finished : (n : ℕ) → answersFrom n file (length file) ≡ replicate n (Finished (length file))
   unfolding answersFrom
   at-finished zero = refl
-  at-finished (suc n) = rw (at-end file (length file) (omega arith)) (ap (_∷_ (Finished (length file))) (at-finished n))
-
-  some-left : (place : ℕ) (l : files.Line) → lineAt file place ≡ read l → rest file place ≡ [] → ⊥
-  some-left place l e r =
-      let z : l ∷ rest file (l .next) ≡ [] = sym (rest-step file place l e) ∙ r in
-      let o : _≡_ {A = ℕ} 0 1 = cc in
-      omega arith
-
-  pub none-left : (place : ℕ) → rest file place ≡ [] → length file ≤ place
-  none-left place r =
-      by-place file place (λ h. h)
-      (λ e f h. absurd (some-left place (lineTo file place e) (at-line file place e f h) r))
-      (λ e f l h. absurd (some-left place (unfinishedTo file place e) (at-unfinished file place e f l h) r))
-
-  pub first-left : (place : ℕ) (l : files.Line) (ls : List files.Line) → rest file place ≡ l ∷ ls → (lineAt file place ≡ read l) × (rest file (l .next) ≡ ls)
-  first-left place l ls r = go (lineAt file place) refl
-    where
-      go : (s : Said) → lineAt file place ≡ s → (lineAt file place ≡ read l) × (rest file (l .next) ≡ ls)
-      go (finished p) e = absurd (let z : l ∷ ls ≡ [] = sym r ∙ rest-onward file place ∙ rw e in let o : _≡_ {A = ℕ} 0 1 = cc in omega arith)
-      go (read k) e =
-          let z : k ∷ rest file (k .next) ≡ l ∷ ls = sym (rest-step file place k e) ∙ r in
-          let same : k ≡ l = cc in
-          (e ∙ ap read same, rw (← same) (cc))
+  at-finished (suc n) = rw (at-end readRecord file (length file) (omega arith)) (ap (_∷_ (Finished (length file))) (at-finished n))
 
   -- from a place on: the lines ls that are left, and then n times that the file is finished
-  from-place : (n place : ℕ) → place ≤ length file → (ls : List files.Line) → rest file place ≡ ls
+  from-place : (n place : ℕ) → place ≤ length file → (ls : List files.Line) → rest readRecord file place ≡ ls
       → answersFrom (n + length ls) file place ≡ map (λ l. lineSaid (read l)) ls ++ replicate n (Finished (length file))
-  from-place n place h [] r = let end : place ≡ length file = omega (arith, none-left place r) in rw (end, add-zero) (at-finished n)
+  from-place n place h [] r = let end : place ≡ length file = omega (arith, none-left readRecord file place r) in rw (end, add-zero) (at-finished n)
   from-place n place h (l ∷ ls) r =
-      let (is, left) = first-left place l ls r in
-      ap (λ m. answersFrom m file place) (add-suc n (length ls)) ∙ step-read (n + length ls) place l is ∙ ap (_∷_ (lineSaid (read l))) (from-place n (l .next) (next-inside file place l is) ls left)
+      let (is, left) = first-left readRecord file place l ls r in
+      ap (λ m. answersFrom m file place) (add-suc n (length ls)) ∙ step-read (n + length ls) place l is ∙ ap (_∷_ (lineSaid (read l))) (from-place n (l .next) (next-inside readRecord file place l is) ls left)
 
   walk-answers : (n : ℕ) → answersFrom (n + length (walk file)) file 0 ≡ map (λ l. lineSaid (read l)) (walk file) ++ replicate n (Finished (length file))
-  walk-answers n = from-place n 0 (omega arith) (walk file) (rest-walk file)
+  walk-answers n = from-place n 0 (omega arith) (walk file) (rest-walk readRecord file)
 
 -- ---- a reader
 

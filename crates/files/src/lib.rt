@@ -1,10 +1,8 @@
 // A file of records, line by line: document 01, "Files of records and the newer key". No public call has a `requires`:
 // any bytes and any place have an answer.
 ghost use mathlib.Core.Path.{_≡_};
-ghost use Prim.Native.Nat.{_≤_};
-ghost use lib.ListN.{length};
 ghost use Rattle.format.specs.Files.{lineAt, walk};
-ghost use Rattle.files.specs.Walk.{lineEnd, lineSaid, nextOf, totalsOf};
+ghost use Rattle.files.specs.Walk.{lineEnd, lastLine, lineSaid, nextOf, totalsOf};
 ghost use Rattle.files.specs.Steps.{Begins, Stepped, stepFrom};
 
 // What stands at a place of a file.
@@ -34,15 +32,14 @@ pub struct Totals {
 
 // ---- the plain calls
 
-// The first line feed at or after the place, or the end of the bytes when none follows.
-fn line_end(file: &[u8], place: usize) -> usize
-    requires { ⌜ place ≤ length (now file) ⌝ }
+// The first line feed at or after the place, or the end of the bytes when none follows; a place past the end is answered as it is.
+pub fn line_end(file: &[u8], place: usize) -> usize
     ensures { λ r. ⌜ r ≡ lineEnd (now (file .entry)) place ⌝ }
 {
     let mut i = place;
     let at = loop {
         if i >= file.len() {
-            break file.len();
+            break i;
         }
         if file[i] == b'\n' {
             break i;
@@ -52,24 +49,31 @@ fn line_end(file: &[u8], place: usize) -> usize
     at
 }
 
+// What is said at a place after which no line feed follows, in a file of so many bytes: that it is finished, or that its last line is not, 11.
+pub fn last_line(bytes: usize, place: usize) -> Line
+    ensures { λ r. ⌜ r ≡ lastLine bytes place ⌝ }
+{
+    if bytes <= place {
+        return Line::Finished { place };
+    }
+    Line::Read {
+        no: numbers::UNFINISHED,
+        field: 0,
+        kind: table::NONE,
+        start: place,
+        len: bytes - place,
+        next: bytes,
+    }
+}
+
 // The line at a place: the record call's answer for it (an empty line answers 2, one over 1,024 bytes 1), and where it
 // stands. An unfinished last line answers 11, before any other number and at any length; its next place is the end.
 pub fn line_at(file: &[u8], place: usize) -> Line
     ensures { λ r. ⌜ r ≡ lineSaid (lineAt (now (file .entry)) place) ⌝ }
 {
-    if file.len() <= place {
-        return Line::Finished { place };
-    }
     let end = line_end(file, place);
     if file.len() <= end {
-        return Line::Read {
-            no: numbers::UNFINISHED,
-            field: 0,
-            kind: table::NONE,
-            start: place,
-            len: end - place,
-            next: file.len(),
-        };
+        return last_line(file.len(), place);
     }
     let answer = reading::read_record(&file[place..end]);
     Line::Read {

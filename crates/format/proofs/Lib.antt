@@ -5,5 +5,6 @@ pub mod Outcomes
 pub mod Fields
 pub mod Exactly
 pub mod Lines
+pub mod DamagedLines
 pub mod Damage
 pub mod Refusals

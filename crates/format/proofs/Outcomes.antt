@@ -47,3 +47,15 @@ pub honest-zero : (P : Kind → List Bytes → Type 0) (o : Outcome) → Honest 
 honest-zero P (accepted k fs) h e = (k, fs, refl)
 honest-zero P (refused zero i) h e = absurd h
 honest-zero P (refused (suc n) i) h e = absurd (omega arith)
+
+-- a refusal has another number than 0, and every refusal of a call
+abbrev pub Numbered : Outcome → Type 0
+Numbered o = Honest (λ k fs. Unit {0}) o
+
+abbrev pub NeverZero : (Bytes → Outcome) → Type 0
+NeverZero call = (s : Bytes) → Numbered (call s)
+
+pub honest-of : (P : Kind → List Bytes → Type 0) (o : Outcome) → Numbered o → ((k : Kind) (fs : List Bytes) → o ≡ accepted k fs → P k fs) → Honest P o
+honest-of P (accepted k fs) h f = f k fs refl
+honest-of P (refused zero i) h f = h
+honest-of P (refused (suc n) i) h f = h

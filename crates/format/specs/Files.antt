@@ -1,4 +1,5 @@
--- A file of records: document 01, "Files of records and the newer key". A file is lines, each ended by one line feed.
+-- A file of records: document 01, "Files of records and the newer key". A file is lines, each ended by one line feed. What a line is, the call
+-- says that is asked about it: the record call for a plain file, and document 02, E6, has another.
 -- Assumes nothing.
 use Prim.Native.Nat.{ℕ, zero, suc, _+_}
 use mathlib.Core.Bool.{cond}
@@ -29,18 +30,20 @@ pub data Said : Type 0 where
   finished : ℕ → Said
   read : Line → Said
 
+-- ---- the line at a place, which `call` is asked about
+
 -- the bytes l from the place to the first line feed, or to the end: number 11 where no line feed follows
-unfoldable pub lineOf : Bytes → ℕ → Bytes → Line
-lineOf file place l =
+unfoldable pub lineOfOver : (Bytes → Outcome) → Bytes → ℕ → Bytes → Line
+lineOfOver call file place l =
     cond (ltb (place + length l) (length file))
-    (record { said = readRecord l; start = place; size = length l; next = place + length l + 1 })
+    (record { said = call l; start = place; size = length l; next = place + length l + 1 })
     (record { said = refused unfinished 0; start = place; size = length l; next = length file })
 
-unfoldable pub lineAt : Bytes → ℕ → Said
-lineAt file place =
+unfoldable pub lineAtOver : (Bytes → Outcome) → Bytes → ℕ → Said
+lineAtOver call file place =
     cond (leb (length file) place)
     (finished place)
-    (read (lineOf file place (upTo lineFeed (drop place file))))
+    (read (lineOfOver call file place (upTo lineFeed (drop place file))))
 
 -- ---- walking from a place: call after call, until the file is finished
 
@@ -49,21 +52,32 @@ onward (finished p) walk = []
 onward (read l) walk = l ∷ walk (l .next)
 
 -- at most `most` lines
-unfoldable pub walkFrom : ℕ → Bytes → ℕ → List Line
-walkFrom zero file place = []
-walkFrom (suc most) file place = onward (lineAt file place) (λ next. walkFrom most file next)
+unfoldable pub walkFromOver : (Bytes → Outcome) → ℕ → Bytes → ℕ → List Line
+walkFromOver call zero file place = []
+walkFromOver call (suc most) file place = onward (lineAtOver call file place) (λ next. walkFromOver call most file next)
 
 -- all lines: no file has more lines than bytes
-unfoldable pub walk : Bytes → List Line
-walk file = walkFrom (length file) file 0
+unfoldable pub walkOver : (Bytes → Outcome) → Bytes → List Line
+walkOver call file = walkFromOver call (length file) file 0
 
--- ---- the lines of a file, said without any call: ls, each of which has its line feed, from place p on, and then t, which has none
+-- ---- the lines of a file, said without any walk: ls, each of which has its line feed, from place p on, and then t, which has none
 
-unfoldable pub linesFrom : ℕ → List Bytes → Bytes → List Line
-linesFrom p [] [] = []
-linesFrom p [] (c ∷ t) = record { said = refused unfinished 0; start = p; size = length (c ∷ t); next = p + length (c ∷ t) } ∷ []
-linesFrom p (l ∷ ls) t =
-    record { said = readRecord l; start = p; size = length l; next = p + length l + 1 } ∷ linesFrom (p + length l + 1) ls t
+unfoldable pub linesFromOver : (Bytes → Outcome) → ℕ → List Bytes → Bytes → List Line
+linesFromOver call p [] [] = []
+linesFromOver call p [] (c ∷ t) = record { said = refused unfinished 0; start = p; size = length (c ∷ t); next = p + length (c ∷ t) } ∷ []
+linesFromOver call p (l ∷ ls) t =
+    record { said = call l; start = p; size = length l; next = p + length l + 1 } ∷ linesFromOver call (p + length l + 1) ls t
+
+-- ---- a plain file: every line is a record
+
+abbrev pub lineAt : Bytes → ℕ → Said
+lineAt = lineAtOver readRecord
+
+abbrev pub walk : Bytes → List Line
+walk = walkOver readRecord
+
+abbrev pub linesFrom : ℕ → List Bytes → Bytes → List Line
+linesFrom = linesFromOver readRecord
 
 -- ---- totals
 

@@ -8,7 +8,7 @@ use native.Mathlib.Omega.{arith}
 use lib.ListN.{length, drop, length-append, length-take, length-drop}
 use borrow.Author.Tests.{le-leb}
 use Rattle.text.specs.Text.{Bytes}
-use Rattle.format.specs.Read.{answer}
+use Rattle.format.specs.Read.{answer, readRecord}
 use Rattle.format.specs.Files.{Line, Said, finished, read, lineFeed, upTo, lineAt, walk}
 use Rattle.format.proofs.Lines.{take-upTo, at-end, at-line, at-unfinished, by-place, rest, rest-walk, rest-end, rest-step}
 use Rattle.reading.specs.Reading.{answerOf}
@@ -38,11 +38,11 @@ size-inside file place l e = let h : Small (read l) = rw e at small in h
 
     small : Small (lineAt file place)
     small =
-        by-place file place (λ h. rw (at-end file place h) tt)
-        (λ x f h. rw (at-line file place x f h) (omega arith))
-        (λ x f b h. rw (at-unfinished file place x f b h) (omega (arith, up-inside (drop place file), length-drop place file)))
+        by-place file place (λ h. rw (at-end readRecord file place h) tt)
+        (λ x f h. rw (at-line readRecord file place x f h) (omega arith))
+        (λ x f b h. rw (at-unfinished readRecord file place x f b h) (omega (arith, up-inside (drop place file), length-drop place file)))
 
-module _ {file : Bytes} {place n f k start size next : ℕ} (t : Told file place n next) (q : Read n f k start size next ≡ lineSaid (lineAt file place)) where
+module _ {file : Bytes} {place n f k start size next : ℕ} (t : Told readRecord file place n next) (q : Read n f k start size next ≡ lineSaid (lineAt file place)) where
   said-so : Read n f k start size next ≡ lineSaid (read (t .line))
   said-so = q ∙ ap lineSaid (t .is)
 
@@ -70,13 +70,13 @@ list-lines file t h e = rw (le-leb (length file) most h, e)
 pub record Listed (file o : Bytes) (lines accepted place at : ℕ) (out : Bytes) : Type 0 where
   pub done : Bytes
   pub written : Put o 0 done out at
-  pub counted : Counted file lines accepted place
-  pub all : lineTexts 0 (walk file) ≡ done ++ lineTexts lines (rest file place)
+  pub counted : Counted readRecord file lines accepted place
+  pub all : lineTexts 0 (walk file) ≡ done ++ lineTexts lines (rest readRecord file place)
   pub short : length done ≤ lines * 22
 
 pub listed-none : (file o : Bytes) → Listed file o 0 0 0 0 o
 listed-none file o =
-    record { done = []; written = put-none (omega arith); counted = counted-none file; all = rw rest-walk refl; short = omega arith }
+    record { done = []; written = put-none (omega arith); counted = counted-none readRecord file; all = rw (rest-walk readRecord file) refl; short = omega arith }
 
 module _ {file o out : Bytes} {lines accepted place at : ℕ} (l : Listed file o lines accepted place at out) (small : length file ≤ most) (room : listRoom ≤ length o) where
   pub room-end : at + length (endText lines accepted) ≤ length out
@@ -88,21 +88,21 @@ module _ {file o out : Bytes} {lines accepted place at : ℕ} (l : Listed file o
       → Put o 0 (listText file) out′ r
   unfolding lineTexts
   listed-all p q w =
-      let none : rest file place ≡ [] = rest-end file place (finished-only file place (sym q ∙ ap Finished (ap startOf q ∙ starts-here file place))) in
+      let none : rest readRecord file place ≡ [] = rest-end readRecord file place (finished-only readRecord file place (sym q ∙ ap Finished (ap startOf q ∙ starts-here readRecord file place))) in
       let lines-done : lineTexts 0 (walk file) ≡ l .done = l .all ∙ rw none (append-nil (l .done)) in
       put-as (sym (list-lines file (record { lines = lines; accepted = accepted }) small (counted-all (l .counted) p q) ∙ rw lines-done)) (put-then (l .written) w)
 
-  module _ {n f k start size next : ℕ} (t : Told file place n next) (q : Read n f k start size next ≡ lineSaid (lineAt file place)) (byte : n < 256) where
+  module _ {n f k start size next : ℕ} (t : Told readRecord file place n next) (q : Read n f k start size next ≡ lineSaid (lineAt file place)) (byte : n < 256) where
     line-short : length (lineText (lines + 1) start size n) ≤ 22
     line-short =
         let c = l .counted in
-        line-length (lines + 1) start size n (omega (arith, c .few, told-beyond t, told-inside t)) (omega (arith, ap startOf q, starts-here file place, c .inside))
+        line-length (lines + 1) start size n (omega (arith, c .few, told-beyond t, told-inside t)) (omega (arith, ap startOf q, starts-here readRecord file place, c .inside))
         (omega (arith, its-size t q, size-inside file place (t .line) (t .is))) byte
 
     pub room-line : at + length (lineText (lines + 1) start size n) ≤ length out
     room-line = omega (arith, l .written .next, put-length (l .written), l .short, l .counted .few, told-beyond t, told-inside t, line-short)
 
-    pub listed-on : {out′ : Bytes} {a r : ℕ} → Counted file (lines + 1) a next → Put out at (lineText (lines + 1) start size n) out′ r
+    pub listed-on : {out′ : Bytes} {a r : ℕ} → Counted readRecord file (lines + 1) a next → Put out at (lineText (lines + 1) start size n) out′ r
         → Listed file o (lines + 1) a next r out′
     unfolding lineTexts
     listed-on c w =
@@ -114,5 +114,5 @@ module _ {file o out : Bytes} {lines accepted place at : ℕ} (l : Listed file o
           short = omega (arith, length-append (l .done) (lineText (lines + 1) start size n), l .short, line-short);
         }
       where
-        one-more : l .done ++ lineTexts lines (rest file place) ≡ (l .done ++ lineText (lines + 1) start size n) ++ lineTexts (lines + 1) (rest file next)
-        one-more = rw (rest-step file place (t .line) (t .is), ← t .its-next, its-start t q, its-size t q, its-answer t q, add-one, append-assoc)
+        one-more : l .done ++ lineTexts lines (rest readRecord file place) ≡ (l .done ++ lineText (lines + 1) start size n) ++ lineTexts (lines + 1) (rest readRecord file next)
+        one-more = rw (rest-step readRecord file place (t .line) (t .is), ← t .its-next, its-start t q, its-size t q, its-answer t q, add-one, append-assoc)

@@ -6,23 +6,25 @@ use mathlib.Core.Path.{sym, _∙_}
 use mathlib.Core.Logic.{⊎-elim}
 use native.Mathlib.Omega.{arith}
 use lib.ListN.{length}
+use Rattle.format.specs.Read.{readRecord}
+use Rattle.format.proofs.Damage.{record-never-zero}
 use Rattle.files.proofs.Counting.{Counted, Told, told, counted-none, counted-all, told-beyond, told-inside, counted-accepted, counted-refused}
 use borrow.Author.Needs.{needs}
 use Rattle.files.proofs.count.Statement.{statement}
 use Rattle.files.proofs.count.Tie as tie
 
 abbrev Inv-loop : tie.InvT-loop
-Inv-loop file lines₀ accepted₀ place₀ lines accepted place = Counted file lines accepted place
+Inv-loop file lines₀ accepted₀ place₀ lines accepted place = Counted readRecord file lines accepted place
 
 abbrev μ-loop : tie.MeasureT-loop
 μ-loop file lines₀ accepted₀ place₀ lines accepted place = length file - place
 
 -- the line that was read, its number and the next place
-read-line : (c : tie.After-no Inv-loop μ-loop) → Told (now (c .before .before .before .before .before .args .file)) (c .before .before .before .loop .place) (c .no .given .0 .0) (c .no .given .0 .1 .1 .1 .1 .1 .0)
-read-line c = told _ _ _ _ _ _ _ _ (sym (c .no .given .1) ∙ c .before .before .line-at .ensures)
+read-line : (c : tie.After-no Inv-loop μ-loop) → Told readRecord (now (c .before .before .before .before .before .args .file)) (c .before .before .before .loop .place) (c .no .given .0 .0) (c .no .given .0 .1 .1 .1 .1 .1 .0)
+read-line c = told readRecord record-never-zero _ _ _ _ _ _ _ _ (sym (c .no .given .1) ∙ c .before .before .line-at .ensures)
 
 loop-holds : tie.Need-loop-holds Inv-loop μ-loop
-loop-holds c = counted-none _
+loop-holds c = counted-none readRecord _
 
 line-at-requires : tie.Need-line-at-requires Inv-loop μ-loop
 line-at-requires c κs = search needs

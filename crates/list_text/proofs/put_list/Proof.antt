@@ -6,7 +6,9 @@ use mathlib.Core.Path.{_≡_, sym, _∙_}
 use mathlib.Core.Logic.{⊎-elim}
 use native.Mathlib.Omega.{arith}
 use lib.ListN.{length}
+use Rattle.format.specs.Read.{readRecord}
 use Rattle.format.specs.Files.{lineAt}
+use Rattle.format.proofs.Damage.{record-never-zero}
 use Rattle.files.specs.Walk.{lineSaid}
 use Rattle.files.specs.declared.Line.the-variants.{Read}
 use Rattle.files.proofs.Counting.{Told, told, told-beyond, told-inside, counted-accepted, counted-refused}
@@ -29,8 +31,8 @@ said : (c : tie.After-no Inv-loop μ-loop)
 said c = sym (c .no .given .1) ∙ c .before .before .line-at .ensures
 
 read-line : (c : tie.After-no Inv-loop μ-loop)
-    → Told (now (c .before .before .before .before .before .before .args .file)) (c .before .before .before .loop .place) (c .no .given .0 .0) (c .no .given .0 .1 .1 .1 .1 .1 .0)
-read-line c = told _ _ _ _ _ _ _ _ (said c)
+    → Told readRecord (now (c .before .before .before .before .before .before .args .file)) (c .before .before .before .loop .place) (c .no .given .0 .0) (c .no .given .0 .1 .1 .1 .1 .1 .0)
+read-line c = told readRecord record-never-zero _ _ _ _ _ _ _ _ (said c)
 
 loop-holds : tie.Need-loop-holds Inv-loop μ-loop
 loop-holds c = listed-none _ _
