@@ -55,3 +55,9 @@ otherRequest = 17
 
 abbrev pub wrongTag : ℕ
 wrongTag = 18
+
+abbrev pub missingTrailer : ℕ
+missingTrailer = 19
+
+abbrev pub wrongHash : ℕ
+wrongHash = 20

@@ -37,3 +37,7 @@ pub const WRONG_Z: u8 = 16;
 pub const OTHER_REQUEST: u8 = 17;
 
 pub const WRONG_TAG: u8 = 18;
+
+pub const MISSING_TRAILER: u8 = 19;
+
+pub const WRONG_HASH: u8 = 20;

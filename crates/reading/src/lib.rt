@@ -49,7 +49,8 @@ struct FieldSaid {
     kind: usize,
 }
 
-fn refuse(no: u8, field: u8) -> Answer
+// The answer of a call that refuses.
+pub fn refuse(no: u8, field: u8) -> Answer
     ensures { λ r. ⌜ r ≡ answerOf (refused no field) ⌝ }
 {
     Answer {

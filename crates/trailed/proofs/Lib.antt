@@ -1,0 +1,2 @@
+pub mod Trailed
+pub mod Calls
