@@ -3,8 +3,9 @@
 // bindings/c/obscurlane.h says it to a user of C.
 pub mod check;
 pub mod confirming;
-pub mod hashing;
+pub mod hashes;
 pub mod records;
+pub mod trailing;
 pub mod types;
 pub mod walking;
 pub mod writing;

@@ -28,7 +28,7 @@ pub extern "C" fn obscurlane_text_item(text: &[u8], wanted: usize) -> items::Pla
 }
 
 // A line with its numbers and places, for a caller that has no enum.
-fn find(line: files::Line) -> Found
+pub(crate) fn find(line: files::Line) -> Found
     ensures { λ r. ⌜ r ≡ found line ⌝ }
 {
     match line {
