@@ -8,14 +8,14 @@ use lib.Dec.{leb, eqb}
 use lib.ListN.{length, take, drop}
 use Rattle.text.specs.Text.{Bytes, same, between}
 use Rattle.text.specs.Later.{later}
-use Rattle.numbers.specs.Numbers.{tooLong, unknownKind, wrongCount, shortOutput, unfinished, missingItem, notAlike, wrongFingerprint, wrongZ, otherRequest, wrongTag}
+use Rattle.numbers.specs.Numbers.{tooLong, unknownKind, wrongCount, shortOutput, unfinished, missingItem, notAlike, wrongFingerprint, wrongZ, otherRequest, wrongTag, missingTrailer, wrongHash}
 use Rattle.format.specs.Kinds.{Kind, fieldsOf, pubkeyKinds, allKinds}
 use Rattle.format.specs.Build.{recordOf, longestRecord}
-use Rattle.format.specs.Read.{Outcome, accepted, refused, answer, place, judged, readIdentity, readOf, readRecord}
-use Rattle.format.specs.Files.{lineAt}
+use Rattle.format.specs.Read.{Outcome, accepted, refused, answer, place, provided, judged, readIdentity, readOf, readRecord}
+use Rattle.format.specs.Files.{lineAtOver}
 use Rattle.format.proofs.Outcomes.{provided-law, ofKind-law}
 use Rattle.format.proofs.Lines.{at-end, at-line, at-unfinished, by-place}
-use Rattle.table.specs.Table.{kindOf, countOf, named}
+use Rattle.table.specs.Table.{missingRow, kindOf, countOf, named}
 use Rattle.places.specs.Places.{partsFrom}
 use Rattle.reading.specs.Reading.{answerOf, judgedBy, judgedSaid, judge}
 use Rattle.fields.specs.Fields.{wantedNo}
@@ -25,7 +25,9 @@ use Rattle.put.specs.Made.{made, says}
 use Rattle.building.specs.Building.{sum, pieces, buildAs, buildOf, recordMade, build}
 use Rattle.items.specs.Items.{lvConcat}
 use Rattle.agreement.specs.Texts.{textMade}
-use Rattle.files.specs.Walk.{lineSaid, numberOf, fieldOf}
+use Rattle.files.specs.Walk.{lineSaid, lastLine, numberOf, fieldOf}
+use Rattle.files.specs.declared.Line.the-variants.{Finished, Read}
+use Rattle.trailed.specs.Trailed.{trailer, trailed, recordIn, trailerIn, isTrailer, onlyIf, readTrailed, lineMade}
 use Rattle.subjects.specs.Subjects.{gnt, alike}
 use Rattle.fingerprint.specs.Fingerprint.{rightPrint, printIn, checkBy, printMade}
 use Rattle.confirm.specs.Confirm as confirm
@@ -44,6 +46,10 @@ module _ (P : ℕ → ℕ → Type 0) (z : P 0 0) where
   or-missing true more = z
   or-missing false more = more
 
+  or-short : (b : Bool) (v : Bytes) → P shortOutput 0 → let m = cond b (made v) (put.denied shortOutput 0) in P (says m .no) (says m .field)
+  or-short true v more = z
+  or-short false v more = more
+
   -- one field: 12 besides
   pub wanted-answered : (o : Outcome) (wanted : ℕ) → Of o → P missingItem 0 → P (wantedNo o wanted) (place o)
   unfolding wantedNo
@@ -59,11 +65,7 @@ module _ (P : ℕ → ℕ → Type 0) (z : P 0 0) where
   -- a text: 10 besides
   pub text-answered : (items : List Bytes → List Bytes) (room : ℕ) (o : Outcome) → Of o → P shortOutput 0
       → P (says (textMade items room o) .no) (says (textMade items room o) .field)
-  text-answered items room (accepted k fs) h more = go (leb (length (lvConcat (items fs))) room)
-    where
-      go : (b : Bool) → let m = cond b (made (lvConcat (items fs))) (put.denied shortOutput 0) in P (says m .no) (says m .field)
-      go true = z
-      go false = more
+  text-answered items room (accepted k fs) h more = or-short (leb (length (lvConcat (items fs))) room) (lvConcat (items fs)) more
   text-answered items room (refused n i) h more = h
 
   -- the Fingerprint of a public key: checked, 15 besides; written, 10 besides
@@ -76,11 +78,7 @@ module _ (P : ℕ → ℕ → Type 0) (z : P 0 0) where
   check-answered (refused n i) h more = h
 
   pub print-answered : (room : ℕ) (o : Outcome) → Of o → P shortOutput 0 → P (says (printMade room o) .no) (says (printMade room o) .field)
-  print-answered room (accepted k fs) h more = go (leb 16 room)
-    where
-      go : (b : Bool) → let m = cond b (made (rightPrint fs)) (put.denied shortOutput 0) in P (says m .no) (says m .field)
-      go true = z
-      go false = more
+  print-answered room (accepted k fs) h more = or-short (leb 16 room) (rightPrint fs) more
   print-answered room (refused n i) h more = h
 
   -- confirmation tags: 16 and 18 besides; of a request 10, of a response 17
@@ -136,12 +134,34 @@ module _ (P : ℕ → ℕ → Type 0) (z : P 0 0) where
         (λ _. provided-law Of (leb (length (recordOf k fs)) room) shortOutput (accepted k fs) short (λ _. z))))))
 
   -- a line: 11 besides
-  pub line-answered : ((s : Bytes) → Of (readRecord s)) → P unfinished 0 → (file : Bytes) (place : ℕ)
-      → P (numberOf (lineSaid (lineAt file place))) (fieldOf (lineSaid (lineAt file place)))
-  line-answered records more file place =
-      by-place file place (λ h. rw (at-end file place h) z)
-      (λ e f h. let l : Bytes = take (e - place) (drop place file) in rw (at-line file place e f h) (answered (readRecord l) (records l)))
-      (λ e f l h. rw (at-unfinished file place e f l h) more)
+  pub line-answered : (call : Bytes → Outcome) → ((s : Bytes) → Of (call s)) → P unfinished 0 → (file : Bytes) (place : ℕ)
+      → P (numberOf (lineSaid (lineAtOver call file place))) (fieldOf (lineSaid (lineAtOver call file place)))
+  line-answered call lines more file place =
+      by-place file place (λ h. rw (at-end call file place h) z)
+      (λ e f h. let l : Bytes = take (e - place) (drop place file) in rw (at-line call file place e f h) (answered (call l) (lines l)))
+      (λ e f l h. rw (at-unfinished call file place e f l h) more)
+
+  pub last-answered : P unfinished 0 → (n place : ℕ) → P (numberOf (lastLine n place)) (fieldOf (lastLine n place))
+  last-answered more n place = go (leb n place)
+    where
+      go : (b : Bool) → let l = cond b (Finished place) (Read unfinished 0 missingRow place (n - place) n) in P (numberOf l) (fieldOf l)
+      go true = z
+      go false = more
+
+  -- a line with a trailer: 19 and 20 besides; written, 10 besides
+  pub trailed-answered : (s : Bytes) → Of (readRecord (recordIn s)) → P missingTrailer 0 → P wrongHash 0 → Of (readTrailed s)
+  unfolding readTrailed
+  trailed-answered s own missing wrong = go (isTrailer (trailerIn s)) (same (trailerIn s) (trailer (recordIn s))) (readRecord (recordIn s)) own
+    where
+      go : (b c : Bool) (o : Outcome) → Of o → Of (provided b missingTrailer (onlyIf c wrongHash o))
+      go true true (accepted k fs) h = h
+      go true false (accepted k fs) h = wrong
+      go true c (refused n i) h = h
+      go false c o h = missing
+
+  pub written-answered : (r : Bytes) (room : ℕ) (o : Outcome) → Of o → P shortOutput 0 → P (says (lineMade r room o) .no) (says (lineMade r room o) .field)
+  written-answered r room (accepted k fs) h more = or-short (leb (length (trailed r)) room) (trailed r) more
+  written-answered r room (refused n i) h more = h
 
   -- the newer key: 13 besides
   module _ (more : P notAlike 0) where

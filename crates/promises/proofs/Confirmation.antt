@@ -10,14 +10,15 @@ use native.Mathlib.Nat.{le-trans}
 use lib.ListN.{length, take, getD, set, take-append-drop, length-drop}
 use lib.Seq.{length-take-le, getD-take, getD-set-same, getD-set-other}
 use lib.Dec.{T, leb, eqb, eqb→eq, leb→le, le→leb, not-T, T-not, lit≤}
-use mir.Facts.{and-yes, yes-and}
+use mir.Facts.{and-yes}
 use borrow.Author.Tests.{eq-eqb, ne-eqb, le-leb, lt-leb}
-use Rattle.text.specs.Text.{Bytes, same, every, hexadecimal, isHex, isMac, Ident}
+use Rattle.text.specs.Text.{Bytes, same, isMac, Ident}
 use Rattle.text.specs.Base16.{base16}
 use Rattle.text.proofs.Tests.{T-true, T-false, same→eq, same-refl}
 use Rattle.put.specs.Made.{leaves}
-use Rattle.put.proofs.Hex.{length-base16}
+use Rattle.put.proofs.Hex.{base16-hex}
 use Rattle.sha384.specs.Sha384.{sha384}
+use Rattle.hashing.specs.State as states
 use Rattle.sha384.specs.State.{begun, added, addedAll, together, ended}
 use Rattle.sha384.proofs.Digest.{digest-size}
 use Rattle.sha384.proofs.Pieces.{ended-all}
@@ -38,7 +39,6 @@ use Rattle.confirm.specs.declared.Confirmed.{Confirmed}
 use Rattle.promises.specs.Refusals.{ofLoads}
 use Rattle.promises.specs.Confirmation.{plain, Asked, RequestSaid, Answered, ResponseSaid, SameButTag, Confirmations}
 use Rattle.promises.proofs.Refusals.{load-given}
-use Rattle.promises.proofs.Fingerprint.{every-digit}
 
 -- ---- three tests in a row, as both calls have them: 16, then y, which is 10 or 17, then 18
 
@@ -350,10 +350,7 @@ fit-set (s ∷ ts) (x ∷ fs) zero t h f = (f, h .1)
 fit-set (s ∷ ts) (x ∷ fs) (suc j) t h f = (h .0, fit-set ts fs j t (h .1) f)
 
 is-mac : (k text : Bytes) → T (isMac (base16 (hmac k text)))
-unfolding isHex
-is-mac k text =
-    let tag = hmac k text in
-    yes-and (eqb (length (base16 tag)) 48) (every hexadecimal (base16 tag)) (rw (length-base16 tag, tag-size k text) tt) (every-digit tag (tag-bytes k text))
+is-mac k text = base16-hex 48 (hmac k text) (tag-bytes k text) (omega (arith, tag-size k text))
 
 module _ (z : Bytes) (fs : List Bytes) (p : Permitted REQ fs) where
   abbrev right : List Bytes
@@ -420,7 +417,7 @@ module _ (z : Bytes) (fs : List Bytes) (p : Permitted REQ fs) where
 -- ---- HMAC in slices
 
 slices : (x : Bytes) (ms : List Bytes) → ended (addedAll (added begun x) ms) ≡ sha384 (x ++ together ms)
-unfolding addedAll together
+unfolding states.addedAll together
 slices x ms = ended-all (x ∷ ms)
 
 in-slices : (k : Bytes) (ms : List Bytes) → hmacEnded k (addedAll (hmacBegun k) ms) ≡ hmac k (together ms)

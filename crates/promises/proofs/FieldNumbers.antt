@@ -15,8 +15,9 @@ use Rattle.fields.specs.Attributes.{attributeNo}
 use Rattle.agreement.specs.Texts.{sharedItems, moduleItems, centreItems, sharedInfo, moduleText, centreText}
 use Rattle.fingerprint.specs.Fingerprint.{checkFingerprint, writeFingerprint}
 use Rattle.confirm.specs.Confirm.{confirmRequest, confirmResponse}
+use Rattle.trailed.specs.Trailed.{recordIn, readTrailed, writeTrailed}
 use Rattle.promises.specs.FieldNumbers.{FieldNumbers}
-use Rattle.promises.proofs.Answered.{answered, wanted-answered, attribute-answered, text-answered, judge-answered, build-answered, line-answered, newer-answered, check-answered, print-answered, request-answered, response-answered}
+use Rattle.promises.proofs.Answered.{answered, wanted-answered, attribute-answered, text-answered, judge-answered, build-answered, line-answered, last-answered, trailed-answered, written-answered, newer-answered, check-answered, print-answered, request-answered, response-answered}
 
 identity-names : (s : Bytes) → Names (readIdentity s)
 unfolding readIdentity
@@ -34,11 +35,14 @@ record-names s = read-names recordKinds s
 abbrev NamesAt : ℕ → ℕ → Type 0
 NamesAt n i = oneOf naming n ≡ ltb 0 i
 
+trailed-names : (s : Bytes) → Names (readTrailed s)
+trailed-names s = trailed-answered NamesAt refl s (record-names (recordIn s)) refl refl
+
 attribute-names : (s : Bytes) (wanted : ℕ) → NamesAt (attributeNo (readOf keyKinds s) wanted) (place (readOf keyKinds s))
 attribute-names s wanted = attribute-answered NamesAt refl (readOf keyKinds s) wanted (read-names keyKinds s) refl
 
 pub field-numbers : FieldNumbers
-unfolding sharedInfo moduleText centreText checkFingerprint writeFingerprint confirmRequest confirmResponse
+unfolding sharedInfo moduleText centreText checkFingerprint writeFingerprint confirmRequest confirmResponse writeTrailed
 field-numbers = record {
   read-identity = λ κs a r s p. rw p (answered NamesAt refl (readIdentity (now (a .0))) (identity-names (now (a .0))));
   read-record = λ κs a r s p. rw p (answered NamesAt refl (readRecord (now (a .0))) (record-names (now (a .0))));
@@ -56,8 +60,12 @@ field-numbers = record {
   shared-info = λ κs a r s p. rw (p .said) (text-answered NamesAt refl sharedItems (length (now (a .1 .0))) (readOf (REQ ∷ []) (now (a .0))) (read-names (REQ ∷ []) (now (a .0))) refl);
   module-text = λ κs a r s p. rw (p .said) (text-answered NamesAt refl moduleItems (length (now (a .1 .0))) (readOf (REQ ∷ []) (now (a .0))) (read-names (REQ ∷ []) (now (a .0))) refl);
   centre-text = λ κs a r s p. rw (p .said) (text-answered NamesAt refl centreItems (length (now (a .1 .0))) (readOf (REQ ∷ []) (now (a .0))) (read-names (REQ ∷ []) (now (a .0))) refl);
-  line-at = λ κs a r s p. rw p (line-answered NamesAt refl record-names refl (now (a .0)) (a .1 .0));
-  step-from = λ κs a r s p. rw p (line-answered NamesAt refl record-names refl (now (a .0)) (a .1 .0));
+  line-at = λ κs a r s p. rw p (line-answered NamesAt refl readRecord record-names refl (now (a .0)) (a .1 .0));
+  step-from = λ κs a r s p. rw p (line-answered NamesAt refl readRecord record-names refl (now (a .0)) (a .1 .0));
+  last-line = λ κs a r s p. rw p (last-answered NamesAt refl refl (a .0) (a .1 .0));
+  read-trailed = λ κs a r s p. rw p (answered NamesAt refl (readTrailed (now (a .0))) (trailed-names (now (a .0))));
+  trailed-at = λ κs a r s p. rw p (line-answered NamesAt refl readTrailed trailed-names refl (now (a .0)) (a .1 .0));
+  write-trailed = λ κs a r s p. rw (p .said) (written-answered NamesAt refl (now (a .0)) (length (now (a .1 .0))) (readRecord (now (a .0))) (record-names (now (a .0))) refl);
   newer-of = λ κs a r s p. rw p (newer-answered NamesAt refl refl identity-names (read-names pubkeyKinds) (now (a .0)) (now (a .1 .0)));
   newer = λ κs a r s p. rw (p .number-so, p .field-so) (newer-answered NamesAt refl refl identity-names (read-names pubkeyKinds) (now (a .0)) (now (a .1 .0)));
   check-fingerprint = λ κs a r s p. rw p (check-answered NamesAt refl (readOf pubkeyKinds (now (a .0))) (read-names pubkeyKinds (now (a .0))) refl);

@@ -1,25 +1,23 @@
 -- The promises about the Fingerprint of a public key, from the definitions of fingerprint.
 -- Assumes nothing.
-use Prim.Native.Nat.{ℕ, suc, _/_, _%_, _<_}
+use Prim.Native.Nat.{ℕ}
 use mathlib.Core.Path.{_≡_, refl, sym, ap, _∙_}
 use mathlib.Core.Logic.{_≢_}
 use mathlib.Core.Bool.{Bool, cond}
-use mathlib.Core.List.{[], _∷_, _++_}
+use mathlib.Core.List.{_++_}
 use native.Mathlib.Omega.{arith}
 use lib.ListN.{length, take, drop}
 use denote.Ref.{now}
 use lib.Dec.{T}
 use borrow.Author.Tests.{le-leb, lt-leb}
-use Rattle.crc16.specs.Damage.{AreBytes}
-use Rattle.text.specs.Text.{Bytes, same, every, hexadecimal, isHex, isPrint}
-use Rattle.text.specs.Base16.{hexDigit, base16}
+use Rattle.text.specs.Text.{Bytes, same, isPrint}
 use Rattle.text.proofs.Tests.{T-true, T-false, by-test, same→eq, same-refl}
-use Rattle.text.proofs.Hexadecimal.{digit-hexadecimal}
+use Rattle.put.proofs.Hex.{base16-hex}
 use Rattle.sha384.specs.Sha384.{left384, sha384}
 use Rattle.numbers.specs.Numbers.{wrongFingerprint}
 use Rattle.format.specs.Kinds.{Kind, SMMAN, SMID, KMCID, ECDSA, ECDH, REQ, RESP, KEY, pubkeyKinds, recordKinds, among}
 use Rattle.format.specs.Read.{Outcome, accepted, refused, answer, readOf, readRecord}
-use Rattle.format.proofs.Damage.{part-bytes}
+use Rattle.format.proofs.DamagedLines.{part-bytes}
 use Rattle.format.proofs.Refusals.{Gives}
 use Rattle.format.proofs.Exactly.{read-exact, record-exact, read-honest}
 use Rattle.subjects.specs.Keys.{Key}
@@ -111,7 +109,7 @@ unfolding sha384 left384
 print-length text = refl
 
 -- whatever is made, a refusal leaves the output
-refusal-leaves : (m : Made) (out out′ : Bytes) (r : Written) → Writes m out out′ r → r .no ≢ 0 → (r .len ≡ 0) × (out′ ≡ out)
+pub refusal-leaves : (m : Made) (out out′ : Bytes) (r : Written) → Writes m out out′ r → r .no ≢ 0 → (r .len ≡ 0) × (out′ ≡ out)
 refusal-leaves (made v) out out′ r w n = absurd (n (ap (λ (x : Written). x .no) (w .said)))
 refusal-leaves (denied m i) out out′ r w n = (ap (λ (x : Written). x .len) (w .said), w .left)
 
@@ -131,18 +129,9 @@ write-said s out out′ r w =
 
 -- ---- the characters
 
-pub every-digit : (bs : Bytes) → AreBytes bs → T (every hexadecimal (base16 bs))
-every-digit [] h = tt
-every-digit (b ∷ bs) h =
-    let u : b < 256 = h 0 in
-    rw (
-      T-true (hexadecimal (hexDigit (b / 16))) (digit-hexadecimal (b / 16) (omega arith)),
-      T-true (hexadecimal (hexDigit (b % 16))) (digit-hexadecimal (b % 16) (omega arith)),
-    ) (every-digit bs (λ k. h (suc k)))
-
 printed : (text : Bytes) → T (isPrint (printOf text))
-unfolding isHex
-printed text = rw (print-length text) (every-digit (take 8 (sha384 text)) (part-bytes 0 8 (sha384 text) (digest-bytes text)))
+unfolding sha384 left384
+printed text = base16-hex 16 (take 8 (sha384 text)) (part-bytes 0 8 (sha384 text) (digest-bytes text)) refl
 
 pub fingerprints : Fingerprints
 fingerprints = record { checked = λ κs a r s p. check-said (now (a .0)) r p; written = λ κs a r s p. write-said _ _ _ r p; is-print = printed }

@@ -5,11 +5,13 @@ use mathlib.Core.List.{List, [], _∷_, _++_}
 use Rattle.crc16.specs.Crc.{bitStep, bitSteps, add, addAll, crcOf}
 use Rattle.text.specs.Text.{looks, numberFrom, isDigits, isAlphanumeric, isIdent, isTimestamp, isHex, isPoint, isPrintable, isProtected, isOctet}
 use Rattle.text.specs.Base16.{hexDigit, checkText}
-use Rattle.sha384.specs.Sha384.{K, padding, padded, block, H₀, word, words, schedule, rounds, compress, hashed, left384, sha384}
+use Rattle.hashing.specs.Turns.{turns, grown}
+use Rattle.hashing.specs.Blocks.{block, hashed}
+use Rattle.sha384.specs.Sha384.{K, padding, padded, H₀, word, words, schedule, rounds, compress, left384, sha384}
 use Rattle.format.specs.Attributes.{isCard, areAttributes}
 use Rattle.format.specs.Build.{withCheck, recordOf}
 use Rattle.format.specs.Read.{checkNo, identityAnswer, fieldAnswer, wholeAnswer, judged, readAs, readOver, readIdentity, readOf, readRecord}
-use Rattle.format.specs.Files.{lineOf, lineAt}
+use Rattle.format.specs.Files.{lineOfOver, lineAtOver}
 use Rattle.building.specs.Building.{buildAs, buildOf, build}
 use Rattle.agreement.specs.Texts.{sharedInfo, moduleText, centreText}
 use Rattle.fields.specs.Fields.{wantedNo}
@@ -19,9 +21,11 @@ use Rattle.newer.specs.Newer.{newer}
 use Rattle.fingerprint.specs.Fingerprint.{checkFingerprint, writeFingerprint}
 use Rattle.hmac.specs.Hmac.{K₀, mixed, mac, hmac}
 use Rattle.confirm.specs.Confirm.{confirmRequest, confirmResponse}
+use Rattle.sha1.specs.Sha1 as short
+use Rattle.trailed.specs.Trailed.{trailer, trailed, readTrailed, writeTrailed}
 use Rattle.promises.specs.Values.{Value, AllCome, admittedFrom}
 use Rattle.promises.specs.Worked.{manufacturerIdFields, manufacturerId, moduleIdFields, moduleId, centreIdFields, centreId, manufacturerKeyFields, manufacturerKey, moduleKeyFields, moduleKey, centreKeyFields, centreKey, requestFields, request, responseFields, response, keyAttributes, keyFields, key, longAttributes}
-use Rattle.promises.specs.Fixed.{rows, alphabets, limits, labels, checks, numbers, building, texts, others, lists, keys, longKeys, days, dates, hashes, agreeing, differing, fingerprints, tags, confirming, fixed}
+use Rattle.promises.specs.Fixed.{rows, alphabets, limits, labels, checks, numbers, building, texts, others, lists, keys, longKeys, days, dates, hashes, agreeing, differing, fingerprints, tags, confirming, shortHashes, printed, lines, fixed}
 
 -- two sets of values are one; a record, so that the checker finds which two
 record Come (vs : List Value) : Type 0 where
@@ -68,7 +72,7 @@ unfolding texts sharedInfo moduleText centreText manufacturerIdFields manufactur
 all-texts = record { come = (refl, (refl, (refl, (refl, tt)))) }
 
 all-others : Come others
-unfolding others wantedNo lineAt lineOf newer alike manufacturerIdFields manufacturerId moduleIdFields moduleId centreIdFields centreId manufacturerKeyFields moduleKeyFields moduleKey centreKeyFields centreKey requestFields request responseFields response recordOf withCheck checkText hexDigit crcOf addAll add bitSteps bitStep isIdent isTimestamp looks numberFrom isHex isPoint checkNo identityAnswer fieldAnswer wholeAnswer judged readAs readOver readIdentity readOf readRecord
+unfolding others wantedNo lineAtOver lineOfOver newer alike manufacturerIdFields manufacturerId moduleIdFields moduleId centreIdFields centreId manufacturerKeyFields moduleKeyFields moduleKey centreKeyFields centreKey requestFields request responseFields response recordOf withCheck checkText hexDigit crcOf addAll add bitSteps bitStep isIdent isTimestamp looks numberFrom isHex isPoint checkNo identityAnswer fieldAnswer wholeAnswer judged readAs readOver readIdentity readOf readRecord
 all-others = record { come = (refl, (refl, (refl, (refl, (refl, (refl, (refl, (refl, tt)))))))) }
 
 all-lists : Come lists
@@ -92,29 +96,41 @@ unfolding dates build buildOf buildAs moduleIdFields moduleId centreIdFields cen
 all-dates = record { come = (refl, (refl, (refl, (refl, (refl, (refl, (refl, (refl, (refl, (refl, (refl, (refl, (refl, (refl, (refl, tt))))))))))))))) }
 
 all-hashes : Come hashes
-unfolding hashes hexDigit K padding padded block H₀ word words schedule rounds compress hashed left384 sha384
+unfolding hashes hexDigit turns grown block hashed K padding padded H₀ word words schedule rounds compress left384 sha384
 all-hashes = record { come = (refl, (refl, (refl, tt))) }
 
 all-agreeing : Come agreeing
-unfolding agreeing checkFingerprint centreKey isPoint readOf manufacturerIdFields manufacturerId moduleIdFields moduleId centreIdFields centreId manufacturerKeyFields moduleKeyFields centreKeyFields recordOf withCheck checkText hexDigit crcOf addAll add bitSteps bitStep isIdent isTimestamp looks numberFrom isHex checkNo identityAnswer fieldAnswer wholeAnswer judged readAs readOver readIdentity K padding padded block H₀ word words schedule rounds compress hashed left384 sha384
+unfolding agreeing checkFingerprint centreKey isPoint readOf manufacturerIdFields manufacturerId moduleIdFields moduleId centreIdFields centreId manufacturerKeyFields moduleKeyFields centreKeyFields recordOf withCheck checkText hexDigit crcOf addAll add bitSteps bitStep isIdent isTimestamp looks numberFrom isHex checkNo identityAnswer fieldAnswer wholeAnswer judged readAs readOver readIdentity turns grown block hashed K padding padded H₀ word words schedule rounds compress left384 sha384
 all-agreeing = record { come = (refl, tt) }
 
 all-differing : Come differing
-unfolding differing checkFingerprint centreKey isPoint readOf manufacturerIdFields manufacturerId moduleIdFields moduleId centreIdFields centreId manufacturerKeyFields moduleKeyFields centreKeyFields recordOf withCheck checkText hexDigit crcOf addAll add bitSteps bitStep isIdent isTimestamp looks numberFrom isHex checkNo identityAnswer fieldAnswer wholeAnswer judged readAs readOver readIdentity K padding padded block H₀ word words schedule rounds compress hashed left384 sha384
+unfolding differing checkFingerprint centreKey isPoint readOf manufacturerIdFields manufacturerId moduleIdFields moduleId centreIdFields centreId manufacturerKeyFields moduleKeyFields centreKeyFields recordOf withCheck checkText hexDigit crcOf addAll add bitSteps bitStep isIdent isTimestamp looks numberFrom isHex checkNo identityAnswer fieldAnswer wholeAnswer judged readAs readOver readIdentity turns grown block hashed K padding padded H₀ word words schedule rounds compress left384 sha384
 all-differing = record { come = (refl, tt) }
 
 all-fingerprints : Come fingerprints
-unfolding fingerprints checkFingerprint writeFingerprint centreKey isPoint readOf readRecord manufacturerIdFields manufacturerId moduleIdFields moduleId centreIdFields centreId manufacturerKeyFields moduleKeyFields centreKeyFields recordOf withCheck checkText hexDigit crcOf addAll add bitSteps bitStep isIdent isTimestamp looks numberFrom isHex checkNo identityAnswer fieldAnswer wholeAnswer judged readAs readOver readIdentity K padding padded block H₀ word words schedule rounds compress hashed left384 sha384
+unfolding fingerprints checkFingerprint writeFingerprint centreKey isPoint readOf readRecord manufacturerIdFields manufacturerId moduleIdFields moduleId centreIdFields centreId manufacturerKeyFields moduleKeyFields centreKeyFields recordOf withCheck checkText hexDigit crcOf addAll add bitSteps bitStep isIdent isTimestamp looks numberFrom isHex checkNo identityAnswer fieldAnswer wholeAnswer judged readAs readOver readIdentity turns grown block hashed K padding padded H₀ word words schedule rounds compress left384 sha384
 all-fingerprints = record { come = (refl, (refl, (refl, (refl, (refl, (refl, tt)))))) }
 
 all-tags : Come tags
-unfolding tags K₀ mixed mac hmac hexDigit K padding padded block H₀ word words schedule rounds compress hashed left384 sha384
+unfolding tags K₀ mixed mac hmac hexDigit turns grown block hashed K padding padded H₀ word words schedule rounds compress left384 sha384
 all-tags = record { come = (refl, tt) }
 
 all-confirming : Come confirming
 unfolding confirming confirmRequest confirmResponse requestFields responseFields isPoint readOf moduleIdFields moduleId centreIdFields centreId recordOf withCheck checkText hexDigit crcOf addAll add bitSteps bitStep isIdent isTimestamp looks numberFrom isHex checkNo identityAnswer fieldAnswer wholeAnswer judged readAs readOver readIdentity
 all-confirming = record { come = (refl, (refl, (refl, (refl, (refl, (refl, (refl, (refl, (refl, tt))))))))) }
 
+all-short-hashes : Come shortHashes
+unfolding shortHashes hexDigit turns grown block hashed short.byTwenty short.padding short.padded short.H₀ short.word short.words short.schedule short.rounds short.compress short.joined short.sha1
+all-short-hashes = record { come = (refl, (refl, (refl, tt))) }
+
+all-printed : Come printed
+unfolding printed trailer moduleKey moduleKeyFields moduleIdFields moduleId manufacturerIdFields manufacturerId recordOf withCheck checkText hexDigit crcOf addAll add bitSteps bitStep turns grown block hashed short.byTwenty short.padding short.padded short.H₀ short.word short.words short.schedule short.rounds short.compress short.joined short.sha1
+all-printed = record { come = (refl, tt) }
+
+all-lines : Come lines
+unfolding lines readTrailed writeTrailed trailed trailer lineAtOver lineOfOver responseFields response moduleIdFields moduleId centreIdFields centreId recordOf withCheck checkText hexDigit crcOf addAll add bitSteps bitStep isIdent isTimestamp looks numberFrom isHex checkNo identityAnswer fieldAnswer wholeAnswer judged readAs readOver readIdentity readOf readRecord turns grown block hashed short.byTwenty short.padding short.padded short.H₀ short.word short.words short.schedule short.rounds short.compress short.joined short.sha1
+all-lines = record { come = (refl, (refl, (refl, (refl, (refl, (refl, (refl, (refl, (refl, (refl, (refl, (refl, (refl, (refl, (refl, (refl, (refl, tt))))))))))))))))) }
+
 pub all-fixed : AllCome fixed
 unfolding fixed
-all-fixed = (all-rows and all-alphabets and all-limits and all-labels and all-checks and all-numbers and all-building and all-texts and all-others and all-lists and all-keys and all-long-keys and all-days and all-dates and all-hashes and all-agreeing and all-differing and all-fingerprints and all-tags and all-confirming) .come
+all-fixed = (all-rows and all-alphabets and all-limits and all-labels and all-checks and all-numbers and all-building and all-texts and all-others and all-lists and all-keys and all-long-keys and all-days and all-dates and all-hashes and all-agreeing and all-differing and all-fingerprints and all-tags and all-confirming and all-short-hashes and all-printed and all-lines) .come

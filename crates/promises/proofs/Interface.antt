@@ -8,7 +8,8 @@ use Rattle.files.specs.declared.Line.{Line}
 use Rattle.files.specs.declared.Line.the-variants.{Finished, Read}
 use Rattle.text.specs.Text.{Bytes}
 use Rattle.exports.specs.declared.confirming.Tag.{Tag}
-use Rattle.exports.specs.declared.hashing.Digest.{Digest}
+use Rattle.exports.specs.declared.hashes.Digest.{Digest}
+use Rattle.exports.specs.declared.trailing.Sha1Digest.{Sha1Digest}
 use Rattle.exports.specs.declared.walking.Found.{Found}
 use Rattle.exports.specs.Exports.{found}
 use Rattle.promises.specs.Interface.{Interface}
@@ -63,4 +64,13 @@ interface = record {
   confirm-request-mac-key = λ κs a r s p. p .mac-key-left;
   confirm-request-kek = λ κs a r s p. p .kek-left;
   confirm-response = λ κs a r s p. p;
+  sha1-begin = λ κs a r s p. p;
+  sha1-add = λ κs a r s p. p;
+  sha1-end = λ κs a r s p. ap {B = Sha1Digest} (λ (b : Bytes). record { bytes = b }) p;
+  sha1-of = λ κs a r s p. ap {B = Sha1Digest} (λ (b : Bytes). record { bytes = b }) p;
+  read-trailed = λ κs a r s p. p;
+  trailed-at = λ κs a r s p. p;
+  count-trailed = λ κs a r s p. p;
+  write-trailed-said = λ κs a r s p. p .said;
+  write-trailed-out = λ κs a r s p. p .left;
 }

@@ -87,7 +87,7 @@ module _ (ks : List Kind) (s : Bytes) (o : Outcome) (exact : (k : Kind) (fs : Li
       let place = record-place k s fs (its-few b) (its-parts b) j in
       rw said ((λ h. rw (add-one j) (record-start k s fs (its-few b) (its-parts b) j h)), (λ h. past-last k fs (its-few b) j h), place .0, place .1, kinds-at k fs j)
 
-no-places : (o : Outcome) (r : Answer) → r ≡ answerOf o → r .no ≢ 0
+pub no-places : (o : Outcome) (r : Answer) → r ≡ answerOf o → r .no ≢ 0
     → (r .kind ≡ missingRow) × (r .starts ≡ replicate 7 0) × (r .lens ≡ replicate 7 0) × (r .kinds ≡ replicate 7 missingRow)
 no-places (accepted k fs) r e n = absurd (n (ap (λ (a : Answer). a .no) e))
 no-places (refused m i) r e n = (ap (λ (a : Answer). a .kind) e, ap (λ (a : Answer). a .starts) e, ap (λ (a : Answer). a .lens) e, ap (λ (a : Answer). a .kinds) e)

@@ -24,8 +24,9 @@ use Rattle.agreement.specs.Texts.{sharedItems, moduleItems, centreItems, shared
 use Rattle.fingerprint.specs.Fingerprint.{checkFingerprint, writeFingerprint}
 use Rattle.confirm.specs.Confirm.{confirmRequest, confirmResponse}
 use Rattle.list_text.specs.Listing.{listText, listRoom, writeList}
+use Rattle.trailed.specs.Trailed.{recordIn, readTrailed, writeTrailed}
 use Rattle.promises.specs.Refusals.{ofIdentities, ofRecords, ofPubkeys, ofKeys, ofLoads, ofTexts, Refusals}
-use Rattle.promises.proofs.Answered.{answered, wanted-answered, attribute-answered, text-answered, judge-answered, build-answered, line-answered, newer-answered, check-answered, print-answered, request-answered, response-answered}
+use Rattle.promises.proofs.Answered.{answered, wanted-answered, attribute-answered, text-answered, judge-answered, build-answered, line-answered, last-answered, trailed-answered, written-answered, newer-answered, check-answered, print-answered, request-answered, response-answered}
 
 -- n is one of ns, whatever the field's number
 abbrev In : List ℕ → ℕ → ℕ → Type 0
@@ -46,7 +47,7 @@ read-given : (ks : List Kind) (s : Bytes) → Gives ofRecords (readOf ks s)
 unfolding readOf
 read-given ks s = over-given ofRecords tt readIdentity (tt, tt, tt, tt, tt) ks (all-of (λ k. T (covers ofRecords k)) (every-kind (covers ofRecords) tt) ks) s
 
-record-given : (s : Bytes) → Gives ofRecords (readRecord s)
+pub record-given : (s : Bytes) → Gives ofRecords (readRecord s)
 unfolding readRecord
 record-given s = read-given recordKinds s
 
@@ -105,6 +106,11 @@ list-given file room = go (leb listRoom room)
 line-given : (s : Bytes) → Gives (11 ∷ ofRecords) (readRecord s)
 line-given s = further 11 ofRecords (readRecord s) (record-given s)
 
+trailed-given : (s : Bytes) → Gives (19 ∷ 20 ∷ ofRecords) (readTrailed s)
+trailed-given s =
+    let o = readRecord (recordIn s) in
+    trailed-answered (In (19 ∷ 20 ∷ ofRecords)) tt s (further 19 (20 ∷ ofRecords) o (further 20 ofRecords o (record-given (recordIn s)))) tt tt
+
 subject-given : (s : Bytes) → Gives (13 ∷ ofPubkeys) (readIdentity s)
 subject-given s = one-of (oneOf (13 ∷ ofPubkeys)) ofIdentities tt (answer (readIdentity s)) (identity-given s)
 
@@ -123,7 +129,7 @@ attribute-given : (s : Bytes) (wanted : ℕ) → T (oneOf (12 ∷ ofKeys) (attri
 attribute-given s wanted = attribute-answered (In (12 ∷ ofKeys)) tt (readOf keyKinds s) wanted (further 12 ofKeys (readOf keyKinds s) (wrapped-given s)) tt
 
 pub refusals : Refusals
-unfolding sharedInfo moduleText centreText checkFingerprint writeFingerprint confirmRequest confirmResponse
+unfolding sharedInfo moduleText centreText checkFingerprint writeFingerprint confirmRequest confirmResponse writeTrailed
 refusals = record {
   check-no = λ κs a r s p. rw p (check-given (0 ∷ 3 ∷ 4 ∷ []) tt (a .0) (now (a .1 .0)) tt tt);
   read-identity = λ κs a r s p. rw p (answered (In ofIdentities) tt (readIdentity (now (a .0))) (identity-given (now (a .0))));
@@ -144,8 +150,12 @@ refusals = record {
   centre-text = λ κs a r s p. rw (p .said) (text-answered (In ofTexts) tt centreItems (length (now (a .1 .0))) (readOf (REQ ∷ []) (now (a .0))) (request-given (now (a .0))) tt);
   item-place = λ κs a r s p. rw (p .said) (place-given _ (textItem (now (a .0)) (a .1 .0)));
   text-item = λ κs a r s p. rw (p .number-so) (place-given _ (textItem (now (a .0)) (a .1 .0)));
-  line-at = λ κs a r s p. rw p (line-answered (In (11 ∷ ofRecords)) tt line-given tt (now (a .0)) (a .1 .0));
-  step-from = λ κs a r s p. rw p (line-answered (In (11 ∷ ofRecords)) tt line-given tt (now (a .0)) (a .1 .0));
+  line-at = λ κs a r s p. rw p (line-answered (In (11 ∷ ofRecords)) tt readRecord line-given tt (now (a .0)) (a .1 .0));
+  step-from = λ κs a r s p. rw p (line-answered (In (11 ∷ ofRecords)) tt readRecord line-given tt (now (a .0)) (a .1 .0));
+  last-line = λ κs a r s p. rw p (last-answered (In (0 ∷ 11 ∷ [])) tt tt (a .0) (a .1 .0));
+  read-trailed = λ κs a r s p. rw p (answered (In (19 ∷ 20 ∷ ofRecords)) tt (readTrailed (now (a .0))) (trailed-given (now (a .0))));
+  trailed-at = λ κs a r s p. rw p (line-answered (In (11 ∷ 19 ∷ 20 ∷ ofRecords)) tt readTrailed (λ l. further 11 (19 ∷ 20 ∷ ofRecords) (readTrailed l) (trailed-given l)) tt (now (a .0)) (a .1 .0));
+  write-trailed = λ κs a r s p. rw (p .said) (written-answered (In (10 ∷ ofRecords)) tt (now (a .0)) (length (now (a .1 .0))) (readRecord (now (a .0))) (further 10 ofRecords (readRecord (now (a .0))) (record-given (now (a .0)))) tt);
   write-list = λ κs a r s p. rw (p .said) (list-given (now (a .0)) (length (now (a .1 .0))));
   newer-of = λ κs a r s p. rw p (newer-answered (In (13 ∷ ofPubkeys)) tt tt subject-given key-given (now (a .0)) (now (a .1 .0)));
   newer = λ κs a r s p. rw (p .number-so) (newer-answered (In (13 ∷ ofPubkeys)) tt tt subject-given key-given (now (a .0)) (now (a .1 .0)));

@@ -15,9 +15,9 @@ use Rattle.text.specs.Text.{Bytes, ascii, every, hexadecimal, TextType, Ident, 
 use Rattle.format.specs.Kinds.{Kind, KMCID, ECDH, REQ, KEY, identityKinds, recordKinds, pubkeyKinds, keyKinds}
 use Rattle.format.specs.Attributes.{cardsIn}
 use Rattle.format.specs.Build.{recordOf, IsIdentity, Permitted}
-use Rattle.format.specs.Read.{accepted, place, readIdentity, readRecord}
+use Rattle.format.specs.Read.{Outcome, accepted, place, readIdentity, readRecord}
 use Rattle.format.proofs.Exactly.{identity-exact, read-exact, record-exact}
-use Rattle.format.specs.Files.{lineAt}
+use Rattle.format.specs.Files.{lineAtOver, lineAt}
 use Rattle.subjects.specs.Subjects.{alike}
 use Rattle.files.specs.declared.Line.{Line}
 use Rattle.files.specs.declared.Reader.{Reader}
@@ -31,12 +31,15 @@ use Rattle.newer.proofs.Choosing.{newer-keys}
 use Rattle.fields.specs.Fields.{wantedPart, wantedNo, wantedStart}
 use Rattle.promises.specs.Rebuilding as asked
 use Rattle.promises.specs.Rebuilding.{Asked, IdentityField, RecordField}
+use Rattle.trailed.specs.Trailed.{readTrailed}
+use Rattle.promises.specs.Files.{PlainSays}
+use Rattle.promises.specs.Trailed.{TrailedSays}
 use Rattle.promises.specs.Demand3.{Called, none, more}
 use Rattle.promises.specs.Worked.{centreIdFields, centreId, centreKeyFields, centreKey, requestFields, request, keyAttributes, keyFields, key, fieldsOfWorked, laterIdFields, laterKeyFields, laterKey}
 use Rattle.promises.specs.Attributes.{Wrapped}
 use Rattle.promises.proofs.Attributes.{wrapped}
 use Rattle.promises.proofs.Permitted.{names-permitted, permitted, unsigned, later-permitted, built-of}
-use Rattle.promises.proofs.DamagedFile.{damaged, caught}
+use Rattle.promises.proofs.DamagedFile.{damaged, caught, damaged-trailed, caught-trailed}
 use Rattle.promises.specs.Witnesses.{Witnesses}
 
 -- ---- a text of each type
@@ -92,12 +95,14 @@ wrapped-key = (wrapped key keyFields (built-of keyKinds KEY keyFields tt (permit
 
 -- ---- calls and steps
 
-called : (lent : RefT Bytes) (n place : ℕ) → (ls : List Line) × Called lent place ls × (length ls ≡ n)
-called lent zero place = ([], none, refl)
-called lent (suc n) place =
-    let l : Line = lineSaid (lineAt (now lent) place) in
-    let (ls, c, e) = called lent n (nextOf l) in
-    (l ∷ ls, more (([], tt), ((lent, (place, tt)), refl)) c, ap suc e)
+-- a file call that may answer what is said of the line at a place, where `call` is asked about the lines
+module _ (call : Bytes → Outcome) (Says : RefT Bytes → ℕ → Line → Type 0) (lent : RefT Bytes) (says : (place : ℕ) → Says lent place (lineSaid (lineAtOver call (now lent) place))) where
+  calls : (n place : ℕ) → (ls : List Line) × Called Says lent place ls × (length ls ≡ n)
+  calls zero place = ([], none, refl)
+  calls (suc n) place =
+      let l : Line = lineSaid (lineAtOver call (now lent) place) in
+      let (ls, c, e) = calls n (nextOf l) in
+      (l ∷ ls, more (says place) c, ap suc e)
 
 stepped : (n : ℕ) (before : Reader) → (said : List Line) × ((after : Reader) × Steps before said after × (length said ≡ n))
 stepped zero before = ([], (before, steps.none, refl))
@@ -182,8 +187,11 @@ witnesses = record {
   second-newer = choices .0;
   first-newer = choices .1;
   first-when-equal = choices .2;
-  called = called;
+  called = λ lent. calls readRecord PlainSays lent (λ place. (([], tt), ((lent, (place, tt)), refl)));
+  called-trailed = λ lent. calls readTrailed TrailedSays lent (λ place. (([], tt), ((lent, (place, tt)), refl)));
   stepped = stepped;
   damaged = damaged;
   caught = caught;
+  damaged-trailed = damaged-trailed;
+  caught-trailed = caught-trailed;
 }

@@ -1,5 +1,5 @@
--- Demand 3. Two record files of equal length that differ only inside lines which the first accepts, in each such line within two
--- neighbouring places, no differing byte a line feed in either file (`Damaged`, in format/specs/Damage.antt): every line that differs is
+-- Demand 3, for plain files and for manufacturers'. Two record files of equal length that differ only inside lines which the first accepts, in each such line within two
+-- neighbouring places, no differing byte a line feed in either file (`DamagedOver`, in format/specs/Damage.antt): every line that differs is
 -- refused in the second, and every other line gives the same answer at the same place with the same fields. Stated on what the file call
 -- answers for the two files, called from place 0 on, each time at the next place that it named.
 -- Assumes nothing.
@@ -10,17 +10,18 @@ use mathlib.Core.List.{List, [], _∷_}
 use lib.ListN.{length, getD}
 use denote.Ref.{RefT, now}
 use Rattle.text.specs.Text.{Bytes, part}
-use Rattle.format.specs.Damage.{Differ, Damaged}
+use Rattle.format.specs.Read.{Outcome, readRecord}
+use Rattle.format.specs.Damage.{Differ, DamagedOver}
 use Rattle.files.specs.declared.Line.{Line}
 use Rattle.files.specs.Walk.{numberOf, startOf, lengthOf, nextOf}
-use Rattle.files.proofs.line_at.Reads as line-at
-use Rattle.promises.specs.Calls.{Allows}
+use Rattle.trailed.specs.Trailed.{readTrailed}
+use Rattle.promises.specs.Files.{PlainSays}
+use Rattle.promises.specs.Trailed.{TrailedSays}
 
--- answers that the contract of the file call allows for the lent bytes, one call after another from a place on
-pub data Called (lent : RefT Bytes) : ℕ → List Line → Type 0 where
-  none : {place : ℕ} → Called lent place []
-  more : {place : ℕ} {said : Line} {rest : List Line}
-      → Allows line-at.Post (λ κs. (lent, (place, tt))) (λ κs. said) → Called lent (nextOf said) rest → Called lent place (said ∷ rest)
+-- answers that the contract of a file call allows (`Says`, as in Files.antt) for the lent bytes, one call after another from a place on
+pub data Called (Says : RefT Bytes → ℕ → Line → Type 0) (lent : RefT Bytes) : ℕ → List Line → Type 0 where
+  none : {place : ℕ} → Called Says lent place []
+  more : {place : ℕ} {said : Line} {rest : List Line} → Says lent place said → Called Says lent (nextOf said) rest → Called Says lent place (said ∷ rest)
 
 -- place p is inside the line that was answered
 abbrev pub InLine : Line → ℕ → Type 0
@@ -48,7 +49,12 @@ AllCaughtSaid a b [] (m ∷ ms) = ⊥
 AllCaughtSaid a b (l ∷ ls) [] = ⊥
 AllCaughtSaid a b (l ∷ ls) (m ∷ ms) = CaughtSaid a b l m × AllCaughtSaid a b ls ms
 
--- as many calls for the one file as for the other, however many
-abbrev pub Demand3 : Type 0
-Demand3 = (f g : RefT Bytes) → Damaged (now f) (now g) → (ls ms : List Line) → Called f 0 ls → Called g 0 ms → length ls ≡ length ms
-    → AllCaughtSaid (now f) (now g) ls ms
+-- as many calls for the one file as for the other, however many, where `call` is asked about the lines
+abbrev pub DamageCaught : (Bytes → Outcome) → (RefT Bytes → ℕ → Line → Type 0) → Type 0
+DamageCaught call Says = (f g : RefT Bytes) → DamagedOver call (now f) (now g) → (ls ms : List Line) → Called Says f 0 ls → Called Says g 0 ms
+    → length ls ≡ length ms → AllCaughtSaid (now f) (now g) ls ms
+
+pub record Demand3 : Type 0 where
+  pub in-plain : DamageCaught readRecord PlainSays
+  -- each whole line with its trailer counts as a line
+  pub in-trailed : DamageCaught readTrailed TrailedSays

@@ -47,6 +47,7 @@ use Rattle.places.proofs.places_of.Reads as places-of
 use Rattle.places.proofs.part_at.Reads as part-at
 use Rattle.places.proofs.field_at.Reads as field-at
 use Rattle.cards.proofs.are_attributes.Reads as are-attributes
+use Rattle.reading.proofs.refuse.Reads as refuse-reading
 use Rattle.reading.proofs.read_identity.Reads as read-identity
 use Rattle.reading.proofs.judge.Reads as judge
 use Rattle.reading.proofs.read_of.Reads as read-of
@@ -68,6 +69,10 @@ use Rattle.sha384.proofs.Sha384.begin.Reads as sha384-begin
 use Rattle.sha384.proofs.Sha384.add.Reads as sha384-add
 use Rattle.sha384.proofs.Sha384.end.Reads as sha384-end
 use Rattle.sha384.proofs.sha384_of.Reads as sha384-of
+use Rattle.sha1.proofs.Sha1.begin.Reads as sha1-begin
+use Rattle.sha1.proofs.Sha1.add.Reads as sha1-add
+use Rattle.sha1.proofs.Sha1.end.Reads as sha1-end
+use Rattle.sha1.proofs.sha1_of.Reads as sha1-of
 use Rattle.hmac.proofs.begin.Reads as hmac-begin
 use Rattle.hmac.proofs.end.Reads as hmac-end
 use Rattle.hmac.proofs.hmac_of.Reads as hmac-of
@@ -80,6 +85,12 @@ use Rattle.agreement.proofs.centre_text.Reads as centre-text
 use Rattle.files.proofs.line_at.Reads as line-at
 use Rattle.files.proofs.count.Reads as count
 use Rattle.files.proofs.step_from.Reads as step-from
+use Rattle.files.proofs.line_end.Reads as line-end
+use Rattle.files.proofs.last_line.Reads as last-line
+use Rattle.trailed.proofs.read_trailed.Reads as read-trailed
+use Rattle.trailed.proofs.trailed_at.Reads as trailed-at
+use Rattle.trailed.proofs.count_trailed.Reads as count-trailed
+use Rattle.trailed.proofs.write_trailed.Reads as write-trailed
 use Rattle.list_text.proofs.write_list.Reads as write-list
 use Rattle.list_printing.proofs.print_list.Reads as print-list
 use Rattle.subjects.proofs.field_in.Reads as field-in
@@ -158,6 +169,7 @@ pub record Determined : Type 0 where
   -- cards
   pub are-attributes : OneAnswer are-attributes.Post
   -- reading
+  pub refuse-reading : OneAnswer refuse-reading.Post
   pub read-identity : OneAnswer read-identity.Post
   pub judge : OneAnswer judge.Post
   pub read-of : OneAnswer read-of.Post
@@ -194,6 +206,11 @@ pub record Determined : Type 0 where
   pub sha384-add : OneAnswer sha384-add.Post
   pub sha384-end : OneAnswer sha384-end.Post
   pub sha384-of : OneAnswer sha384-of.Post
+  -- sha1
+  pub sha1-begin : OneAnswer sha1-begin.Post
+  pub sha1-add : OneAnswer sha1-add.Post
+  pub sha1-end : OneAnswer sha1-end.Post
+  pub sha1-of : OneAnswer sha1-of.Post
   -- hmac
   pub hmac-begin : OneAnswer hmac-begin.Post
   pub hmac-end : OneAnswer hmac-end.Post
@@ -216,6 +233,14 @@ pub record Determined : Type 0 where
   pub line-at : OneAnswer line-at.Post
   pub count : OneAnswer count.Post
   pub step-from : OneAnswer step-from.Post
+  pub line-end : OneAnswer line-end.Post
+  pub last-line : OneAnswer last-line.Post
+  -- trailed
+  pub read-trailed : OneAnswer read-trailed.Post
+  pub trailed-at : OneAnswer trailed-at.Post
+  pub count-trailed : OneAnswer count-trailed.Post
+  pub write-trailed-said : OneAnswer write-trailed.Post
+  pub write-trailed-out : OneLeft write-trailed.Post (λ κs s. now (s .1 .0))
   -- list_text
   pub write-list-said : OneAnswer write-list.Post
   pub write-list-out : OneLeft write-list.Post (λ κs s. now (s .1 .0))

@@ -26,6 +26,10 @@ use Rattle.agreement.proofs.module_text.Reads as module-text
 use Rattle.agreement.proofs.centre_text.Reads as centre-text
 use Rattle.files.proofs.line_at.Reads as line-at
 use Rattle.files.proofs.step_from.Reads as step-from
+use Rattle.files.proofs.last_line.Reads as last-line
+use Rattle.trailed.proofs.read_trailed.Reads as read-trailed
+use Rattle.trailed.proofs.trailed_at.Reads as trailed-at
+use Rattle.trailed.proofs.write_trailed.Reads as write-trailed
 use Rattle.newer.proofs.newer_of.Reads as newer-of
 use Rattle.newer.proofs.newer.Reads as newer
 use Rattle.fingerprint.proofs.check_fingerprint.Reads as check-fingerprint
@@ -57,6 +61,10 @@ pub record FieldNumbers : Type 0 where
   pub centre-text : NamesField centre-text.Post (λ κs r s. r .no) (λ κs r s. r .field)
   pub line-at : NamesField line-at.Post (λ κs r s. numberOf r) (λ κs r s. fieldOf r)
   pub step-from : NamesField step-from.Post (λ κs r s. numberOf r) (λ κs r s. fieldOf r)
+  pub last-line : NamesField last-line.Post (λ κs r s. numberOf r) (λ κs r s. fieldOf r)
+  pub read-trailed : NamesField read-trailed.Post (λ κs r s. r .no) (λ κs r s. r .field)
+  pub trailed-at : NamesField trailed-at.Post (λ κs r s. numberOf r) (λ κs r s. fieldOf r)
+  pub write-trailed : NamesField write-trailed.Post (λ κs r s. r .no) (λ κs r s. r .field)
   pub newer-of : NamesField newer-of.Post (λ κs r s. r .no) (λ κs r s. r .field)
   pub newer : NamesField newer.Post (λ κs r s. now (s .1 .1 .0)) (λ κs r s. now (s .1 .1 .1 .0))
   pub check-fingerprint : NamesField check-fingerprint.Post (λ κs r s. r .no) (λ κs r s. r .field)

@@ -6,7 +6,7 @@ use Prim.Native.Char.{code}
 use mathlib.Core.Bool.{Bool, true, false}
 use mathlib.Core.List.{List, [], _∷_, _++_}
 use lib.ListN.{take, drop, replicate, set}
-use Rattle.numbers.specs.Numbers.{tooLong, unknownKind, missingCheck, wrongCheck, wrongCount, wrongText, wrongIdentity, unpaired, wrongKind, shortOutput, unfinished, missingItem, notAlike, wrongAttributes, wrongFingerprint, wrongZ, otherRequest, wrongTag}
+use Rattle.numbers.specs.Numbers.{tooLong, unknownKind, missingCheck, wrongCheck, wrongCount, wrongText, wrongIdentity, unpaired, wrongKind, shortOutput, unfinished, missingItem, notAlike, wrongAttributes, wrongFingerprint, wrongZ, otherRequest, wrongTag, missingTrailer, wrongHash}
 use Rattle.text.specs.Text.{Bytes, ascii, isIdent, isTimestamp, isHex, isPrintable, Ident, Timestamp, Point, Sig, Mac, Print, Protected, Hex, isOf}
 use Rattle.text.specs.Base16.{base16}
 use Rattle.sha384.specs.Sha384.{sha384}
@@ -30,6 +30,8 @@ use Rattle.fingerprint.specs.declared.Checked.{Checked}
 use Rattle.hmac.specs.Hmac.{hmac}
 use Rattle.confirm.specs.Confirm.{saysOf, confirmRequest, confirmResponse}
 use Rattle.confirm.specs.declared.Confirmed.{Confirmed}
+use Rattle.sha1.specs.Sha1.{sha1}
+use Rattle.trailed.specs.Trailed.{trailer, readTrailed, trailedAt, writeTrailed}
 use Rattle.promises.specs.Values.{Value, number, bytes, test, types, admitted}
 use Rattle.promises.specs.Worked.{manufacturerId, moduleIdFields, moduleId, centreId, manufacturerKeyFields, manufacturerKey, moduleKeyFields, moduleKey, centreKeyFields, centreKey, requestFields, request, responseFields, response, keyAttributes, keyFields, key, longAttributes}
 
@@ -150,8 +152,8 @@ said o = answer o ∷ place o ∷ []
 
 unfoldable pub numbers : List Value
 numbers =
-    bytes (tooLong ∷ unknownKind ∷ missingCheck ∷ wrongCheck ∷ wrongCount ∷ wrongText ∷ wrongIdentity ∷ unpaired ∷ wrongKind ∷ shortOutput ∷ unfinished ∷ missingItem ∷ notAlike ∷ wrongAttributes ∷ wrongFingerprint ∷ wrongZ ∷ otherRequest ∷ wrongTag ∷ [])
-    (1 ∷ 2 ∷ 3 ∷ 4 ∷ 5 ∷ 6 ∷ 7 ∷ 8 ∷ 9 ∷ 10 ∷ 11 ∷ 12 ∷ 13 ∷ 14 ∷ 15 ∷ 16 ∷ 17 ∷ 18 ∷ [])
+    bytes (tooLong ∷ unknownKind ∷ missingCheck ∷ wrongCheck ∷ wrongCount ∷ wrongText ∷ wrongIdentity ∷ unpaired ∷ wrongKind ∷ shortOutput ∷ unfinished ∷ missingItem ∷ notAlike ∷ wrongAttributes ∷ wrongFingerprint ∷ wrongZ ∷ otherRequest ∷ wrongTag ∷ missingTrailer ∷ wrongHash ∷ [])
+    (1 ∷ 2 ∷ 3 ∷ 4 ∷ 5 ∷ 6 ∷ 7 ∷ 8 ∷ 9 ∷ 10 ∷ 11 ∷ 12 ∷ 13 ∷ 14 ∷ 15 ∷ 16 ∷ 17 ∷ 18 ∷ 19 ∷ 20 ∷ [])
     ∷ bytes (said (readRecord (ascii "PK.ECDH.1"))) (2 ∷ 0 ∷ [])
     ∷ bytes (said (readRecord (ascii "PK.ECDH.1:x"))) (2 ∷ 0 ∷ [])
     ∷ bytes (said (readRecord moduleId)) (2 ∷ 0 ∷ [])
@@ -439,5 +441,47 @@ confirming =
     ∷ bytes (answer3 (confirmResponse otherZ (recordOf REQ requestFields) (recordOf RESP (set responseFields 2 leapDay)))) (17 ∷ 0 ∷ 0 ∷ [])
     ∷ []
 
+-- ---- document 02, E6: the published vectors of SHA-1, of one block, of one block and of two
+
+unfoldable pub shortHashes : List Value
+shortHashes =
+    bytes (base16 (sha1 [])) (ascii "DA39A3EE5E6B4B0D3255BFEF95601890AFD80709")
+    ∷ bytes (base16 (sha1 (ascii "abc"))) (ascii "A9993E364706816ABA3E25717850C26C9CD0D89D")
+    ∷ bytes (base16 (sha1 (ascii "abcdbcdecdefdefgefghfghighijhijkijkljklmklmnlmnomnopnopq"))) (ascii "84983E441C3BD26EBAAE4AA1F95129E5E54670F1")
+    ∷ []
+
+-- the trailer that 003 prints behind the signed record of the module
+unfoldable pub printed : List Value
+printed = bytes (trailer moduleKey) (ascii "#03DEF08D021CE970F7A87E2DD999FE7970B67B5F") ∷ []
+
+-- a trailer that is no record's here
+abbrev pub noHash : Bytes
+noHash = ascii "#" ++ replicate 40 (code "0")
+
+-- a line's numbers in their order, each with the later faults present: 19 for whatever has no '#' in its forty-first place from the end, or no HEX(40)
+-- after it; the record's own, of which 1 counts what stands before the '#'; 20
+unfoldable pub lines : List Value
+lines =
+    bytes (said (readTrailed [])) (19 ∷ 0 ∷ [])
+    ∷ bytes (said (readTrailed response)) (19 ∷ 0 ∷ [])
+    ∷ bytes (said (readTrailed (mistyped ++ ascii "%" ++ replicate 40 (code "0")))) (19 ∷ 0 ∷ [])
+    ∷ bytes (said (readTrailed (mistyped ++ ascii "#" ++ replicate 40 (code "a")))) (19 ∷ 0 ∷ [])
+    ∷ bytes (said (readTrailed (mistyped ++ ascii "#" ++ replicate 39 (code "0")))) (19 ∷ 0 ∷ [])
+    ∷ bytes (said (readTrailed (mistyped ++ noHash ++ ascii " "))) (19 ∷ 0 ∷ [])
+    ∷ bytes (said (readTrailed noHash)) (2 ∷ 0 ∷ [])
+    ∷ bytes (said (readTrailed (replicate 1024 (code "A") ++ noHash))) (2 ∷ 0 ∷ [])
+    ∷ bytes (said (readTrailed (replicate 1025 (code "A") ++ noHash))) (1 ∷ 0 ∷ [])
+    ∷ bytes (said (readTrailed (mistyped ++ noHash))) (4 ∷ 0 ∷ [])
+    ∷ bytes (said (readTrailed (recordOf RESP (set responseFields 2 april31) ++ noHash))) (6 ∷ 3 ∷ [])
+    ∷ bytes (said (readTrailed (response ++ noHash))) (20 ∷ 0 ∷ [])
+    -- 11 before all of them
+    ∷ number (numberOf (lineSaid (trailedAt response 0))) 11
+    ∷ number (numberOf (lineSaid (trailedAt (lineFeed ∷ []) 0))) 19
+    -- writing: the record's own, then 10
+    ∷ bytes (saidOf (writeTrailed mistyped 0)) (4 ∷ 0 ∷ [])
+    ∷ bytes (saidOf (writeTrailed response 259)) (10 ∷ 0 ∷ [])
+    ∷ bytes (saidOf (writeTrailed response 260)) (0 ∷ 0 ∷ [])
+    ∷ []
+
 unfoldable pub fixed : List Value
-fixed = rows ++ alphabets ++ limits ++ labels ++ checks ++ numbers ++ building ++ texts ++ others ++ lists ++ keys ++ longKeys ++ days ++ dates ++ hashes ++ agreeing ++ differing ++ fingerprints ++ tags ++ confirming
+fixed = rows ++ alphabets ++ limits ++ labels ++ checks ++ numbers ++ building ++ texts ++ others ++ lists ++ keys ++ longKeys ++ days ++ dates ++ hashes ++ agreeing ++ differing ++ fingerprints ++ tags ++ confirming ++ shortHashes ++ printed ++ lines

@@ -29,15 +29,23 @@ use Rattle.exports.proofs.walking.obscurlane_reader_new.Reads as reader-new
 use Rattle.exports.proofs.walking.obscurlane_reader_step.Reads as reader-step
 use Rattle.exports.proofs.walking.obscurlane_count.Reads as count
 use Rattle.exports.proofs.walking.obscurlane_newer.Reads as newer
-use Rattle.exports.proofs.hashing.obscurlane_sha384_begin.Reads as sha384-begin
-use Rattle.exports.proofs.hashing.obscurlane_sha384_add.Reads as sha384-add
-use Rattle.exports.proofs.hashing.obscurlane_sha384_end.Reads as sha384-end
-use Rattle.exports.proofs.hashing.obscurlane_sha384_of.Reads as sha384-of
-use Rattle.exports.proofs.hashing.obscurlane_check_fingerprint.Reads as check-fingerprint
-use Rattle.exports.proofs.hashing.obscurlane_write_fingerprint.Reads as write-fingerprint
+use Rattle.exports.proofs.hashes.obscurlane_sha384_begin.Reads as sha384-begin
+use Rattle.exports.proofs.hashes.obscurlane_sha384_add.Reads as sha384-add
+use Rattle.exports.proofs.hashes.obscurlane_sha384_end.Reads as sha384-end
+use Rattle.exports.proofs.hashes.obscurlane_sha384_of.Reads as sha384-of
+use Rattle.exports.proofs.hashes.obscurlane_check_fingerprint.Reads as check-fingerprint
+use Rattle.exports.proofs.hashes.obscurlane_write_fingerprint.Reads as write-fingerprint
 use Rattle.exports.proofs.confirming.obscurlane_hmac_of.Reads as hmac-of
 use Rattle.exports.proofs.confirming.obscurlane_confirm_request.Reads as confirm-request
 use Rattle.exports.proofs.confirming.obscurlane_confirm_response.Reads as confirm-response
+use Rattle.exports.proofs.trailing.obscurlane_sha1_begin.Reads as sha1-begin
+use Rattle.exports.proofs.trailing.obscurlane_sha1_add.Reads as sha1-add
+use Rattle.exports.proofs.trailing.obscurlane_sha1_end.Reads as sha1-end
+use Rattle.exports.proofs.trailing.obscurlane_sha1_of.Reads as sha1-of
+use Rattle.exports.proofs.trailing.obscurlane_read_trailed.Reads as read-trailed
+use Rattle.exports.proofs.trailing.obscurlane_trailed_at.Reads as trailed-at
+use Rattle.exports.proofs.trailing.obscurlane_count_trailed.Reads as count-trailed
+use Rattle.exports.proofs.trailing.obscurlane_write_trailed.Reads as write-trailed
 use lib.ListN.{length}
 use Rattle.crc16.specs.Crc.{begin, add, end, crcOf}
 use Rattle.text.specs.Text.{isIdent, isTimestamp, isHex, isPoint, isSig, isMac, isPrint}
@@ -57,6 +65,9 @@ use Rattle.sha384.specs.Sha384.{sha384}
 use Rattle.sha384.specs.State.{begun, added, ended}
 use Rattle.fingerprint.specs.Fingerprint.{checkFingerprint, writeFingerprint}
 use Rattle.hmac.specs.Hmac.{hmac}
+use Rattle.sha1.specs.Sha1.{sha1}
+use Rattle.sha1.specs.State as short
+use Rattle.trailed.specs.Trailed.{readTrailed, trailedAt, countTrailed, writeTrailed}
 use Rattle.confirm.specs.Confirm.{saysOf, macKeyOf, kekOf, confirmRequest, confirmResponse}
 use Rattle.exports.specs.Exports.{found}
 use Rattle.promises.specs.Calls.{Answers, Leaves}
@@ -119,3 +130,13 @@ pub record Interface : Type 0 where
   pub confirm-request-kek : Leaves confirm-request.Post (λ κs s. now (s .1 .1 .1 .0))
       (λ κs a. leaves (kekOf (confirmRequest (now (a .0)) (now (a .1 .0)) (length (now (a .1 .1 .0))) (length (now (a .1 .1 .1 .0))))) (now (a .1 .1 .1 .0)))
   pub confirm-response : Answers confirm-response.Post (λ κs a. confirmResponse (now (a .0)) (now (a .1 .0)) (now (a .1 .1 .0)))
+  -- SHA-1, and manufacturers' record files
+  pub sha1-begin : Answers sha1-begin.Post (λ κs a. short.begun)
+  pub sha1-add : Answers sha1-add.Post (λ κs a. short.added (a .0) (now (a .1 .0)))
+  pub sha1-end : Answers sha1-end.Post (λ κs a. record { bytes = short.ended (a .0) })
+  pub sha1-of : Answers sha1-of.Post (λ κs a. record { bytes = sha1 (now (a .0)) })
+  pub read-trailed : Answers read-trailed.Post (λ κs a. answerOf (readTrailed (now (a .0))))
+  pub trailed-at : Answers trailed-at.Post (λ κs a. found (lineSaid (trailedAt (now (a .0)) (a .1 .0))))
+  pub count-trailed : Answers count-trailed.Post (λ κs a. countTrailed (now (a .0)))
+  pub write-trailed-said : Answers write-trailed.Post (λ κs a. says (writeTrailed (now (a .0)) (length (now (a .1 .0)))))
+  pub write-trailed-out : Leaves write-trailed.Post (λ κs s. now (s .1 .0)) (λ κs a. leaves (writeTrailed (now (a .0)) (length (now (a .1 .0)))) (now (a .1 .0)))

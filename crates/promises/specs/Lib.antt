@@ -11,6 +11,7 @@ pub mod Attributes
 pub mod Building
 pub mod Agreement
 pub mod Files
+pub mod Trailed
 pub mod Listing
 pub mod Demand3
 pub mod Newer

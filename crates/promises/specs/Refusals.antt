@@ -29,6 +29,10 @@ use Rattle.agreement.proofs.module_text.Reads as module-text
 use Rattle.agreement.proofs.centre_text.Reads as centre-text
 use Rattle.files.proofs.line_at.Reads as line-at
 use Rattle.files.proofs.step_from.Reads as step-from
+use Rattle.files.proofs.last_line.Reads as last-line
+use Rattle.trailed.proofs.read_trailed.Reads as read-trailed
+use Rattle.trailed.proofs.trailed_at.Reads as trailed-at
+use Rattle.trailed.proofs.write_trailed.Reads as write-trailed
 use Rattle.list_text.proofs.write_list.Reads as write-list
 use Rattle.newer.proofs.newer_of.Reads as newer-of
 use Rattle.newer.proofs.newer.Reads as newer
@@ -91,6 +95,11 @@ pub record Refusals : Type 0 where
   -- files; a finished file has number 0
   pub line-at : GivesOnly line-at.Post (λ κs r s. numberOf r) (11 ∷ ofRecords)
   pub step-from : GivesOnly step-from.Post (λ κs r s. numberOf r) (11 ∷ ofRecords)
+  pub last-line : GivesOnly last-line.Post (λ κs r s. numberOf r) (0 ∷ 11 ∷ [])
+  -- manufacturers' files: no other call gives 19 or 20
+  pub read-trailed : GivesOnly read-trailed.Post (λ κs r s. r .no) (19 ∷ 20 ∷ ofRecords)
+  pub trailed-at : GivesOnly trailed-at.Post (λ κs r s. numberOf r) (11 ∷ 19 ∷ 20 ∷ ofRecords)
+  pub write-trailed : GivesOnly write-trailed.Post (λ κs r s. r .no) (10 ∷ ofRecords)
   pub write-list : GivesOnly write-list.Post (λ κs r s. r .no) (0 ∷ 10 ∷ [])
   -- the newer key
   pub newer-of : GivesOnly newer-of.Post (λ κs r s. r .no) (13 ∷ ofPubkeys)

@@ -44,6 +44,7 @@ use Rattle.places.proofs.places_of.Reads as places-of
 use Rattle.places.proofs.part_at.Reads as part-at
 use Rattle.places.proofs.field_at.Reads as field-at
 use Rattle.cards.proofs.are_attributes.Reads as are-attributes
+use Rattle.reading.proofs.refuse.Reads as refuse-reading
 use Rattle.reading.proofs.read_identity.Reads as read-identity
 use Rattle.reading.proofs.judge.Reads as judge
 use Rattle.reading.proofs.read_of.Reads as read-of
@@ -65,6 +66,10 @@ use Rattle.sha384.proofs.Sha384.begin.Reads as sha384-begin
 use Rattle.sha384.proofs.Sha384.add.Reads as sha384-add
 use Rattle.sha384.proofs.Sha384.end.Reads as sha384-end
 use Rattle.sha384.proofs.sha384_of.Reads as sha384-of
+use Rattle.sha1.proofs.Sha1.begin.Reads as sha1-begin
+use Rattle.sha1.proofs.Sha1.add.Reads as sha1-add
+use Rattle.sha1.proofs.Sha1.end.Reads as sha1-end
+use Rattle.sha1.proofs.sha1_of.Reads as sha1-of
 use Rattle.hmac.proofs.begin.Reads as hmac-begin
 use Rattle.hmac.proofs.end.Reads as hmac-end
 use Rattle.hmac.proofs.hmac_of.Reads as hmac-of
@@ -77,6 +82,12 @@ use Rattle.agreement.proofs.centre_text.Reads as centre-text
 use Rattle.files.proofs.line_at.Reads as line-at
 use Rattle.files.proofs.count.Reads as count
 use Rattle.files.proofs.step_from.Reads as step-from
+use Rattle.files.proofs.line_end.Reads as line-end
+use Rattle.files.proofs.last_line.Reads as last-line
+use Rattle.trailed.proofs.read_trailed.Reads as read-trailed
+use Rattle.trailed.proofs.trailed_at.Reads as trailed-at
+use Rattle.trailed.proofs.count_trailed.Reads as count-trailed
+use Rattle.trailed.proofs.write_trailed.Reads as write-trailed
 use Rattle.list_text.proofs.write_list.Reads as write-list
 use Rattle.list_printing.proofs.print_list.Reads as print-list
 use Rattle.subjects.proofs.field_in.Reads as field-in
@@ -114,15 +125,23 @@ use Rattle.exports.proofs.walking.obscurlane_reader_new.Reads as c-reader-new
 use Rattle.exports.proofs.walking.obscurlane_reader_step.Reads as c-reader-step
 use Rattle.exports.proofs.walking.obscurlane_count.Reads as c-count
 use Rattle.exports.proofs.walking.obscurlane_newer.Reads as c-newer
-use Rattle.exports.proofs.hashing.obscurlane_sha384_begin.Reads as c-sha384-begin
-use Rattle.exports.proofs.hashing.obscurlane_sha384_add.Reads as c-sha384-add
-use Rattle.exports.proofs.hashing.obscurlane_sha384_end.Reads as c-sha384-end
-use Rattle.exports.proofs.hashing.obscurlane_sha384_of.Reads as c-sha384-of
-use Rattle.exports.proofs.hashing.obscurlane_check_fingerprint.Reads as c-check-fingerprint
-use Rattle.exports.proofs.hashing.obscurlane_write_fingerprint.Reads as c-write-fingerprint
+use Rattle.exports.proofs.hashes.obscurlane_sha384_begin.Reads as c-sha384-begin
+use Rattle.exports.proofs.hashes.obscurlane_sha384_add.Reads as c-sha384-add
+use Rattle.exports.proofs.hashes.obscurlane_sha384_end.Reads as c-sha384-end
+use Rattle.exports.proofs.hashes.obscurlane_sha384_of.Reads as c-sha384-of
+use Rattle.exports.proofs.hashes.obscurlane_check_fingerprint.Reads as c-check-fingerprint
+use Rattle.exports.proofs.hashes.obscurlane_write_fingerprint.Reads as c-write-fingerprint
 use Rattle.exports.proofs.confirming.obscurlane_hmac_of.Reads as c-hmac-of
 use Rattle.exports.proofs.confirming.obscurlane_confirm_request.Reads as c-confirm-request
 use Rattle.exports.proofs.confirming.obscurlane_confirm_response.Reads as c-confirm-response
+use Rattle.exports.proofs.trailing.obscurlane_sha1_begin.Reads as c-sha1-begin
+use Rattle.exports.proofs.trailing.obscurlane_sha1_add.Reads as c-sha1-add
+use Rattle.exports.proofs.trailing.obscurlane_sha1_end.Reads as c-sha1-end
+use Rattle.exports.proofs.trailing.obscurlane_sha1_of.Reads as c-sha1-of
+use Rattle.exports.proofs.trailing.obscurlane_read_trailed.Reads as c-read-trailed
+use Rattle.exports.proofs.trailing.obscurlane_trailed_at.Reads as c-trailed-at
+use Rattle.exports.proofs.trailing.obscurlane_count_trailed.Reads as c-count-trailed
+use Rattle.exports.proofs.trailing.obscurlane_write_trailed.Reads as c-write-trailed
 
 -- the call whose `requires` is P takes any arguments a, whatever the lifetimes κs
 abbrev pub Takes : {K : Type 0} {A : K → Type 0} → ((κs : K) → A κs → Type 0) → Type 0
@@ -178,6 +197,7 @@ pub record Total : Type 0 where
   -- cards
   pub are-attributes : Takes are-attributes.Pre
   -- reading
+  pub refuse-reading : Takes refuse-reading.Pre
   pub read-identity : Takes read-identity.Pre
   pub judge : Takes judge.Pre
   pub read-of : Takes read-of.Pre
@@ -202,6 +222,11 @@ pub record Total : Type 0 where
   pub sha384-add : Takes sha384-add.Pre
   pub sha384-end : Takes sha384-end.Pre
   pub sha384-of : Takes sha384-of.Pre
+  -- sha1
+  pub sha1-begin : Takes sha1-begin.Pre
+  pub sha1-add : Takes sha1-add.Pre
+  pub sha1-end : Takes sha1-end.Pre
+  pub sha1-of : Takes sha1-of.Pre
   -- hmac
   pub hmac-begin : Takes hmac-begin.Pre
   pub hmac-end : Takes hmac-end.Pre
@@ -219,6 +244,13 @@ pub record Total : Type 0 where
   pub line-at : Takes line-at.Pre
   pub count : Takes count.Pre
   pub step-from : Takes step-from.Pre
+  pub line-end : Takes line-end.Pre
+  pub last-line : Takes last-line.Pre
+  -- trailed
+  pub read-trailed : Takes read-trailed.Pre
+  pub trailed-at : Takes trailed-at.Pre
+  pub count-trailed : Takes count-trailed.Pre
+  pub write-trailed : Takes write-trailed.Pre
   -- list_text
   pub write-list : Takes write-list.Pre
   -- list_printing
@@ -272,3 +304,11 @@ pub record Total : Type 0 where
   pub c-hmac-of : Takes c-hmac-of.Pre
   pub c-confirm-request : Takes c-confirm-request.Pre
   pub c-confirm-response : Takes c-confirm-response.Pre
+  pub c-sha1-begin : Takes c-sha1-begin.Pre
+  pub c-sha1-add : Takes c-sha1-add.Pre
+  pub c-sha1-end : Takes c-sha1-end.Pre
+  pub c-sha1-of : Takes c-sha1-of.Pre
+  pub c-read-trailed : Takes c-read-trailed.Pre
+  pub c-trailed-at : Takes c-trailed-at.Pre
+  pub c-count-trailed : Takes c-count-trailed.Pre
+  pub c-write-trailed : Takes c-write-trailed.Pre

@@ -13,7 +13,7 @@ use Rattle.format.specs.Kinds.{Kind, ECDSA, ECDH, REQ, name, identityKinds, rec
 use Rattle.format.specs.Build.{recordOf, Permitted, Built}
 use Rattle.format.specs.Read.{accepted, readIdentity, readRecord}
 use Rattle.format.specs.Attributes.{cardsIn}
-use Rattle.format.specs.Damage.{Damaged}
+use Rattle.format.specs.Damage.{DamagedOver, Damaged}
 use Rattle.places.specs.Places.{lengths}
 use Rattle.building.specs.Building.{run, Builds}
 use Rattle.files.specs.declared.Line.{Line}
@@ -23,9 +23,12 @@ use Rattle.files.specs.Steps.{Steps}
 use Rattle.newer.specs.Keys.{Agreed}
 use Rattle.newer.specs.Newer.{theFirst, theSecond, newer}
 use Rattle.promises.specs.Attributes.{Wrapped}
+use Rattle.trailed.specs.Trailed.{readTrailed}
+use Rattle.promises.specs.Files.{PlainSays}
+use Rattle.promises.specs.Trailed.{TrailedSays}
 use Rattle.promises.specs.Demand3.{Called}
 use Rattle.promises.specs.Rebuilding.{Asked, IdentityField, RecordField}
-use Rattle.promises.specs.Worked.{fieldsOfWorked, unsignedKeyFields, centreKeyFields, centreKey, laterKey, requestFields, request, keyAttributes, keyFields, key, soundFile, damagedFile}
+use Rattle.promises.specs.Worked.{fieldsOfWorked, unsignedKeyFields, centreKeyFields, centreKey, laterKey, requestFields, request, keyAttributes, keyFields, key, soundFile, damagedFile, trailedFile, damagedTrailedFile}
 
 pub record Witnesses : Type 0 where
   -- every text type has a text
@@ -50,11 +53,16 @@ pub record Witnesses : Type 0 where
   pub second-newer : newer centreKey laterKey ≡ theSecond
   pub first-newer : newer laterKey centreKey ≡ theFirst
   pub first-when-equal : newer centreKey centreKey ≡ theFirst
-  -- the file call can be called, and a reader stepped, as often as one likes
-  pub called : (lent : RefT Bytes) (n place : ℕ) → (ls : List Line) × Called lent place ls × (length ls ≡ n)
+  -- the file calls can be called, and a reader stepped, as often as one likes
+  pub called : (lent : RefT Bytes) (n place : ℕ) → (ls : List Line) × Called PlainSays lent place ls × (length ls ≡ n)
+  pub called-trailed : (lent : RefT Bytes) (n place : ℕ) → (ls : List Line) × Called TrailedSays lent place ls × (length ls ≡ n)
   pub stepped : (n : ℕ) (before : Reader) → (said : List Line) × ((after : Reader) × Steps before said after × (length said ≡ n))
   -- demand 3: a file that is damaged as it says, and what the file call answers of its first two lines before and after: the first as it was,
   -- and the second, which differs, refused
   pub damaged : Damaged soundFile damagedFile
-  pub caught : (f g : RefT Bytes) → now f ≡ soundFile → now g ≡ damagedFile → (l l′ m m′ : Line) → Called f 0 (l ∷ l′ ∷ []) → Called g 0 (m ∷ m′ ∷ [])
+  pub caught : (f g : RefT Bytes) → now f ≡ soundFile → now g ≡ damagedFile → (l l′ m m′ : Line) → Called PlainSays f 0 (l ∷ l′ ∷ []) → Called PlainSays g 0 (m ∷ m′ ∷ [])
       → (numberOf l ≡ 0) × (numberOf l′ ≡ 0) × (l ≡ m) × (numberOf m′ ≢ 0)
+  -- the same of a manufacturer's file, across the end of the record
+  pub damaged-trailed : DamagedOver readTrailed trailedFile damagedTrailedFile
+  pub caught-trailed : (f g : RefT Bytes) → now f ≡ trailedFile → now g ≡ damagedTrailedFile → (l m : Line) → Called TrailedSays f 0 (l ∷ []) → Called TrailedSays g 0 (m ∷ [])
+      → (numberOf l ≡ 0) × (numberOf m ≢ 0)
