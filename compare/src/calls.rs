@@ -2,9 +2,10 @@
 
 use crate::cases::{Answer, Case};
 use compare::crc::crc16;
+use compare::sha1::sha1;
 use compare::sha384::sha384;
 use compare::{
-    agreement, attributes, build, confirm, file, fingerprint, hmac, newer, record, text,
+    agreement, attributes, build, confirm, file, fingerprint, hmac, newer, record, text, trailed,
 };
 
 /// One call of the library.
@@ -59,10 +60,7 @@ calls! {
     Line "line_at" |case| case.line(file::line_at(&case.a, case.n));
     StepFrom "step_from" |case| case.line(file::line_at(&case.a, case.n));
     Reader "Reader::new,step" |case| case.line(file::line_at(&case.a, 0));
-    Count "count" |case| {
-        let (lines, accepted) = file::count(&case.a);
-        case.values(&[lines as u64, accepted as u64])
-    };
+    Count "count" |case| case.totals(file::count(&case.a));
     SharedInfo "shared_info" |case| {
         case.output(|output| agreement::shared_info(&case.a, output))
     };
@@ -95,6 +93,14 @@ calls! {
     };
     ConfirmResponse "confirm_response" |case| {
         case.confirmed(confirm::response(&case.a, &case.b, &case.c))
+    };
+    Sha1 "sha1_of" |case| case.values(&sha1(&case.a).map(u64::from));
+    Sha1State "Sha1::begin,add,end" |case| case.values(&sha1(&case.a).map(u64::from));
+    Trailed "read_trailed" |case| case.read(trailed::read(&case.a));
+    TrailedLine "trailed_at" |case| case.line(trailed::line_at(&case.a, case.n));
+    CountTrailed "count_trailed" |case| case.totals(trailed::count(&case.a));
+    WriteTrailed "write_trailed " |case| {
+        case.built(|output| trailed::write(&case.a, output))
     };
 }
 

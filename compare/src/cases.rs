@@ -121,6 +121,11 @@ impl Case {
         self.values(&[flag.into()])
     }
 
+    /// The answer of a call that counts: lines, and accepted lines.
+    pub fn totals(&self, (lines, accepted): (usize, usize)) -> Answer {
+        self.values(&[lines as u64, accepted as u64])
+    }
+
     /// A number, the field's number, and what comes with them.
     fn outcome<T>(&self, text: &[u8], answer: Result<T, Refusal>, more: &[u64]) -> Answer {
         let (number, field) =
@@ -272,6 +277,7 @@ pub fn lent_before() -> [u8; 1024] {
 #[cfg(test)]
 mod tests {
     use super::*;
+    use compare::sha1::sha1;
     use compare::sha384::sha384;
     use compare::text::{base16_decode, check_text};
     use compare::worked::worked;
@@ -296,6 +302,12 @@ mod tests {
         assert_eq!(Op::Hmac.number(), 36);
         assert_eq!(Op::ConfirmRequest.number(), 37);
         assert_eq!(Op::ConfirmResponse.number(), 38);
+        assert_eq!(Op::Sha1.number(), 39);
+        assert_eq!(Op::Sha1State.number(), 40);
+        assert_eq!(Op::Trailed.number(), 41);
+        assert_eq!(Op::TrailedLine.number(), 42);
+        assert_eq!(Op::CountTrailed.number(), 43);
+        assert_eq!(Op::WriteTrailed.number(), 44);
     }
 
     #[test]
@@ -344,6 +356,18 @@ mod tests {
         for n in 0..5 {
             let by_state = line(Op::Sha384State, n, [b"abc", no, no]);
             assert_eq!(by_state, format!("Sha384::begin,add,end{hash}"));
+        }
+    }
+
+    #[test]
+    fn a_shorter_hash_has_fewer_numbers() {
+        let no: &[u8] = &[];
+        let hash: String = sha1(b"abc").iter().map(|byte| format!(" {byte}")).collect();
+        assert!(hash.starts_with(" 169 153 62 54 ") && hash.ends_with(" 216 157"));
+        assert_eq!(line(Op::Sha1, 0, [b"abc", no, no]), format!("sha1_of{hash}"));
+        for n in 0..5 {
+            let by_state = line(Op::Sha1State, n, [b"abc", no, no]);
+            assert_eq!(by_state, format!("Sha1::begin,add,end{hash}"));
         }
     }
 
@@ -414,6 +438,39 @@ mod tests {
         let expected =
             format!("read_record 0 0 4 {starts} {} 194 16 0 0 0 0 {kinds}", identity.len());
         assert_eq!(line(Op::Record, 0, [&key, no, no]), expected);
+    }
+
+    /// Each answer has the form of the one for a line without a trailer.
+    #[test]
+    fn a_line_with_its_trailer_is_read_like_its_record() {
+        let no: &[u8] = &[];
+        let (record, trailed) = (worked("PUBKEY_SM"), worked("PUBKEY_SM_FILELINE"));
+        let read = line(Op::Record, 0, [&record, no, no]).replace("read_record", "read_trailed");
+        assert!(read.starts_with("read_trailed 0 0 4 10 "));
+        assert_eq!(line(Op::Trailed, 0, [&trailed, no, no]), read);
+        let nothing = format!("{}{}", " 0".repeat(14), " 255".repeat(7));
+        let refused = line(Op::Trailed, 0, [&record, no, no]);
+        assert_eq!(refused, format!("read_trailed 19 0 255{nothing}"));
+
+        let file = [&trailed[..], b"\n", &record, b"\n"].concat();
+        let at = |place| line(Op::TrailedLine, place, [&file, no, no]);
+        assert_eq!(at(0), "trailed_at 0 0 4 0 576 577");
+        assert_eq!(at(577), "trailed_at 19 0 255 577 535 1113");
+        assert_eq!(at(1113), "trailed_at 1113");
+        assert_eq!(line(Op::CountTrailed, 0, [&file, no, no]), "count_trailed 2 1");
+    }
+
+    #[test]
+    fn a_line_that_was_written_stands_before_its_numbers() {
+        let no: &[u8] = &[];
+        let (record, trailed) = (worked("PUBKEY_SM"), worked("PUBKEY_SM_FILELINE"));
+        let text = String::from_utf8(trailed.clone()).unwrap();
+        let whole = [&trailed[..], &lent_before()[576..578]].concat();
+        let written = format!("write_trailed {text} 0 0 576 {}", crc16(&whole));
+        assert_eq!(line(Op::WriteTrailed, 578, [&record, no, no]), written);
+        let short = format!("write_trailed  10 0 0 {}", crc16(&lent_before()[..575]));
+        assert_eq!(line(Op::WriteTrailed, 575, [&record, no, no]), short);
+        assert_eq!(line(Op::WriteTrailed, 0, [&trailed, no, no]), "write_trailed  3 0 0 65535");
     }
 
     #[test]

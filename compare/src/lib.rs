@@ -3,9 +3,9 @@
 //! It covers identities, public keys, load requests, load responses and wrapped keys: reading,
 //! checking and building them, the attributes of a wrapped key, the three key agreement texts of a
 //! load request, the walk over a file of records and its list, the choice of the newer of two public
-//! keys, SHA-384, the Fingerprint of a public key, HMAC-SHA-384-192, and the keys and confirmation
-//! tags of a load request and its response. What it takes inside is its own: only the library's calls
-//! for users and its lister are answered.
+//! keys, SHA-384, the Fingerprint of a public key, HMAC-SHA-384-192, the keys and confirmation tags
+//! of a load request and its response, SHA-1, and manufacturers' record files. What it takes inside is
+//! its own: only the library's calls for users and its lister are answered.
 //!
 //! It shares no line with the library that it is held against, and it is written for plain
 //! reading rather than for proof: slices, iterators, `Result`. Two implementations that come from
@@ -28,11 +28,14 @@
 //! | [`fingerprint`] | fingerprints of public keys |
 //! | [`hmac`] | HMAC-SHA-384-192 |
 //! | [`confirm`] | MacKey, KEK and confirmation tags |
+//! | [`sha1`] | SHA-1 |
+//! | [`trailed`] | manufacturers' record files, whose lines have a trailer |
 //! | [`random`] | the numbers that inputs are drawn by |
 //! | [`sample`] | inputs: permitted records, faults, damage |
 //! | [`worked`] | the worked values of the documents |
 
 mod frame;
+mod padding;
 
 pub mod agreement;
 pub mod attributes;
@@ -49,6 +52,8 @@ pub mod random;
 pub mod record;
 pub mod refusal;
 pub mod sample;
+pub mod sha1;
 pub mod sha384;
 pub mod text;
+pub mod trailed;
 pub mod worked;

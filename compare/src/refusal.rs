@@ -39,6 +39,10 @@ pub enum Refusal {
     OtherRequest,
     /// 18: the tag differs.
     TagDiffers,
+    /// 19: no trailer stands at the end of the line.
+    NoTrailer,
+    /// 20: the SHA-1 in the trailer is not that of the record.
+    HashDiffers,
 }
 
 impl Refusal {
@@ -63,6 +67,8 @@ impl Refusal {
             Refusal::WrongZ => 16,
             Refusal::OtherRequest => 17,
             Refusal::TagDiffers => 18,
+            Refusal::NoTrailer => 19,
+            Refusal::HashDiffers => 20,
         }
     }
 

@@ -3,14 +3,13 @@
 //! Its constants are computed by their definition, from the roots of primes, and not written down: a
 //! slip in a table is one that another copy of the table may share.
 
+use crate::padding::padded;
 use std::sync::LazyLock;
 
 /// The bytes of a hash.
 pub const HASH_LENGTH: usize = 48;
 /// The bytes of a block.
 pub const BLOCK_LENGTH: usize = 128;
-/// The bytes at the end of the last block that say how many bits the message has.
-const COUNT_LENGTH: usize = 16;
 /// The words of a message schedule, one for each round.
 const ROUNDS: usize = 80;
 
@@ -27,20 +26,9 @@ static ROUND_WORDS: LazyLock<[u64; ROUNDS]> =
 
 /// The SHA-384 of a message.
 pub fn sha384(message: &[u8]) -> [u8; HASH_LENGTH] {
-    let state = padded(message).chunks(BLOCK_LENGTH).fold(*START, with_block);
+    let state = padded(message, BLOCK_LENGTH).chunks(BLOCK_LENGTH).fold(*START, with_block);
     let bytes: Vec<u8> = state.into_iter().flat_map(u64::to_be_bytes).collect();
     *bytes.first_chunk().expect("more bytes than are kept")
-}
-
-/// The message, a bit 1, bits 0, and the number of its bits: whole blocks, as few as can be.
-fn padded(message: &[u8]) -> Vec<u8> {
-    let mut padded = [message, &[0x80]].concat();
-    while padded.len() % BLOCK_LENGTH != BLOCK_LENGTH - COUNT_LENGTH {
-        padded.push(0);
-    }
-    let bits = 8 * message.len() as u128;
-    padded.extend(bits.to_be_bytes());
-    padded
 }
 
 /// The state with one block more.
@@ -178,12 +166,5 @@ mod tests {
         assert_eq!((START[0], START[7]), (0xCBBB_9D5D_C105_9ED8, 0x47B5_481D_BEFA_4FA4));
         let [first, .., last] = *ROUND_WORDS;
         assert_eq!((first, last), (0x428A_2F98_D728_AE22, 0x6C44_198C_4A47_5817));
-    }
-
-    #[test]
-    fn a_block_has_room_for_111_bytes_and_what_ends_the_message() {
-        for (length, blocks) in [(0, 1), (111, 1), (112, 2), (128, 2), (239, 2), (240, 3)] {
-            assert_eq!(padded(&vec![0; length]).len(), blocks * BLOCK_LENGTH, "{length}");
-        }
     }
 }

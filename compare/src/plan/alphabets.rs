@@ -31,15 +31,20 @@ pub fn add(plan: &mut Plan) {
     wrapped_key(plan);
 }
 
+/// The longest text that `crates/cases` puts together around a byte.
+const LONGEST_TEXT: usize = 1024;
+
 impl Plan {
     /// A call for every byte value in one place of a text.
     pub(super) fn every_byte(&mut self, op: Op, n: u64, text: &[u8], place: usize) {
+        assert!(text.len() <= LONGEST_TEXT, "a text of {} bytes", text.len());
         let (a, b) = (text[..place].to_vec(), text[place + 1..].to_vec());
         self.cases.push(Case { op, form: Form::EveryByte, n, a, b, c: Vec::new() });
     }
 
     /// The same in a record before its check, which is made right again for each.
     pub(super) fn every_byte_checked(&mut self, op: Op, n: u64, record: &[u8], place: usize) {
+        assert!(record.len() <= LONGEST_TEXT, "a record of {} bytes", record.len());
         let mut body = record[..record.len() - 4].to_vec();
         let (a, b) = (body[..place].to_vec(), body[place + 1..].to_vec());
         let mut c = Vec::new();

@@ -14,7 +14,7 @@ const PIECES: [u64; 17] = [1, 2, 7, 16, 63, 64, 65, 111, 112, 113, 127, 128, 129
 
 pub fn add(plan: &mut Plan) {
     published(plan);
-    let text = every_value(plan);
+    let text = every_value(plan, LONGEST);
     lengths(plan, &text);
     pieces(plan, &text);
     alike(plan);
@@ -29,14 +29,14 @@ fn published(plan: &mut Plan) {
     }
 }
 
-/// Bytes of every value in any order, and more of them up to the longest length.
-fn every_value(plan: &mut Plan) -> Vec<u8> {
+/// Bytes of every value in any order, and more of them up to this length.
+pub(super) fn every_value(plan: &mut Plan, length: usize) -> Vec<u8> {
     let mut left: Vec<u8> = (0..=255).collect();
     let mut text = Vec::new();
     while !left.is_empty() {
         text.push(left.swap_remove(plan.random.below(left.len())));
     }
-    let more = plan.random.bytes(LONGEST - text.len());
+    let more = plan.random.bytes(length - text.len());
     text.extend(more);
     text
 }

@@ -17,6 +17,9 @@ mod long;
 mod newer;
 mod places;
 mod reading;
+mod sha1;
+mod trailed_files;
+mod trailers;
 mod types;
 mod walks;
 mod wrapped;
@@ -54,6 +57,9 @@ pub fn all() -> Vec<Case> {
         fingerprints::add,
         hmacs::add,
         confirmations::add,
+        sha1::add,
+        trailers::add,
+        trailed_files::add,
     ];
     let mut plan = Plan { cases: Vec::new(), random: Random::with_seed(0) };
     for (seed, add) in (1..).zip(groups) {

@@ -10,6 +10,7 @@ mod input;
 mod list_fault;
 mod public_key;
 mod subject;
+mod trailed;
 
 pub use cards::{printable, wrapped_key, wrapped_key_fields, Cards};
 pub use damage::{damaged, damaged_anywhere, Place};
@@ -19,6 +20,7 @@ pub use input::{anything, file, line};
 pub use list_fault::{faulty_list, ListFault};
 pub use public_key::PublicKey;
 pub use subject::Subject;
+pub use trailed::{trailed_file, trailed_line, with_other_trailer};
 
 use crate::crc::crc16;
 use crate::frame::body_of;

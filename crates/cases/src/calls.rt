@@ -106,6 +106,11 @@ fn print_line(line: files::Line) {
     }
 }
 
+fn print_totals(totals: files::Totals) {
+    say::number(totals.lines);
+    say::number(totals.accepted);
+}
+
 pub(crate) fn run<'a>(op: usize, n: usize, a: &'a [u8], b: &'a [u8]) {
     match op {
         1..=7 => say::number(test(op, n, a) as usize),
@@ -128,19 +133,20 @@ pub(crate) fn run<'a>(op: usize, n: usize, a: &'a [u8], b: &'a [u8]) {
         20 => print_line(files::line_at(a, n)),
         21 => print_line(files::step_from(a, n)),
         22 => print_line(first_line(a)),
-        23 => {
-            let totals = files::count(a);
-            say::number(totals.lines);
-            say::number(totals.accepted);
-        }
+        23 => print_totals(files::count(a)),
         28 => print_attribute(op, n, a, b),
         29 => print_place(fields::attribute_place(a, n)),
         30 => print_attribute(op, n, a, b),
         31 => print_place(fields::attribute_named_place(a, b)),
-        32 => hashes::print_hash(a),
-        33 => hashes::print_by_state(n, a),
+        32 => hashes::print_sha384(a),
+        33 => hashes::print_sha384_by_state(n, a),
         34 => hashes::print_check(a),
         36 => confirmations::print_hmac(a, b),
+        39 => hashes::print_sha1(a),
+        40 => hashes::print_sha1_by_state(n, a),
+        41 => print_answer(trailed::read_trailed(a)),
+        42 => print_line(trailed::trailed_at(a, n)),
+        43 => print_totals(trailed::count_trailed(a)),
         _ => {}
     }
 }

@@ -1,4 +1,4 @@
-// SHA-384 and the Fingerprint of a public key.
+// SHA-384, SHA-1 and the Fingerprint of a public key.
 use crate::say;
 ghost use Prim.Native.Nat.{_<_};
 
@@ -27,27 +27,56 @@ fn piece_size(n: usize) -> usize
     WHOLE
 }
 
-// By a state that is given a in pieces, the last of what is left.
-fn hash_by_state(n: usize, a: &[u8]) -> [u8; 48] {
+// The state of each hash, both given the same bytes.
+struct Given {
+    sha384: sha384::Sha384,
+    sha1: sha1::Sha1,
+}
+
+fn begin() -> Given {
+    let sha384 = sha384::Sha384::begin();
+    let sha1 = sha1::Sha1::begin();
+    Given { sha384, sha1 }
+}
+
+fn add(given: Given, piece: &[u8]) -> Given {
+    let sha384 = given.sha384.add(piece);
+    let sha1 = given.sha1.add(piece);
+    Given { sha384, sha1 }
+}
+
+// With a in pieces, the last of what is left.
+fn give(n: usize, a: &[u8]) -> Given {
     let size = piece_size(n);
-    let mut state = sha384::Sha384::begin();
+    let mut given = begin();
     let mut at: usize = 0;
     while size < a.len() - at {
         let end = at + size;
-        state = state.add(&a[at..end]);
+        given = add(given, &a[at..end]);
         at = end;
     }
-    let given = state.add(&a[at..]);
-    given.end()
+    add(given, &a[at..])
 }
 
-pub(crate) fn print_hash(a: &[u8]) {
+pub(crate) fn print_sha384(a: &[u8]) {
     let digest = sha384::sha384_of(a);
     print_bytes(&digest);
 }
 
-pub(crate) fn print_by_state(n: usize, a: &[u8]) {
-    let digest = hash_by_state(n, a);
+pub(crate) fn print_sha384_by_state(n: usize, a: &[u8]) {
+    let state = give(n, a).sha384;
+    let digest = state.end();
+    print_bytes(&digest);
+}
+
+pub(crate) fn print_sha1(a: &[u8]) {
+    let digest = sha1::sha1_of(a);
+    print_bytes(&digest);
+}
+
+pub(crate) fn print_sha1_by_state(n: usize, a: &[u8]) {
+    let state = give(n, a).sha1;
+    let digest = state.end();
     print_bytes(&digest);
 }
 

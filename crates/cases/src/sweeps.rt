@@ -3,31 +3,36 @@ use crate::calls;
 use crate::input;
 use crate::say;
 
+fn pair(no: u8, field: u8) -> usize {
+    (no as usize) * 100 + (field as usize)
+}
+
+fn pair_of(read: reading::Answer) -> usize {
+    pair(read.no, read.field)
+}
+
+fn pair_of_totals(totals: files::Totals) -> usize {
+    totals.lines % 100 * 100 + totals.accepted % 100
+}
+
 // The answer in one number: its only one, or 100 times the first and the second.
 fn answer(op: usize, n: usize, a: &[u8]) -> usize {
     match op {
         8 => crc16::crc_of(a) as usize,
-        10 => {
-            let read = reading::read_identity(a);
-            (read.no as usize) * 100 + (read.field as usize)
-        }
-        11 => {
-            let read = reading::read_record(a);
-            (read.no as usize) * 100 + (read.field as usize)
-        }
-        18 => (items::item_place(a, n).no as usize) * 100,
-        23 => {
-            let totals = files::count(a);
-            totals.lines % 100 * 100 + totals.accepted % 100
-        }
+        10 => pair_of(reading::read_identity(a)),
+        11 => pair_of(reading::read_record(a)),
+        18 => pair(items::item_place(a, n).no, 0),
+        23 => pair_of_totals(files::count(a)),
         29 => {
             let at = fields::attribute_place(a, n);
-            (at.no as usize) * 100 + (at.field as usize)
+            pair(at.no, at.field)
         }
         34 => {
             let said = fingerprint::check_fingerprint(a);
-            (said.no as usize) * 100 + (said.field as usize)
+            pair(said.no, said.field)
         }
+        41 => pair_of(trailed::read_trailed(a)),
+        43 => pair_of_totals(trailed::count_trailed(a)),
         _ => calls::test(op, n, a) as usize,
     }
 }

@@ -22,6 +22,9 @@ centre-text-requires c κs = search needs
 write-fingerprint-requires : tie.Need-write-fingerprint-requires
 write-fingerprint-requires c κs = search needs
 
+write-trailed-requires : tie.Need-write-trailed-requires
+write-trailed-requires c κs = search needs
+
 array-share-prefix-lens : tie.Need-array-share-prefix-lens
 array-share-prefix-lens c = search needs
 
@@ -61,6 +64,12 @@ same-length-5 c = search needs
 returns-5 : tie.Need-returns-5
 returns-5 c = search needs
 
+same-length-6 : tie.Need-same-length-6
+same-length-6 c = search needs
+
+returns-6 : tie.Need-returns-6
+returns-6 c = search needs
+
 pub write-to-spec : {M : Type 1} → statement M
 write-to-spec =
     tie.close
@@ -70,6 +79,7 @@ write-to-spec =
     module-text-requires
     centre-text-requires
     write-fingerprint-requires
+    write-trailed-requires
     array-share-prefix-lens
     slice-aggregate-build
     build-requires
@@ -82,4 +92,6 @@ write-to-spec =
     same-length-4
     returns-4
     same-length-5
-    returns-5)
+    returns-5
+    same-length-6
+    returns-6)

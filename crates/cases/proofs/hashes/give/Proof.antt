@@ -1,16 +1,16 @@
--- `cases::hashes::hash_by_state` ends: no piece is empty before the last.
+-- `cases::hashes::give` ends: no piece is empty before the last.
 -- Assumes nothing.
 use Prim.Native.Nat.{_-_, _≤_, _<_}
 use lib.ListN.{length}
 use borrow.Author.Needs.{needs}
-use Rattle.cases.proofs.hashes.hash_by_state.Statement.{statement}
-use Rattle.cases.proofs.hashes.hash_by_state.Tie as tie
+use Rattle.cases.proofs.hashes.give.Statement.{statement}
+use Rattle.cases.proofs.hashes.give.Tie as tie
 
 abbrev Inv-loop : tie.InvT-loop
-Inv-loop n a size state₀ at₀ state at = (at ≤ length a) × (0 < size)
+Inv-loop n a size given₀ at₀ given at = (at ≤ length a) × (0 < size)
 
 abbrev μ-loop : tie.MeasureT-loop
-μ-loop n a size state₀ at₀ state at = length a - at
+μ-loop n a size given₀ at₀ given at = length a - at
 
 piece-size-requires : tie.Need-piece-size-requires Inv-loop μ-loop
 piece-size-requires c κs = search needs
@@ -57,14 +57,11 @@ part-add-end-2 c = search needs
 add-requires-2 : tie.Need-add-requires-2 Inv-loop μ-loop
 add-requires-2 c κs = search needs
 
-end-requires : tie.Need-end-requires Inv-loop μ-loop
-end-requires c κs = search needs
-
 returns : tie.Need-returns Inv-loop μ-loop
 returns c = search needs
 
-pub hash-by-state-spec : {M : Type 1} → statement M
-hash-by-state-spec =
+pub give-spec : {M : Type 1} → statement M
+give-spec =
     tie.close
     (tie.spec
     Inv-loop
@@ -84,5 +81,4 @@ hash-by-state-spec =
     part-add-start-2
     part-add-end-2
     add-requires-2
-    end-requires
     returns)
