@@ -45,8 +45,7 @@ fn build(known: &[u8], s: &[u8], lens: &[usize], fields: &[u8; 1024], len: usize
     say::part(known, w.no, say::cut(&made, 0, w.len))
 }
 
-fn rebuild(known: &[u8], s: &[u8]) -> usize {
-    let read = read(s);
+fn rebuild(known: &[u8], s: &[u8], read: reading::Answer) -> usize {
     let starts = read.starts;
     let lens = read.lens;
     let mut fields = [0u8; 1024];
@@ -117,45 +116,90 @@ fn attributes(known: &[u8], key: &[u8]) -> usize {
     at
 }
 
-// ---- a file
+// ---- a file of records, or of records with trailers
 
-// A line's number and the next place.
-struct Numbers {
-    no: usize,
-    next: usize,
-}
-
-fn numbers_of(line: files::Line) -> Numbers {
-    match line {
-        files::Line::Finished { place } => Numbers {
-            no: 99,
-            next: place,
-        },
-        files::Line::Read { no, next, .. } => Numbers {
-            no: no as usize,
-            next,
-        },
+fn line_at(call: usize, file: &[u8], place: usize) -> files::Line {
+    match call {
+        FILE => files::line_at(file, place),
+        _ => trailed::trailed_at(file, place),
     }
 }
 
-// The number of the first two lines of a file, how many lines there are, and how many are accepted.
-fn lines(known: &[u8], file: &[u8]) -> usize {
-    let one = numbers_of(files::line_at(file, 0));
-    let two = numbers_of(files::line_at(file, one.next));
-    let totals = files::count(file);
-    let mut at = say::number(known, 0, one.no);
-    at = say::number(known, say::piece(known, at, b" "), two.no);
-    at = say::number(known, say::piece(known, at, b" lines "), totals.lines);
+fn count(call: usize, file: &[u8]) -> files::Totals {
+    match call {
+        FILE => files::count(file),
+        _ => trailed::count_trailed(file),
+    }
+}
+
+// The numbers of the lines of a file, of eight at the most.
+fn line_numbers(known: &[u8], call: usize, file: &[u8]) -> usize {
+    let mut at: usize = 0;
+    let mut place: usize = 0;
+    let mut k: usize = 0;
+    while k < 8 {
+        let files::Line::Read { no, next, .. } = line_at(call, file, place) else {
+            break;
+        };
+        at = say::piece(known, say::number(known, at, no as usize), b" ");
+        place = next;
+        k += 1;
+    }
+    at
+}
+
+// Those, how many lines there are, and how many are accepted.
+fn lines(known: &[u8], call: usize, file: &[u8]) -> usize {
+    let mut at = line_numbers(known, call, file);
+    let totals = count(call, file);
+    at = say::number(known, say::piece(known, at, b"lines "), totals.lines);
     say::number(known, say::piece(known, at, b" accepted "), totals.accepted)
 }
 
-// The file that has the two records as lines, the last of them without a line feed.
-fn file(known: &[u8], first: &[u8], second: &[u8]) -> usize {
-    let mut file = [0u8; 1280];
-    let end = put::put(&mut file, 0, first);
-    let start = put::put_byte(&mut file, end, b'\n');
-    let len = put::put(&mut file, start, second);
-    lines(known, say::cut(&file, 0, len))
+// The parts of a step from the third on, each with a line feed behind it; answers how many bytes they are.
+fn put_lines(step: &[u8], file: &mut [u8; 2048]) -> usize {
+    let mut end: usize = 0;
+    let mut k: usize = 2;
+    while k < 10 {
+        let line = frame::part(b'\t', step, k);
+        if line.len() == 0 {
+            break;
+        }
+        end = put::put(file, end, line);
+        end = put::put_byte(file, end, b'\n');
+        k += 1;
+    }
+    end
+}
+
+fn of_file(known: &[u8], call: usize, file: &[u8; 2048], len: usize) -> usize {
+    let bytes = say::cut(file, 0, len);
+    match call {
+        SHA1_FILE => sha1(known, bytes),
+        _ => lines(known, call, bytes),
+    }
+}
+
+// Of the file of these lines, without its last n bytes.
+fn file(known: &[u8], call: usize, n: usize, step: &[u8]) -> usize {
+    let mut file = [0u8; 2048];
+    let end = put_lines(step, &mut file);
+    of_file(known, call, &file, std::num::wrapping_sub_usize(end, n))
+}
+
+// The number, and the whole output.
+fn output(known: &[u8], no: u8, out: &[u8; 1024], room: usize) -> usize {
+    let at = say::piece(known, say::number(known, 0, no as usize), b" ");
+    say::piece(known, at, say::cut(out, 0, room))
+}
+
+// The line of a record, into an output that holds `before`.
+fn write_trailed(known: &[u8], record: &[u8], before: &[u8]) -> usize {
+    let mut out = [0u8; 1024];
+    put::put(&mut out, 0, before);
+    let room = before.len() % 1025;
+    let w = trailed::write_trailed(record, &mut out[..room]);
+    output(known, w.no, &out, room)
 }
 
 // ---- hashes
@@ -165,15 +209,26 @@ fn hash(known: &[u8], bytes: &[u8]) -> usize {
     say::hex(known, numbers::ACCEPTED, &digest)
 }
 
-// Of the bytes a thousand times, one behind the other.
-fn thousandfold(known: &[u8], bytes: &[u8]) -> usize {
-    let mut state = sha384::Sha384::begin();
+fn sha1(known: &[u8], bytes: &[u8]) -> usize {
+    let digest = sha1::sha1_of(bytes);
+    say::hex(known, numbers::ACCEPTED, &digest)
+}
+
+// SHA-1, or else SHA-384, of the bytes a thousand times, one behind the other.
+fn thousandfold(known: &[u8], is_sha1: bool, bytes: &[u8]) -> usize {
+    let mut long = sha384::Sha384::begin();
+    let mut short = sha1::Sha1::begin();
     let mut k: usize = 0;
     while k < 1000 {
-        state = state.add(bytes);
+        long = long.add(bytes);
+        short = short.add(bytes);
         k += 1;
     }
-    let digest = state.end();
+    if is_sha1 {
+        let digest = short.end();
+        return say::hex(known, numbers::ACCEPTED, &digest);
+    }
+    let digest = long.end();
     say::hex(known, numbers::ACCEPTED, &digest)
 }
 
@@ -229,12 +284,26 @@ const CONFIRM_REQUEST: usize = 22;
 
 const CONFIRM_RESPONSE: usize = 23;
 
-const BUILD: usize = 24;
+const SHA1: usize = 24;
+
+const SHA1_FILE: usize = 25;
+
+const SHA1_THOUSANDFOLD: usize = 26;
+
+const READ_TRAILED: usize = 27;
+
+const BUILD_TRAILED: usize = 28;
+
+const WRITE_TRAILED: usize = 29;
+
+const TRAILED_FILE: usize = 30;
+
+const BUILD: usize = 31;
 
 // Which of the names a word is; BUILD where it is none of them.
 fn call_of(name: &[u8]) -> usize {
     let names =
-        b"newer file shared_info module_text centre_text module_item read_identity read_record identity_field record_field attribute attribute_named attributes sha384 thousandfold fingerprint check_fingerprint hmac module_tag centre_tag mac_key kek confirm_request confirm_response";
+        b"newer file shared_info module_text centre_text module_item read_identity read_record identity_field record_field attribute attribute_named attributes sha384 thousandfold fingerprint check_fingerprint hmac module_tag centre_tag mac_key kek confirm_request confirm_response sha1 sha1_file sha1_thousandfold read_trailed build_trailed write_trailed trailed_file";
     let mut k: usize = 0;
     while k < BUILD {
         if text::are_same(name, frame::part(b' ', names, k)) {
@@ -251,18 +320,19 @@ pub(crate) fn run<'a>(
     a: &'a [u8],
     b: &'a [u8],
     c: &[u8],
+    step: &[u8],
     known: &[u8],
 ) -> usize {
     let call = call_of(name);
     match call {
-        FILE => file(known, a, b),
+        FILE | TRAILED_FILE | SHA1_FILE => file(known, call, n, step),
         SHARED_INFO..=CENTRE_TEXT => agreement_text(known, call, a),
         MODULE_ITEM => module_item(known, a, n),
         READ_IDENTITY => say::part(known, reading::read_identity(a).no, b"accepted"),
         READ_RECORD => say::part(known, reading::read_record(a).no, b"accepted"),
         ATTRIBUTES => attributes(known, a),
         HASH => hash(known, a),
-        THOUSANDFOLD => thousandfold(known, a),
+        THOUSANDFOLD => thousandfold(known, false, a),
         FINGERPRINT => fingerprint(known, a),
         CHECK_FINGERPRINT => say::part(known, fingerprint::check_fingerprint(a).no, b"accepted"),
         HMAC => confirmations::hmac(known, n, a, b),
@@ -272,7 +342,12 @@ pub(crate) fn run<'a>(
         KEK => confirmations::key(known, true, n, a, b),
         CONFIRM_REQUEST => confirmations::confirm_request(known, a, b),
         CONFIRM_RESPONSE => confirmations::confirm_response(known, a, b, c),
-        BUILD => rebuild(known, a),
+        SHA1 => sha1(known, a),
+        SHA1_THOUSANDFOLD => thousandfold(known, true, a),
+        READ_TRAILED => say::part(known, trailed::read_trailed(a).no, b"accepted"),
+        BUILD_TRAILED => rebuild(known, a, trailed::read_trailed(a)),
+        WRITE_TRAILED => write_trailed(known, a, b),
+        BUILD => rebuild(known, a, read(a)),
         _ => part(known, call, n, a, b),
     }
 }

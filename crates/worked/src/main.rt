@@ -1,8 +1,8 @@
-// The published examples of SHA-384 (FIPS 180-4) and of HMAC (RFC 4231), the worked example of STS600-9-1 (003), and the
-// records of STS 600-4-2's Appendix A (000), step by step, through the public calls alone. Standard input has three lines for
-// a step: where it stands and what it is; a call with what it is lent, with a tab between them, because an attribute may have
-// spaces; the value known. The program prints each step with the value that the library gives, says of each whether it agrees,
-// and at last how many do. docs/VECTORS.md tells where each value was taken from.
+// The published examples of SHA-384 and SHA-1 (FIPS 180-4) and of HMAC (RFC 4231), the worked example of STS600-9-1 (003), and
+// the records of STS 600-4-2's Appendix A (000), step by step, through the public calls alone. Standard input has three lines
+// for a step: where it stands and what it is; a call with what it is lent, with a tab between them, because an attribute may
+// have spaces; the value known. The program prints each step with the value that the library gives, says of each whether it
+// agrees, and at last how many do. docs/VECTORS.md tells where each value was taken from.
 mod calls;
 mod confirmations;
 mod say;
@@ -29,6 +29,7 @@ fn run_step(title: &[u8], step: &[u8], known: &[u8]) -> usize {
         frame::part(b'\t', step, 2),
         frame::part(b'\t', step, 3),
         frame::part(b'\t', step, 4),
+        step,
         known,
     );
     if agrees_to == known.len() {
@@ -41,10 +42,10 @@ fn run_step(title: &[u8], step: &[u8], known: &[u8]) -> usize {
 
 // Room for the input, which has no more lines than it has bytes. The length is stated because a proof that looked at this
 // many zeros would be slow.
-const ROOM: usize = 131072;
+const ROOM: usize = 262144;
 
 fn room() -> [u8; ROOM]
-    ensures { λ r. ⌜ 131072 ≡ length r ⌝ }
+    ensures { λ r. ⌜ 262144 ≡ length r ⌝ }
 {
     [0; ROOM]
 }
