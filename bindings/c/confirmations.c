@@ -355,8 +355,9 @@ static const struct lent zs[] = {
 };
 
 /* The request is refused so by both calls, whatever Z and the response are. */
-static void expect_own_of_request(struct lent of, uint8_t no, uint8_t field)
+static void expect_own_of_request(const char *record, size_t len, uint8_t no, uint8_t field)
 {
+    const struct lent of = lend(record, len);
     const struct lent answers[] = {response, request, {BYTES(APPENDIX_A_RESPONSE)}};
     for (size_t i = 0; i < COUNT_OF(zs); i++) {
         expect_request_refused(zs[i], of, no, field, OBSCURLANE_REQUEST);
@@ -367,8 +368,9 @@ static void expect_own_of_request(struct lent of, uint8_t no, uint8_t field)
 }
 
 /* The response is refused so, whatever Z and the request's tag are. */
-static void expect_own_of_response(struct lent of, uint8_t no, uint8_t field)
+static void expect_own_of_response(const char *record, size_t len, uint8_t no, uint8_t field)
 {
+    const struct lent of = lend(record, len);
     char changed[ROOM];
     struct lent asked = lend(changed, write_with(WORKED_REQUEST, WORKED_TAG_MODULE, WORKED_TAG_CENTRE, changed));
     for (size_t i = 0; i < COUNT_OF(zs); i++) {
@@ -383,28 +385,13 @@ static void own_refusals(void)
     for (size_t i = 0; i < COUNT_OF(request_faults); i++) {
         const struct change *fault = &request_faults[i];
         size_t len = write_with(WORKED_REQUEST, fault->old, fault->with, refused);
-        expect_own_of_request(lend(refused, len), fault->no, fault->field);
+        expect_own_of_request(refused, len, fault->no, fault->field);
     }
     for (size_t i = 0; i < COUNT_OF(response_faults); i++) {
         const struct change *fault = &response_faults[i];
         size_t len = write_with(WORKED_RESPONSE, fault->old, fault->with, refused);
-        expect_own_of_response(lend(refused, len), fault->no, fault->field);
+        expect_own_of_response(refused, len, fault->no, fault->field);
     }
-}
-
-/* The numbers that do not depend on the fields. */
-static void refused_before_its_fields(const char *record, void (*expect_own)(struct lent, uint8_t, uint8_t))
-{
-    char longer[ROOM];
-    size_t len = strlen(record);
-    memset(longer, 'A', sizeof longer);
-    memcpy(longer, record, len);
-    expect_own(lend(longer, OBSCURLANE_LONGEST_READ + 1), OBSCURLANE_TOO_LONG, 0);
-    expect_own(lend(longer, OBSCURLANE_LONGEST_READ), OBSCURLANE_MISSING_CHECK, 0);
-    expect_own(lend(longer, len - 1), OBSCURLANE_MISSING_CHECK, 0);
-    expect_own(lend(longer, 0), OBSCURLANE_UNKNOWN_KIND, 0);
-    longer[len - 1] = longer[len - 1] == '0' ? '1' : '0';
-    expect_own(lend(longer, len), OBSCURLANE_WRONG_CHECK, 0);
 }
 
 /* Request and response exchanged, and records that are neither. */
@@ -412,12 +399,11 @@ static void other_kinds(void)
 {
     static const char *const others[] = {WORKED_ID_SM,     WORKED_ID_KMC,    WORKED_KEY_CENTRE,
                                          WORKED_KEY_MAKER, WORKED_WRAPPED_1, APPENDIX_A_WRAPPED_1};
-    expect_own_of_request(response, OBSCURLANE_UNKNOWN_KIND, 0);
-    expect_own_of_response(request, OBSCURLANE_UNKNOWN_KIND, 0);
+    expect_own_of_request(WORKED_RESPONSE, response.len, OBSCURLANE_UNKNOWN_KIND, 0);
+    expect_own_of_response(WORKED_REQUEST, request.len, OBSCURLANE_UNKNOWN_KIND, 0);
     for (size_t i = 0; i < COUNT_OF(others); i++) {
-        struct lent other = lend(others[i], strlen(others[i]));
-        expect_own_of_request(other, OBSCURLANE_UNKNOWN_KIND, 0);
-        expect_own_of_response(other, OBSCURLANE_UNKNOWN_KIND, 0);
+        expect_own_of_request(others[i], strlen(others[i]), OBSCURLANE_UNKNOWN_KIND, 0);
+        expect_own_of_response(others[i], strlen(others[i]), OBSCURLANE_UNKNOWN_KIND, 0);
     }
 }
 
@@ -494,8 +480,8 @@ void call_for_confirmations(void)
     exchanged_tags();
     changed_fields();
     own_refusals();
-    refused_before_its_fields(WORKED_REQUEST, expect_own_of_request);
-    refused_before_its_fields(WORKED_RESPONSE, expect_own_of_response);
+    expect_refused_before_fields(WORKED_REQUEST, expect_own_of_request);
+    expect_refused_before_fields(WORKED_RESPONSE, expect_own_of_response);
     other_kinds();
     other_requests();
     mistyped_or_of_another_key();

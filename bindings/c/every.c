@@ -3,7 +3,8 @@
  * leaves in an output. The exit status is 1 if anything is not as expected; the last line says how many comparisons were made.
  *
  * Here stand records and texts. Wrapped keys and their attributes stand in wrapped.c; SHA-384 and Fingerprints in hashes.c;
- * HMAC and the tags of a key agreement in confirmations.c; the check, the text types, files and names in parts.c.
+ * HMAC and the tags of a key agreement in confirmations.c; SHA-1 in sha1.c; manufacturers' files in trailed.c; the check, the
+ * text types, plain files and names in parts.c.
  */
 #include "expect.h"
 #include "worked.h"
@@ -25,14 +26,24 @@ void expect(bool holds, const char *what, const char *file, int line)
     }
 }
 
-bool untouched(const uint8_t *out, size_t from, size_t to)
+static bool are_all(uint8_t byte, const uint8_t *bytes, size_t from, size_t to)
 {
     for (size_t i = from; i < to; i++) {
-        if (out[i] != UNTOUCHED) {
+        if (bytes[i] != byte) {
             return false;
         }
     }
     return true;
+}
+
+bool untouched(const uint8_t *out, size_t from, size_t to)
+{
+    return are_all(UNTOUCHED, out, from, to);
+}
+
+bool are_zeros(const uint8_t *bytes, size_t from, size_t to)
+{
+    return are_all(0, bytes, from, to);
 }
 
 bool are_digits_of(const uint8_t *bytes, size_t len, const char *digits)
@@ -44,6 +55,22 @@ bool are_digits_of(const uint8_t *bytes, size_t len, const char *digits)
         are_same = memcmp(pair, digits + 2 * i, 2) == 0;
     }
     return are_same;
+}
+
+void expect_refused_before_fields(const char *record, expect_number *expect_refused)
+{
+    char longer[ROOM];
+    size_t len = strlen(record);
+    memset(longer, 'A', sizeof longer);
+    memcpy(longer, record, len);
+    expect_refused(longer, OBSCURLANE_LONGEST_READ + 1, OBSCURLANE_TOO_LONG, 0);
+    expect_refused(longer, OBSCURLANE_LONGEST_READ, OBSCURLANE_MISSING_CHECK, 0);
+    expect_refused(longer, len - 1, OBSCURLANE_MISSING_CHECK, 0);
+    expect_refused(longer, 0, OBSCURLANE_UNKNOWN_KIND, 0);
+    longer[len] = ' ';
+    expect_refused(longer, len + 1, OBSCURLANE_MISSING_CHECK, 0);
+    longer[len - 1] = longer[len - 1] == '0' ? '1' : '0';
+    expect_refused(longer, len, OBSCURLANE_WRONG_CHECK, 0);
 }
 
 void seal(char *text, size_t len)
@@ -496,6 +523,8 @@ int main(void)
     call_for_wrapped_keys();
     call_for_hashes();
     call_for_confirmations();
+    call_for_sha1();
+    call_for_trailed_lines();
     call_parts();
     printf("every function: %lu as expected\n", expectations);
     return EXIT_SUCCESS;

@@ -1,5 +1,6 @@
 /* Reads the load request of the worked example once, prints its fields by their names, makes its three texts and says whether
- * its tag is right; then prints the attributes of its second wrapped key, and the Fingerprint of the centre's public key. */
+ * its tag is right; then prints the attributes of its second wrapped key, and the Fingerprint of the centre's public key; and
+ * reads and writes the line of a manufacturer's file, the module's signed key with its trailer. */
 #include "obscurlane.h"
 #include "worked.h"
 
@@ -56,6 +57,23 @@ static void print_fingerprint(void)
     printf("Fingerprint: %s, %.*s\n", obscurlane_reason(said.no), (int)made.len, (const char *)right);
 }
 
+/* The line is read, and written again from the record in front of its trailer. */
+static void print_line(void)
+{
+    static const char line[] = WORKED_KEY_SIGNED WORKED_TRAILER;
+    const uint8_t *bytes = (const uint8_t *)line;
+    uint8_t written[OBSCURLANE_LONGEST_TRAILED];
+    obscurlane_answer said = obscurlane_read_trailed(bytes, sizeof line - 1);
+    const size_t subject = OBSCURLANE_PUBKEY_SUBJECT - 1;
+    printf("manufacturer's line: %s\n", obscurlane_reason(said.no));
+    printf("  Subject %.*s\n", (int)said.lens[subject], line + said.starts[subject]);
+    obscurlane_written made = obscurlane_write_trailed(bytes, sizeof line - 1 - OBSCURLANE_TRAILER, written, sizeof written);
+    if (made.no == OBSCURLANE_ACCEPTED) {
+        const uint8_t *trailer = written + made.len - OBSCURLANE_TRAILER;
+        printf("  trailer %.*s, %zu bytes with it\n", OBSCURLANE_TRAILER, (const char *)trailer, made.len);
+    }
+}
+
 int main(void)
 {
     const uint8_t *bytes = (const uint8_t *)request;
@@ -79,5 +97,6 @@ int main(void)
     printf("%s, its attributes\n", obscurlane_kind_name(OBSCURLANE_KIND_KEY));
     print_attributes();
     print_fingerprint();
+    print_line();
     return 0;
 }

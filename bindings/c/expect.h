@@ -1,5 +1,5 @@
-/* What the files of the test of every function share: every.c, wrapped.c, hashes.c, confirmations.c and
- * parts.c. */
+/* What the files of the test of every function share: every.c, wrapped.c, hashes.c, confirmations.c, sha1.c,
+ * trailed.c and parts.c. */
 #ifndef EXPECT_H
 #define EXPECT_H
 
@@ -18,11 +18,20 @@
 /* Room for a record of more bytes than are read. */
 enum { ROOM = OBSCURLANE_LONGEST_READ + 16 };
 
+/* A published example of a hash. */
+struct published {
+    const char *message;
+    const char *hash;
+};
+
 /* Counts the comparison, and ends the program where it does not hold. */
 void expect(bool holds, const char *what, const char *file, int line);
 
 /* Every byte from `from` to before `to` is as it was lent. */
 bool untouched(const uint8_t *out, size_t from, size_t to);
+
+/* Every byte from `from` to before `to` is zero. */
+bool are_zeros(const uint8_t *bytes, size_t from, size_t to);
 
 /* The bytes are those of the HEX characters. */
 bool are_digits_of(const uint8_t *bytes, size_t len, const char *digits);
@@ -33,6 +42,13 @@ void seal(char *text, size_t len);
 /* The record with one text in the place of another, and its identities' checks and its own made right again; its length. */
 size_t write_with(const char *record, const char *old, const char *with, char out[ROOM]);
 
+/* Expects of a record, or of what is none, that it is refused with this number and this field's. */
+typedef void expect_number(const char *record, size_t len, uint8_t no, uint8_t field);
+
+/* The numbers that do not depend on the fields: of bytes that begin with the record and are longer than is read, of those
+ * without a check at their end, of none at all, and of the record with another check. */
+void expect_refused_before_fields(const char *record, expect_number *expect_refused);
+
 /* Calls the functions for attributes, and those that read or build on wrapped keys. */
 void call_for_wrapped_keys(void);
 
@@ -41,6 +57,12 @@ void call_for_hashes(void);
 
 /* Calls the functions for HMAC and for the tags that confirm a key agreement. */
 void call_for_confirmations(void);
+
+/* Calls the functions for SHA-1. */
+void call_for_sha1(void);
+
+/* Calls the functions for manufacturers' record files. */
+void call_for_trailed_lines(void);
 
 /* Calls the functions for the check, the text types and files, and those for names. */
 void call_parts(void);

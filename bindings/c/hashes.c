@@ -13,20 +13,7 @@ _Static_assert(sizeof(obscurlane_checked) == 2, "two numbers");
 
 /* ---- hashes */
 
-static bool are_same(obscurlane_digest a, obscurlane_digest b)
-{
-    return memcmp(a.bytes, b.bytes, sizeof a.bytes) == 0;
-}
-
-static bool is_hash(obscurlane_digest digest, const char *digits)
-{
-    return are_digits_of(digest.bytes, sizeof digest.bytes, digits);
-}
-
-static const struct {
-    const char *message;
-    const char *hash;
-} published[] = {
+static const struct published published[] = {
     {"", "38B060A751AC96384CD9327EB1B1E36A21FDB71114BE07434C0CC7BF63F6E1DA274EDEBFE76F65FBD51AD2F14898B95B"},
     {"abc", "CB00753F45A35E8BB5A03D699AC65007272C32AB0EDED1631A8B605A43FF5BED8086072BA1E7CC2358BAECA134C825A7"},
     {"abcdefghbcdefghicdefghijdefghijkefghijklfghijklmghijklmnhijklmnoijklmnopjklmnopqklmnopqrlmnopqrsmnopqrstnopqrstu",
@@ -37,111 +24,26 @@ static const struct {
 #define HASH_OF_A_MILLION \
     "9D0E1809716474CB086E834E310A4A1CED149E9C00F248527972CEC5704C2A5B07B8B3DC38ECC4EBAE97DDD87F3D8985"
 
-static void published_hashes(void)
+static bool is_start(obscurlane_sha384_words hash)
 {
-    for (size_t i = 0; i < COUNT_OF(published); i++) {
-        const uint8_t *bytes = (const uint8_t *)published[i].message;
-        size_t len = strlen(published[i].message);
-        EXPECT(is_hash(obscurlane_sha384_of(bytes, len), published[i].hash));
-        obscurlane_sha384_state state = obscurlane_sha384_add(obscurlane_sha384_begin(), bytes, len);
-        EXPECT(is_hash(obscurlane_sha384_end(state), published[i].hash));
-    }
+    return hash.a == 0xCBBB9D5DC1059ED8 && hash.b == 0x629A292A367CD507 && hash.c == 0x9159015A3070DD17 &&
+           hash.d == 0x152FECD8F70E5939 && hash.e == 0x67332667FFC00B31 && hash.f == 0x8EB44A8768581511 &&
+           hash.g == 0xDB0C2E0D64F98FA7 && hash.h == 0x47B5481DBEFA4FA4;
 }
 
-/* In pieces that meet the ends of blocks and miss them. */
-static void a_million_letters(void)
-{
-    static const size_t pieces[] = {1, 127, 128, 0, 129, 2, 255, 256, 4096, 77, 111, 1000};
-    uint8_t letters[4096];
-    size_t left = 1000000;
-    obscurlane_sha384_state state = obscurlane_sha384_begin();
-    memset(letters, 'a', sizeof letters);
-    for (size_t i = 0; left > 0; i++) {
-        size_t piece = pieces[i % COUNT_OF(pieces)];
-        piece = piece < left ? piece : left;
-        state = obscurlane_sha384_add(state, letters, piece);
-        left -= piece;
-    }
-    EXPECT(state.low == 1000000 && state.high == 0);
-    EXPECT(is_hash(obscurlane_sha384_end(state), HASH_OF_A_MILLION));
-}
+#define HASH "SHA-384"
+#define DIGEST obscurlane_digest
+#define STATE obscurlane_sha384_state
+#define CALL(name) obscurlane_sha384_##name
+#define BLOCK 128
+#define HAS_COUNT(state, bytes) ((state).low == (bytes) && (state).high == 0)
+#include "hash.h"
 
-/* Bytes of many values, more than two blocks. */
-enum { LONG = 300 };
-
-static void write_message(uint8_t out[LONG])
-{
-    for (size_t i = 0; i < LONG; i++) {
-        out[i] = (uint8_t)(7 * i + i / 256);
-    }
-}
-
-/* A message in two pieces, cut at each place; and byte by byte, where a state that was ended goes on. */
-static void pieces(void)
-{
-    uint8_t message[LONG];
-    write_message(message);
-    obscurlane_digest whole = obscurlane_sha384_of(message, sizeof message);
-    obscurlane_sha384_state so_far = obscurlane_sha384_begin();
-    for (size_t cut = 0; cut <= sizeof message; cut++) {
-        obscurlane_sha384_state state = obscurlane_sha384_add(obscurlane_sha384_begin(), message, cut);
-        state = obscurlane_sha384_add(state, message + cut, sizeof message - cut);
-        EXPECT(are_same(obscurlane_sha384_end(state), whole));
-
-        EXPECT(are_same(obscurlane_sha384_end(so_far), obscurlane_sha384_of(message, cut)));
-        if (cut < sizeof message) {
-            so_far = obscurlane_sha384_add(so_far, message + cut, 1);
-        }
-    }
-}
-
-/* Two ends of one beginning, with a copy of its state for each. */
-static void forked_states(void)
-{
-    obscurlane_sha384_state first = obscurlane_sha384_add(obscurlane_sha384_begin(), BYTES("ab"));
-    obscurlane_sha384_state second = first;
-    first = obscurlane_sha384_add(first, BYTES("c"));
-    second = obscurlane_sha384_add(second, BYTES("d"));
-    EXPECT(is_hash(obscurlane_sha384_end(first), published[1].hash));
-    EXPECT(are_same(obscurlane_sha384_end(second), obscurlane_sha384_of(BYTES("abd"))));
-    EXPECT(is_hash(obscurlane_sha384_end(obscurlane_sha384_add(first, BYTES(""))), published[1].hash));
-}
-
-static bool are_zeros(const uint8_t *bytes, size_t from, size_t to)
-{
-    for (size_t i = from; i < to; i++) {
-        if (bytes[i] != 0) {
-            return false;
-        }
-    }
-    return true;
-}
-
-/* Each member has its place: the hash value, the bytes that wait, and how many there were. */
-static void members_of_a_state(void)
-{
-    obscurlane_sha384_state state = obscurlane_sha384_begin();
-    EXPECT(state.hash.a == 0xCBBB9D5DC1059ED8 && state.hash.h == 0x47B5481DBEFA4FA4);
-    EXPECT(state.low == 0 && state.high == 0 && are_zeros(state.block, 0, sizeof state.block));
-    state = obscurlane_sha384_add(state, BYTES("abc"));
-    EXPECT(state.hash.a == 0xCBBB9D5DC1059ED8 && state.low == 3 && state.high == 0);
-    EXPECT(memcmp(state.block, "abc", 3) == 0 && are_zeros(state.block, 3, sizeof state.block));
-
-    uint8_t message[LONG];
-    write_message(message);
-    state = obscurlane_sha384_add(state, message, 126);
-    EXPECT(state.hash.a != 0xCBBB9D5DC1059ED8 && state.low == 129);
-    EXPECT(state.block[0] == message[125] && are_zeros(state.block, 1, sizeof state.block));
-}
-
-/* A state that no call gave: its bytes are counted in both words, and it has some hash, the same each time. */
-static void states_of_any_bytes(void)
+/* A state that no call gave: its bytes are counted in both words. */
+static void long_counts(void)
 {
     obscurlane_sha384_state state;
-    memset(&state, UNTOUCHED, sizeof state);
-    EXPECT(are_same(obscurlane_sha384_end(state), obscurlane_sha384_end(state)));
     memset(&state, 0xFF, sizeof state);
-    EXPECT(are_same(obscurlane_sha384_end(state), obscurlane_sha384_end(state)));
     state = obscurlane_sha384_add(state, BYTES("a"));
     EXPECT(state.low == 0 && state.high == 0);
     state.low = UINT64_MAX;
@@ -305,21 +207,6 @@ static void refused_keys(void)
     }
 }
 
-/* The numbers that do not depend on the fields. */
-static void refused_before_its_fields(const char *key)
-{
-    char longer[ROOM];
-    size_t len = strlen(key);
-    memset(longer, 'A', sizeof longer);
-    memcpy(longer, key, len);
-    expect_refused(longer, OBSCURLANE_LONGEST_READ + 1, OBSCURLANE_TOO_LONG, 0);
-    expect_refused(longer, OBSCURLANE_LONGEST_READ, OBSCURLANE_MISSING_CHECK, 0);
-    expect_refused(longer, len - 1, OBSCURLANE_MISSING_CHECK, 0);
-    expect_refused(longer, 0, OBSCURLANE_UNKNOWN_KIND, 0);
-    longer[len - 1] = longer[len - 1] == '0' ? '1' : '0';
-    expect_refused(longer, len, OBSCURLANE_WRONG_CHECK, 0);
-}
-
 /* Whole, and without a check. */
 static void other_kinds(void)
 {
@@ -333,18 +220,14 @@ static void other_kinds(void)
 
 void call_for_hashes(void)
 {
-    published_hashes();
-    a_million_letters();
-    pieces();
-    forked_states();
-    members_of_a_state();
-    states_of_any_bytes();
+    call_for_hash();
+    long_counts();
     worked_prints();
     changed_prints();
     changed_pieces();
     refused_keys();
     for (size_t i = 0; i < COUNT_OF(worked); i++) {
-        refused_before_its_fields(worked[i].key);
+        expect_refused_before_fields(worked[i].key, expect_refused);
     }
     other_kinds();
 }

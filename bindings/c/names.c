@@ -23,6 +23,8 @@ static const char *const reasons[] = {
     [OBSCURLANE_WRONG_Z] = "Z is not 96 bytes",
     [OBSCURLANE_OTHER_REQUEST] = "the response's identities or TVP differ from the request's",
     [OBSCURLANE_WRONG_TAG] = "the tag differs",
+    [OBSCURLANE_MISSING_TRAILER] = "no '#' in the forty-first place from the end of the line, or no HEX(40) after it",
+    [OBSCURLANE_WRONG_HASH] = "the SHA-1 differs",
 };
 
 struct kind {

@@ -1,13 +1,13 @@
 /*
  * Obscurlane: reading, checking and building the identity, public key, load request, load response and wrapped key records
- * of STS 600-4-2, the texts that a key agreement hashes, the tags that confirm it, and SHA-384 with the Fingerprints that are
- * made by it.
+ * of STS 600-4-2, files of them, plain and manufacturers', the texts that a key agreement hashes, the tags that confirm it,
+ * SHA-384 with the Fingerprints that are made by it, and SHA-1, which is in a manufacturer's line.
  *
  * Link with libexports.a, which `bindings/archive` proves, compiles for the machine that it runs on and puts into
  * target/staticlib/; or with the one that `bindings/archive module` puts into target/module/target/staticlib/, which has the
  * same functions and fewer constants. The names at the end of this header stand in names.c, which is compiled with the program.
  *
- * A record or identity is given WITHOUT its line feed. A file of records is given whole, and its lines are found in it.
+ * A record, identity or line is given WITHOUT its line feed. A file of records is given whole, and its lines are found in it.
  *
  * What the caller owes, because no proof can see it:
  *
@@ -25,8 +25,8 @@
  * - `field` is the number of the field that a refusal is about, and 0 where it is about none or nothing is refused.
  * - Starts and lengths are places in the bytes that were given: nothing is copied. With a refusal they are all 0, and every
  *   kind is OBSCURLANE_KIND_NONE. (A line of a file has its place whatever its answer.)
- * - With a refusal an output is as it was, every byte. Where a text, record or key is written, it stands at the front,
- *   and the bytes past its length are as they were.
+ * - With a refusal an output is as it was, every byte. Where a text, record, line or key is written, it stands at the
+ *   front, and the bytes past its length are as they were.
  * - Fields, attributes and items are counted from 1, so field n of an answer is its starts[n - 1] and lens[n - 1]. Starts and
  *   places are counted from 0.
  *
@@ -40,9 +40,9 @@
 #include <stddef.h>
 #include <stdint.h>
 
-#define OBSCURLANE_VERSION "0.6.0"
+#define OBSCURLANE_VERSION "0.7.0"
 #define OBSCURLANE_VERSION_MAJOR 0
-#define OBSCURLANE_VERSION_MINOR 6
+#define OBSCURLANE_VERSION_MINOR 7
 #define OBSCURLANE_VERSION_PATCH 0
 
 #ifdef __cplusplus
@@ -73,7 +73,7 @@ enum {
     OBSCURLANE_UNPAIRED = 8,
     /* An identity field is of a kind not permitted there; its number comes too. */
     OBSCURLANE_WRONG_KIND = 9,
-    /* The lent output is shorter than the record, text or key needs. */
+    /* The lent output is shorter than the record, text, key or line needs. */
     OBSCURLANE_SHORT_OUTPUT = 10,
     /* The last line of a file has bytes and no line feed. */
     OBSCURLANE_UNFINISHED = 11,
@@ -91,7 +91,11 @@ enum {
     /* The response's identities or TVP differ from the request's. */
     OBSCURLANE_OTHER_REQUEST = 17,
     /* The tag differs. */
-    OBSCURLANE_WRONG_TAG = 18
+    OBSCURLANE_WRONG_TAG = 18,
+    /* No '#' in the forty-first place from the end of a manufacturer's line, or no HEX(40) after it. */
+    OBSCURLANE_MISSING_TRAILER = 19,
+    /* The SHA-1 differs. */
+    OBSCURLANE_WRONG_HASH = 20
 };
 
 /*
@@ -197,7 +201,11 @@ enum {
     /* Z, the shared value of a key agreement, has just so many bytes. */
     OBSCURLANE_Z_BYTES = 96,
     /* MacKey and KEK have so many each: an output for one of them is enough with these. */
-    OBSCURLANE_KEY_BYTES = 24
+    OBSCURLANE_KEY_BYTES = 24,
+    /* A manufacturer's line has so many bytes behind its record: '#' and HEX(40). */
+    OBSCURLANE_TRAILER = 41,
+    /* The longest manufacturer's line that is written or accepted, without its line feed. */
+    OBSCURLANE_LONGEST_TRAILED = OBSCURLANE_LONGEST_RECORD + OBSCURLANE_TRAILER
 };
 
 /* ---- reading */
@@ -316,6 +324,31 @@ typedef struct {
 
 obscurlane_totals obscurlane_count(const uint8_t *file, size_t file_len);
 
+/*
+ * ---- manufacturers' record files: lines, each ended by one line feed
+ *
+ * A line is a record and its trailer: '#' and, as HEX(40), the SHA-1 of the record and of one line feed (0A hex). The limit of
+ * OBSCURLANE_LONGEST_READ bytes is for the record in front of the '#'.
+ */
+
+/* Reads such a line, without its line feed. Answers OBSCURLANE_MISSING_TRAILER where no trailer stands at its end, then what
+ * obscurlane_read_record answers to the record in front, then OBSCURLANE_WRONG_HASH: 0 to 9, 14, 19, or 20. The record stands
+ * at the front of the line, so that its fields have the same places in both. */
+obscurlane_answer obscurlane_read_trailed(const uint8_t *line, size_t line_len);
+
+/* The line that begins at a place of such a file. `no` is what obscurlane_read_trailed answers to the line, and before that
+ * OBSCURLANE_UNFINISHED for a last line without line feed; `start` and `len` are those of the whole line with its trailer.
+ * Whoever goes through a file begins at 0 and goes on at `next`. */
+obscurlane_line obscurlane_trailed_at(const uint8_t *file, size_t file_len, size_t place);
+
+/* How many lines such a file has, an unfinished last one too, and how many of them are accepted. */
+obscurlane_totals obscurlane_count_trailed(const uint8_t *file, size_t file_len);
+
+/* Writes the line of a record: the record and its trailer, without a line feed, which whoever writes a file adds. Answers what
+ * obscurlane_read_record answers to the record, then OBSCURLANE_SHORT_OUTPUT for an output of fewer than
+ * record_len + OBSCURLANE_TRAILER bytes: 0 to 10, or 14. OBSCURLANE_LONGEST_TRAILED bytes are always enough. */
+obscurlane_written obscurlane_write_trailed(const uint8_t *record, size_t record_len, uint8_t *out, size_t out_len);
+
 /* ---- the newer of two public keys */
 
 enum { OBSCURLANE_FIRST = 1, OBSCURLANE_SECOND = 2 };
@@ -386,6 +419,37 @@ typedef struct {
 obscurlane_sha384_state obscurlane_sha384_begin(void);
 obscurlane_sha384_state obscurlane_sha384_add(obscurlane_sha384_state state, const uint8_t *bytes, size_t bytes_len);
 obscurlane_digest obscurlane_sha384_end(obscurlane_sha384_state state);
+
+/* ---- SHA-1, as FIPS 180-4 defines it */
+
+/* The 20 bytes of a hash. */
+typedef struct {
+    uint8_t bytes[20];
+} obscurlane_sha1_digest;
+
+/* The hash of the bytes. */
+obscurlane_sha1_digest obscurlane_sha1_of(const uint8_t *bytes, size_t bytes_len);
+
+/* The five words of a hash value. */
+typedef struct {
+    uint32_t a;
+    uint32_t b;
+    uint32_t c;
+    uint32_t d;
+    uint32_t e;
+} obscurlane_sha1_words;
+
+/* The bytes given so far, as a plain value like obscurlane_sha384_state. */
+typedef struct {
+    obscurlane_sha1_words hash; /* the hash value of their whole blocks of 64 bytes */
+    uint8_t block[64];          /* at its front the bytes that wait for a whole block, and zeros after them */
+    uint64_t count;             /* how many bytes there were, modulo 2^64 */
+} obscurlane_sha1_state;
+
+/* The same piece by piece: the state before the first byte, the state with these bytes too, the hash of all bytes given. */
+obscurlane_sha1_state obscurlane_sha1_begin(void);
+obscurlane_sha1_state obscurlane_sha1_add(obscurlane_sha1_state state, const uint8_t *bytes, size_t bytes_len);
+obscurlane_sha1_digest obscurlane_sha1_end(obscurlane_sha1_state state);
 
 /* ---- HMAC-SHA-384-192: the leftmost 24 bytes of HMAC with SHA-384, as FIPS 198-1 defines it */
 
@@ -468,7 +532,7 @@ bool obscurlane_is_print(const uint8_t *s, size_t s_len);
 
 /* ---- names, in names.c; every answer is a text that stays */
 
-/* A number in words, as "the check differs" for OBSCURLANE_WRONG_CHECK. A number above 18 has words of its own. */
+/* A number in words, as "the check differs" for OBSCURLANE_WRONG_CHECK. A number above 20 has words of its own. */
 const char *obscurlane_reason(uint8_t no);
 
 /* A kind's name, as "VKLOAD.REQ.1"; "none" for OBSCURLANE_KIND_NONE and any other number. */

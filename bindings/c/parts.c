@@ -126,7 +126,7 @@ static const obscurlane_line lines[] = {
 /* Appendix A's example as its file. The last line is a sum of those before it and has no line feed. */
 #define APPENDIX_A_FILE \
     APPENDIX_A_RESPONSE "\n" APPENDIX_A_WRAPPED_1 "\n" APPENDIX_A_WRAPPED_2 "\n" APPENDIX_A_WRAPPED_3 "\n" \
-    APPENDIX_A_WRAPPED_4 "\n" APPENDIX_A_WRAPPED_5 "\n#2FC215350D8A718CD22783F5D81F8E33F6B46337"
+    APPENDIX_A_WRAPPED_4 "\n" APPENDIX_A_WRAPPED_5 "\n" APPENDIX_A_TRAILER
 
 static const obscurlane_line appendix_lines[] = {
     {true, OBSCURLANE_ACCEPTED, 0, OBSCURLANE_KIND_RESP, 0, 204, 205},
@@ -241,9 +241,9 @@ static void names(void)
         EXPECT(strcmp(obscurlane_kind_name(fields[i].kind), fields[i].name) == 0);
         EXPECT(strcmp(obscurlane_field_name(fields[i].kind, fields[i].field), fields[i].field_name) == 0);
     }
-    const char *other = obscurlane_reason(OBSCURLANE_WRONG_TAG + 1);
+    const char *other = obscurlane_reason(OBSCURLANE_WRONG_HASH + 1);
     EXPECT(strcmp(obscurlane_reason(UINT8_MAX), other) == 0);
-    for (uint8_t no = 0; no <= OBSCURLANE_WRONG_TAG; no++) {
+    for (uint8_t no = 0; no <= OBSCURLANE_WRONG_HASH; no++) {
         EXPECT(strcmp(obscurlane_reason(no), other) != 0);
         for (uint8_t before = 0; before < no; before++) {
             EXPECT(strcmp(obscurlane_reason(no), obscurlane_reason(before)) != 0);

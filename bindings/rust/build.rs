@@ -59,8 +59,11 @@ fn write_lengths() {
     let pieces = header.split("/*").map(|piece| piece.split_once("*/").map_or(piece, |cut| cut.1));
     let code: String = pieces.collect();
     let entries = code.split(['{', '}', ',']).filter_map(|entry| entry.trim().split_once(" = "));
-    let lengths = entries
-        .filter(|(name, _)| name.starts_with("OBSCURLANE_LONGEST_") || name.ends_with("_BYTES"));
+    let lengths = entries.filter(|(name, _)| {
+        name.starts_with("OBSCURLANE_LONGEST_")
+            || name.ends_with("_BYTES")
+            || *name == "OBSCURLANE_TRAILER"
+    });
     let constants: String =
         lengths.map(|(name, sum)| format!("pub const {name}: usize = {sum};\n")).collect();
     let written = Path::new(&variable("OUT_DIR")).join("lengths.rs");

@@ -10,19 +10,19 @@ use core::iter::FusedIterator;
 pub struct Line<'a> {
     /// Where the line begins.
     pub start: usize,
-    /// The line, without its line feed.
+    /// The line, without its line feed; in a manufacturer's file with its trailer.
     pub bytes: &'a [u8],
     /// Where the next line begins.
     pub next: usize,
-    /// The kind of an accepted line, or the refusal of [`Record::read`](crate::Record::read); reason 11 for a last line
-    /// without line feed.
+    /// The kind of an accepted line, or the refusal of [`Record::read`](crate::Record::read), in a manufacturer's file that of
+    /// [`Record::read_trailed`](crate::Record::read_trailed); reason 11 for a last line without line feed.
     pub answer: Result<Kind, Refusal>,
 }
 
 impl<'a> Line<'a> {
     /// What was found in the file; none where it is finished.
     #[inline]
-    fn of(file: &'a [u8], found: &sys::Line) -> Option<Line<'a>> {
+    pub(crate) fn of(file: &'a [u8], found: &sys::Line) -> Option<Line<'a>> {
         if !found.line {
             return None;
         }
@@ -116,13 +116,20 @@ pub fn line_at(file: &[u8], place: usize) -> Option<Line<'_>> {
     Line::of(file, &sys::line_at(file, place))
 }
 
-/// How many lines a file has: [`count`].
+/// How many lines a file has: [`count`], [`count_trailed`](crate::count_trailed).
 #[derive(Clone, Copy, Debug, PartialEq, Eq, Hash)]
 pub struct Totals {
     /// All lines, an unfinished last one too.
     pub lines: usize,
-    /// Those that are accepted records.
+    /// Those that are accepted.
     pub accepted: usize,
+}
+
+impl Totals {
+    #[inline]
+    pub(crate) fn of(totals: &sys::Totals) -> Totals {
+        Totals { lines: totals.lines, accepted: totals.accepted }
+    }
 }
 
 /// Counts the lines of a file, and those that are accepted.
@@ -135,6 +142,5 @@ pub struct Totals {
 #[must_use]
 #[inline]
 pub fn count(file: &[u8]) -> Totals {
-    let sys::Totals { lines, accepted } = sys::count(file);
-    Totals { lines, accepted }
+    Totals::of(&sys::count(file))
 }

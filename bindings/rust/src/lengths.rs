@@ -27,3 +27,7 @@ pub const LONGEST_FINGERPRINT: usize = header::LONGEST_FINGERPRINT;
 pub const Z_BYTES: usize = header::Z_BYTES;
 /// MacKey and KEK have so many each: an output for one of them is enough with these.
 pub const KEY_BYTES: usize = header::KEY_BYTES;
+/// A manufacturer's line has so many bytes behind its record: `#` and HEX(40).
+pub const TRAILER: usize = header::TRAILER;
+/// The longest manufacturer's line that is written or accepted, without its line feed.
+pub const LONGEST_TRAILED: usize = header::LONGEST_TRAILED;

@@ -27,6 +27,7 @@ mod record;
 mod refusal;
 mod show;
 mod sys;
+mod trailed;
 mod types;
 mod views;
 
@@ -39,16 +40,17 @@ pub use check::{crc_of, Crc};
 pub use confirm::{confirm_request, confirm_response, ConfirmRefusal};
 pub use files::{count, line_at, lines, Line, Lines, Totals};
 pub use fingerprint::{check_fingerprint, write_fingerprint};
-pub use hash::{sha384_of, Sha384};
+pub use hash::{sha1_of, sha384_of, Sha1, Sha384};
 pub use hmac::hmac_of;
 pub use kind::Kind;
 pub use lengths::{
     KEY_BYTES, LONGEST_CENTRE_TEXT, LONGEST_FINGERPRINT, LONGEST_IDENT, LONGEST_IDENTITY,
     LONGEST_MODULE_TEXT, LONGEST_PUBKEY, LONGEST_READ, LONGEST_RECORD, LONGEST_SHARED_INFO,
-    Z_BYTES,
+    LONGEST_TRAILED, TRAILER, Z_BYTES,
 };
 pub use newer::{newer, NewerRefusal};
 pub use record::{identity_field, record_field, Field, Fields, Record};
 pub use refusal::{Reason, Refusal};
+pub use trailed::{count_trailed, trailed_at, trailed_lines, write_trailed, TrailedLines};
 pub use types::{is_hex, is_ident, is_mac, is_point, is_print, is_sig, is_timestamp};
 pub use views::{Identity, InnerIdentity, PublicKey, Request, Response, View, WrappedKey};

@@ -1,7 +1,9 @@
 //! What is read: a record or identity with all its fields, from one reading; and single fields.
 
 use crate::show::Text;
-use crate::{sys, Identity, Kind, PublicKey, Refusal, Request, Response, View, WrappedKey};
+use crate::{
+    sys, Identity, Kind, PublicKey, Refusal, Request, Response, View, WrappedKey, TRAILER,
+};
 use core::fmt;
 use core::hash::{Hash, Hasher};
 use core::iter::FusedIterator;
@@ -79,6 +81,39 @@ impl<'a> Record<'a> {
         Record::of(bytes, sys::read_identity(bytes))
     }
 
+    /// Reads a line of a manufacturer's record file, without its line feed: a record and its trailer, which is `#` and, as
+    /// HEX(40), the SHA-1 of the record and of one line feed. What is handed back is the record in front of the trailer, at
+    /// its place in the line. [`trailed_lines`](crate::trailed_lines) goes through a file of such lines.
+    ///
+    /// ```
+    /// use obscurlane::{field, Reason, Record};
+    ///
+    /// let line = b"KEY.1|000000000000000000000001|ACT19930101T000000Z;BDT19930101T000000Z;DKG02;KEN255;KRN1;KTC2;\
+    ///     SGC0000123456;|D80D0BA61492E51E2AFE96FC69633DB5BE92932DEAECEA6C|4726\
+    ///     #2A9BF21D1CFD6EA0C4B78073DB4CFB6BDD139C64";
+    /// let record = Record::read_trailed(line)?;
+    /// assert_eq!(record, Record::read(&line[..line.len() - obscurlane::TRAILER])?);
+    /// assert_eq!(record.field(field::key::NONCE), Some(&b"000000000000000000000001"[..]));
+    ///
+    /// // the record alone, and the line with another digit at its end
+    /// let refusal = Record::read_trailed(record.bytes()).unwrap_err();
+    /// assert_eq!(refusal.reason, Reason::MissingTrailer);
+    /// let mut other = line.to_vec();
+    /// *other.last_mut().unwrap() = b'0';
+    /// assert_eq!(Record::read_trailed(&other).unwrap_err().reason, Reason::WrongHash);
+    /// # Ok::<(), obscurlane::Refusal>(())
+    /// ```
+    ///
+    /// # Errors
+    ///
+    /// Reason 19, then what [`Record::read`] refuses the record with (reasons 1 to 9, and 14), then reason 20. Reason 1 counts
+    /// the record in front of the trailer.
+    #[inline]
+    pub fn read_trailed(line: &'a [u8]) -> Result<Record<'a>, Refusal> {
+        let answer = sys::read_trailed(line);
+        Record::of(&line[..line.len().saturating_sub(TRAILER)], answer)
+    }
+
     #[inline]
     fn of(bytes: &'a [u8], answer: sys::Answer) -> Result<Record<'a>, Refusal> {
         Refusal::check(answer.no, answer.field)?;
@@ -86,7 +121,7 @@ impl<'a> Record<'a> {
         Ok(Record { bytes, kind, answer })
     }
 
-    /// The bytes that were read.
+    /// The bytes that were read, without a trailer.
     #[must_use]
     #[inline]
     pub fn bytes(&self) -> &'a [u8] {

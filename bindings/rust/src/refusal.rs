@@ -35,7 +35,7 @@ pub enum Reason {
     Unpaired = 8,
     /// 9: an identity field is of a kind not permitted there; its number comes too.
     WrongKind = 9,
-    /// 10: the lent output is shorter than the record, text or key needs.
+    /// 10: the lent output is shorter than the record, text, key or line needs.
     ShortOutput = 10,
     /// 11: the last line of a file has bytes and no line feed.
     Unfinished = 11,
@@ -54,6 +54,10 @@ pub enum Reason {
     OtherRequest = 17,
     /// 18: the tag differs.
     WrongTag = 18,
+    /// 19: no `#` in the forty-first place from the end of a manufacturer's line, or no HEX(40) after it.
+    MissingTrailer = 19,
+    /// 20: the SHA-1 differs.
+    WrongHash = 20,
 }
 
 impl Reason {
@@ -77,6 +81,8 @@ impl Reason {
         Reason::WrongZ,
         Reason::OtherRequest,
         Reason::WrongTag,
+        Reason::MissingTrailer,
+        Reason::WrongHash,
     ];
 
     /// The number, from 1.
@@ -120,6 +126,10 @@ impl Reason {
             Reason::WrongZ => "Z is not 96 bytes",
             Reason::OtherRequest => "the response's identities or TVP differ from the request's",
             Reason::WrongTag => "the tag differs",
+            Reason::MissingTrailer => {
+                "no '#' in the forty-first place from the end of the line, or no HEX(40) after it"
+            }
+            Reason::WrongHash => "the SHA-1 differs",
         }
     }
 }

@@ -77,6 +77,12 @@ pub struct Digest {
     pub bytes: [u8; 48],
 }
 
+/// The bytes of a shorter hash.
+#[repr(C)]
+pub struct Sha1Digest {
+    pub bytes: [u8; 20],
+}
+
 /// The bytes of a tag.
 #[repr(C)]
 pub struct Tag {
@@ -113,6 +119,26 @@ pub struct Sha384State {
     pub block: [u8; 128],
     pub low: u64,
     pub high: u64,
+}
+
+/// The hash value of SHA-1.
+#[derive(Clone, Copy, PartialEq, Eq, Hash)]
+#[repr(C)]
+pub struct Sha1Words {
+    pub a: u32,
+    pub b: u32,
+    pub c: u32,
+    pub d: u32,
+    pub e: u32,
+}
+
+/// What SHA-1 was given so far, in the same way.
+#[derive(Clone, Copy, PartialEq, Eq, Hash)]
+#[repr(C)]
+pub struct Sha1State {
+    pub hash: Sha1Words,
+    pub block: [u8; 64],
+    pub count: u64,
 }
 
 /// Which of two records is the newer, or is refused.
@@ -183,6 +209,16 @@ extern "C" {
     fn obscurlane_reader_new(file: *const u8, file_len: usize) -> usize;
     fn obscurlane_reader_step(file: *const u8, file_len: usize, place: *mut usize) -> Line;
     fn obscurlane_count(file: *const u8, file_len: usize) -> Totals;
+    fn obscurlane_read_trailed(line: *const u8, line_len: usize) -> Answer;
+    fn obscurlane_trailed_at(file: *const u8, file_len: usize, place: usize) -> Line;
+    fn obscurlane_count_trailed(file: *const u8, file_len: usize) -> Totals;
+    fn obscurlane_write_trailed(
+        record: *const u8,
+        record_len: usize,
+        out: *mut u8,
+        out_len: usize,
+    ) -> Written;
+
     fn obscurlane_newer(
         first: *const u8,
         first_len: usize,
@@ -202,6 +238,11 @@ extern "C" {
     fn obscurlane_sha384_add(state: Sha384State, bytes: *const u8, bytes_len: usize)
         -> Sha384State;
     fn obscurlane_sha384_end(state: Sha384State) -> Digest;
+
+    fn obscurlane_sha1_of(bytes: *const u8, bytes_len: usize) -> Sha1Digest;
+    fn obscurlane_sha1_begin() -> Sha1State;
+    fn obscurlane_sha1_add(state: Sha1State, bytes: *const u8, bytes_len: usize) -> Sha1State;
+    fn obscurlane_sha1_end(state: Sha1State) -> Sha1Digest;
 
     fn obscurlane_hmac_of(key: *const u8, key_len: usize, text: *const u8, text_len: usize) -> Tag;
     fn obscurlane_confirm_request(
@@ -375,7 +416,7 @@ pub fn text_item(text: &[u8], wanted: usize) -> Item {
     unsafe { obscurlane_text_item(text.as_ptr(), text.len(), wanted) }
 }
 
-// ---- files, and the newer of two keys
+// ---- files, manufacturers' files, and the newer of two keys
 
 #[inline]
 pub fn line_at(file: &[u8], place: usize) -> Line {
@@ -402,12 +443,36 @@ pub fn count(file: &[u8]) -> Totals {
 }
 
 #[inline]
+pub fn read_trailed(line: &[u8]) -> Answer {
+    // SAFETY: a slice's pointer and length.
+    unsafe { obscurlane_read_trailed(line.as_ptr(), line.len()) }
+}
+
+#[inline]
+pub fn trailed_at(file: &[u8], place: usize) -> Line {
+    // SAFETY: a slice's pointer and length.
+    unsafe { obscurlane_trailed_at(file.as_ptr(), file.len(), place) }
+}
+
+#[inline]
+pub fn count_trailed(file: &[u8]) -> Totals {
+    // SAFETY: a slice's pointer and length.
+    unsafe { obscurlane_count_trailed(file.as_ptr(), file.len()) }
+}
+
+#[inline]
+pub fn write_trailed(record: &[u8], out: &mut [u8]) -> Written {
+    // SAFETY: slices' pointers and lengths, and `out` overlaps nothing.
+    unsafe { obscurlane_write_trailed(record.as_ptr(), record.len(), out.as_mut_ptr(), out.len()) }
+}
+
+#[inline]
 pub fn newer(first: &[u8], second: &[u8]) -> Choice {
     // SAFETY: slices' pointers and lengths, which are only read.
     unsafe { obscurlane_newer(first.as_ptr(), first.len(), second.as_ptr(), second.len()) }
 }
 
-// ---- the Fingerprint of a public key, and SHA-384
+// ---- the Fingerprint of a public key, SHA-384 and SHA-1
 
 #[inline]
 pub fn check_fingerprint(record: &[u8]) -> Checked {
@@ -445,6 +510,30 @@ pub fn sha384_add(state: Sha384State, bytes: &[u8]) -> Sha384State {
 pub fn sha384_end(state: Sha384State) -> Digest {
     // SAFETY: numbers alone.
     unsafe { obscurlane_sha384_end(state) }
+}
+
+#[inline]
+pub fn sha1_of(bytes: &[u8]) -> Sha1Digest {
+    // SAFETY: a slice's pointer and length.
+    unsafe { obscurlane_sha1_of(bytes.as_ptr(), bytes.len()) }
+}
+
+#[inline]
+pub fn sha1_begin() -> Sha1State {
+    // SAFETY: nothing is given.
+    unsafe { obscurlane_sha1_begin() }
+}
+
+#[inline]
+pub fn sha1_add(state: Sha1State, bytes: &[u8]) -> Sha1State {
+    // SAFETY: numbers, and a slice's pointer and length.
+    unsafe { obscurlane_sha1_add(state, bytes.as_ptr(), bytes.len()) }
+}
+
+#[inline]
+pub fn sha1_end(state: Sha1State) -> Sha1Digest {
+    // SAFETY: numbers alone.
+    unsafe { obscurlane_sha1_end(state) }
 }
 
 // ---- HMAC, and the tags of a key agreement

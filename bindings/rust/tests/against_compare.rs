@@ -12,6 +12,7 @@ use compare::{agreement, file, record, text};
 use held::attributes::{same_attribute, same_attributes, same_named};
 use held::confirm::{same_request, same_response};
 use held::reading::{same_identity, same_record};
+use held::trailed::{any_line, same_trailed, same_trailed_at};
 use held::{
     expect_share, expected, expected_at, expected_line, line_numbers, numbers, of_refusal, place,
     rounds, same_output, NamedNumbers, Numbers, Seen,
@@ -390,6 +391,34 @@ fn files() {
             let line = obscurlane::line_at(&file, at).map(|line| line_numbers(&file, line));
             assert_eq!(line, expected_at(&file, at), "place {at} of {file:?}");
         }
+    }
+}
+
+#[test]
+fn manufacturers_lines() {
+    let mut random = Random::with_seed(18);
+    let mut seen = Seen::default();
+    for _ in 0..rounds() {
+        let line = any_line(&mut random);
+        let read = same_trailed(&line).map(|(kind, _)| kind);
+        if !line.contains(&b'\n') {
+            let file = [&line[..], b"\n"].concat();
+            let found = same_trailed_at(&file, 0).expect("a line");
+            assert_eq!(found, (read, 0, line.len(), file.len()), "{line:?}");
+        }
+        seen.add(&read);
+    }
+    seen.expect((1..=9).chain([14]), 9);
+    seen.expect([0, 19, 20], 200);
+}
+
+#[test]
+fn short_hashes() {
+    let mut random = Random::with_seed(19);
+    for _ in 0..rounds() {
+        let length = random.below(600);
+        let bytes = random.bytes(length);
+        assert_eq!(obscurlane::sha1_of(&bytes), compare::sha1::sha1(&bytes), "{bytes:?}");
     }
 }
 

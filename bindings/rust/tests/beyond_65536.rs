@@ -7,14 +7,17 @@ use compare::kind::{FieldType, Kind};
 use compare::random::Random;
 use compare::refusal::Refusal as Expected;
 use compare::sample::{self, Exchange, Signed};
+use compare::trailed::line_of;
 use compare::worked::worked;
 use compare::{agreement, file, record, text};
 use held::attributes::{same_attribute, same_attributes, same_named};
 use held::confirm::{same_request, same_response};
 use held::fingerprint::same_fingerprint;
+use held::hash::Hash;
 use held::reading::{same_identity, same_record};
+use held::trailed::{same_trailed, same_trailed_at, same_trailed_file, same_written};
 use held::{expected, expected_at, line_numbers, numbers, place, same_output};
-use obscurlane::Refusal;
+use obscurlane::{Refusal, Sha1, Sha384};
 
 /// What a length in two bytes forgets.
 const MORE: usize = 1 << 16;
@@ -66,17 +69,26 @@ fn checks() {
 }
 
 /// In one piece, and in pieces of which one is longer.
-#[test]
-fn hashes() {
+fn hashes_of<H: Hash>() {
     let message = of(Kind::VkloadReq);
     for bytes in longer(&message) {
-        let hash = compare::sha384::sha384(&bytes);
-        assert_eq!(obscurlane::sha384_of(&bytes), hash);
+        let hash = H::expected(&bytes);
+        assert_eq!(H::whole(&bytes), hash);
         for cut in [1, message.len(), MORE - 1, MORE, MORE + 1] {
             let (front, back) = bytes.split_at(cut);
-            assert_eq!(obscurlane::Sha384::begin().add(front).add(back).end(), hash);
+            assert_eq!(H::begin().add(front).add(back).end(), hash);
         }
     }
+}
+
+#[test]
+fn hashes() {
+    hashes_of::<Sha384>();
+}
+
+#[test]
+fn short_hashes() {
+    hashes_of::<Sha1>();
 }
 
 /// A key that is longer, and a text that is.
@@ -111,6 +123,8 @@ fn readings() {
         assert_eq!(same_fingerprint(&bytes, 16), Err((1, 0)));
         assert_eq!(same_request(&[7; 96], &bytes, [24; 2]), Err((1, (1, 0))));
         assert_eq!(same_response(&[7; 96], &worked("VKLOADREQ"), &bytes), Err((2, (1, 0))));
+        assert_eq!(same_trailed(&line_of(&bytes)), Err((1, 0)));
+        assert_eq!(same_written(&bytes, 2 * MORE + 2048), Err((1, 0)));
     }
 }
 
@@ -275,6 +289,29 @@ fn files() {
             let line = obscurlane::line_at(&file, at).map(|line| line_numbers(&file, line));
             assert_eq!(line, expected_at(&file, at), "place {at}");
         }
+    }
+}
+
+/// Lines with more digits before their trailer or behind it, and such a trailer that is longer itself; lines far behind, and many;
+/// and outputs whose lengths are short only modulo 65,536.
+#[test]
+fn manufacturers_lines() {
+    let record = of(Kind::VkloadReq);
+    let line = line_of(&record);
+    let [followed, preceded] = longer(&line);
+    assert_eq!(same_trailed(&preceded), Err((1, 0)));
+    assert_eq!(same_trailed(&followed), Err((19, 0)));
+    assert_eq!(same_trailed(&[&record[..], b"#", &[b'0'; MORE + 40]].concat()), Err((19, 0)));
+    let ended = |front: &[u8]| [front, b"\n", &line, b"\n"].concat();
+    let files = [ended(&followed), ended(&preceded), followed, vec![b'\n'; MORE + 2]];
+    for file in files {
+        same_trailed_file(&file);
+        for at in [0, 1, MORE - 1, MORE, MORE + 1, MORE + line.len() + 1] {
+            same_trailed_at(&file, at);
+        }
+    }
+    for room in [MORE, MORE + 1, MORE + line.len() - 1, MORE + line.len()] {
+        assert_eq!(same_written(&record, room), Ok(line.len()));
     }
 }
 

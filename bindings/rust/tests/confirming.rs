@@ -11,7 +11,7 @@ use compare::sample::{self, Exchange, Fault};
 use compare::sha384::{sha384, BLOCK_LENGTH};
 use compare::text::{base16, MAC_DIGITS};
 use held::confirm::{same_request, same_response};
-use held::{expected, rounds, NamedNumbers};
+use held::{change_digit, expected, first, rounds, NamedNumbers};
 use obscurlane::{confirm_request, confirm_response, hmac_of, ConfirmRefusal, Reason, Refusal};
 
 // ---- HMAC
@@ -74,11 +74,6 @@ const TOO_SHORT: NamedNumbers = (0, (10, 0));
 const WRONG_Z: NamedNumbers = (0, (16, 0));
 const OTHER_REQUEST: NamedNumbers = (0, (17, 0));
 const WRONG_TAG: NamedNumbers = (0, (18, 0));
-
-/// Another digit in one place.
-fn change_digit(digits: &mut [u8], place: usize) {
-    digits[place] = if digits[place] == b'0' { b'1' } else { b'0' };
-}
 
 #[test]
 fn right_tags_and_their_keys() {
@@ -239,11 +234,6 @@ fn refused(random: &mut Random, kind: Kind, which: u8) -> (Vec<u8>, NamedNumbers
     let record = sample::faulty(random, kind, &[fault]);
     let refusal = expected(record::read(&record, &[kind])).expect_err("it has a fault");
     (record, (which, refusal))
-}
-
-/// What is wrong that comes first, if anything is.
-fn first<const COUNT: usize>(wrong: [(bool, NamedNumbers); COUNT]) -> Result<(), NamedNumbers> {
-    wrong.into_iter().find(|(is_there, _)| *is_there).map_or(Ok(()), |(_, refusal)| Err(refusal))
 }
 
 /// Every choice of things that are wrong at once: the first in the order decides, and the others are not heard of.

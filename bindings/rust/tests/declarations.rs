@@ -8,7 +8,7 @@ use std::path::{Path, PathBuf};
 
 /// The structs that are handed over: as `crates/exports` names them, and in C. `sys` has them by the words of the latter behind the
 /// first.
-const STRUCTS: [(&str, &str); 13] = [
+const STRUCTS: [(&str, &str); 16] = [
     ("reading::Answer", "obscurlane_answer"),
     ("fields::Place", "obscurlane_place"),
     ("put::Written", "obscurlane_written"),
@@ -22,6 +22,9 @@ const STRUCTS: [(&str, &str); 13] = [
     ("sha384::Sha384", "obscurlane_sha384_state"),
     ("Tag", "obscurlane_tag"),
     ("confirm::Confirmed", "obscurlane_confirmed"),
+    ("Sha1Digest", "obscurlane_sha1_digest"),
+    ("sha1::Words", "obscurlane_sha1_words"),
+    ("sha1::Sha1", "obscurlane_sha1_state"),
 ];
 
 // ---- the files
@@ -85,8 +88,17 @@ fn function(signature: &str) -> Function {
     let signature = signature.split(" ensures").next().unwrap_or_default();
     let (name, rest) = signature.split_once('(').expect("parameters");
     let (parameters, answer) = rest.split_once(')').expect("the end of the parameters");
-    let answer = answer.strip_prefix(" -> ").expect("every function answers");
+    let answer = without_module(answer.strip_prefix(" -> ").expect("every function answers"));
     Function { name: name.to_owned(), parameters: typed(parameters), answer: answer.to_owned() }
+}
+
+/// A struct of `exports` itself by its name alone, whichever module of it has the struct.
+fn without_module(of_type: &str) -> &str {
+    let is_module = |name: &str| in_root(&format!("crates/exports/src/{name}.rt")).is_file();
+    match of_type.split_once("::") {
+        Some((module, name)) if is_module(module) => name,
+        _ => of_type,
+    }
 }
 
 /// The names and types of parameters, or of a struct's fields.
@@ -187,6 +199,7 @@ fn in_c(of_type: &str) -> &str {
     let number = match of_type {
         "u8" => Some("uint8_t"),
         "u16" => Some("uint16_t"),
+        "u32" => Some("uint32_t"),
         "u64" => Some("uint64_t"),
         "usize" => Some("size_t"),
         "bool" => Some("bool"),
@@ -306,7 +319,7 @@ fn header_names() -> Vec<(String, String)> {
 }
 
 fn is_length(name: &str) -> bool {
-    name.starts_with("LONGEST_") || name.ends_with("_BYTES")
+    name.starts_with("LONGEST_") || name.ends_with("_BYTES") || name == "TRAILER"
 }
 
 /// The numbers of a group of the header's names, by the rest of each name. Lengths are in no group.
@@ -343,7 +356,7 @@ fn hold<T: Ord + std::fmt::Debug>(declared: Vec<T>, exported: Vec<T>) {
 #[test]
 fn the_header_declares_every_function() {
     let mut there: Vec<String> = functions().iter().map(c_declaration).collect();
-    assert_eq!(there.len(), 36);
+    assert_eq!(there.len(), 44);
     there.extend(functions_of_c());
     hold(header_declarations(), there);
 }

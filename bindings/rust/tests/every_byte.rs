@@ -1,5 +1,5 @@
 //! Every byte value in one place of what is otherwise right, held against `compare/`: in every place of every text type, of an
-//! attribute list, of a key agreement text and of a file, and in the kinds of places that a record has.
+//! attribute list, of a key agreement text, of a trailer and of a file, and in the kinds of places that a record has.
 
 mod held;
 
@@ -7,12 +7,14 @@ use compare::kind::{FieldType, Kind};
 use compare::random::Random;
 use compare::record;
 use compare::sample::{self, Exchange, PublicKey};
+use compare::trailed::line_of;
 use compare::worked::worked;
 use compare::{agreement, file, text};
 use held::attributes::{same_attributes, same_named};
 use held::confirm::{same_request, same_response};
 use held::fingerprint::same_fingerprint;
 use held::reading::{same_identity, same_record};
+use held::trailed::{same_trailed, same_trailed_at, same_trailed_file, same_written};
 use held::{expected, expected_at, line_numbers, numbers, place, same_output, Seen};
 use obscurlane::LONGEST_RECORD;
 
@@ -326,6 +328,64 @@ fn items() {
             );
         }
     });
+}
+
+/// In the record of a line: with the check and the trailer made right again, with the check alone, and as they were. And the
+/// record written with its trailer.
+#[test]
+fn manufacturers_lines() {
+    let mut seen = Seen::default();
+    for (kind, fields) in fields_of_kinds() {
+        let line = line_of(&sample::of_kind(kind, &fields));
+        let end = line.len() - obscurlane::TRAILER;
+        for place in places(kind, &fields) {
+            at_place(&line, place, |line| {
+                let record = sample::resealed(&line[..end]);
+                seen.add(&same_trailed(&line_of(&record)));
+                seen.add(&same_trailed(&[&record[..], &line[end..]].concat()));
+                seen.add(&same_trailed(line));
+                seen.add(&same_written(&record, line.len()));
+            });
+        }
+    }
+    seen.expect([0, 2, 3, 4, 5, 6, 7, 14, 20], 10);
+}
+
+/// In every place of a trailer, of a short line and of the longest.
+#[test]
+fn trailers() {
+    let mut seen = Seen::default();
+    for (kind, fields) in fields_of_kinds() {
+        let line = line_of(&sample::of_kind(kind, &fields));
+        for place in line.len() - obscurlane::TRAILER..line.len() {
+            at_place(&line, place, |line| seen.add(&same_trailed(line)));
+        }
+    }
+    seen.expect([0], 10);
+    seen.expect([19, 20], 1000);
+}
+
+/// In every place of a short message of SHA-1, and of one of more than a block.
+#[test]
+fn short_hashes() {
+    for length in [3, 70] {
+        everywhere(&Random::with_seed(67).bytes(length), |bytes| {
+            assert_eq!(obscurlane::sha1_of(bytes), compare::sha1::sha1(bytes), "{bytes:?}");
+        });
+    }
+}
+
+/// Two lines with their trailers, and every byte value in every place of them, the line feeds among them.
+#[test]
+fn manufacturers_files() {
+    let line = line_of(&sample::record(&mut Random::with_seed(68), Kind::VkloadResp));
+    let file = [&line[..], b"\n", &line, b"\n"].concat();
+    let mut seen = Seen::default();
+    everywhere(&file, |file| {
+        same_trailed_file(file).iter().for_each(|line| seen.add(&line.0));
+        same_trailed_at(file, line.len() + 1);
+    });
+    seen.expect([0, 4, 11, 19, 20], 10);
 }
 
 /// Two lines, and every byte value in every place of them, the line feeds among them.

@@ -5,101 +5,47 @@ mod held;
 use compare::kind::Kind;
 use compare::random::Random;
 use compare::sample::{self, Fault, PublicKey, Signed, Subject};
-use compare::sha384::{published, sha384, BLOCK_LENGTH};
-use compare::text::{base16, LONGEST_IDENT, PRINT_DIGITS};
+use compare::text::{LONGEST_IDENT, PRINT_DIGITS};
 use held::fingerprint::same_fingerprint;
-use held::{expect_share, rounds, Seen};
-use obscurlane::{sha384_of, Sha384};
+use held::{change_digit, expect_share, hash, rounds, Seen};
+use obscurlane::Sha384;
 
 // ---- the hash
 
-/// Longer than two blocks and what the end of a message needs.
-const LONG: usize = 300;
-
-fn of_pieces(pieces: &[&[u8]]) -> Sha384 {
-    pieces.iter().fold(Sha384::begin(), |sha384, piece| sha384.add(piece))
-}
-
 #[test]
 fn published_examples() {
-    for (message, expected) in published() {
-        assert_eq!(base16(&sha384_of(&message)), expected, "{} bytes", message.len());
-        for length in [1, 127, 128, 129, 1000] {
-            let pieces: Vec<&[u8]> = message.chunks(length).collect();
-            assert_eq!(base16(&of_pieces(&pieces).end()), expected, "in pieces of {length}");
-        }
-    }
+    hash::published_examples::<Sha384>(&[1, 127, 128, 129, 1000]);
 }
 
-/// Every length, and every place that a message of this length can be cut at.
 #[test]
 fn every_length_and_every_cut() {
-    let bytes = Random::with_seed(81).bytes(LONG);
-    for length in 0..=LONG {
-        let message = &bytes[..length];
-        assert_eq!(sha384_of(message), sha384(message), "{length} bytes");
-        for cut in 0..=length {
-            let (front, back) = message.split_at(cut);
-            let state = of_pieces(&[front, back]);
-            assert_eq!(state.end(), sha384_of(message), "{length} bytes, cut at {cut}");
-            assert_eq!(state, of_pieces(&[message]), "{length} bytes, cut at {cut}");
-        }
-    }
+    hash::every_length_and_every_cut::<Sha384>(81);
 }
 
-/// A state that is ended after every piece and goes on.
+#[test]
+fn pieces_of_every_size() {
+    hash::pieces_of_every_size::<Sha384>(89);
+}
+
 #[test]
 fn random_cuts() {
-    let mut random = Random::with_seed(82);
-    for _ in 0..rounds() {
-        let length = random.below(3 * LONG);
-        let bytes = random.bytes(length);
-        let (mut state, mut given) = (Sha384::begin(), 0);
-        while given < length {
-            let most = random.one_of(&[1, 16, BLOCK_LENGTH + 1, 3 * BLOCK_LENGTH]);
-            let next = length.min(given + random.below(most + 1));
-            state = state.add(&bytes[given..next]);
-            given = next;
-            if random.once_in(8) {
-                assert_eq!(state.end(), sha384(&bytes[..given]), "{:?}", &bytes[..given]);
-            }
-        }
-        assert_eq!(state.end(), sha384(&bytes), "{bytes:?}");
-        assert_eq!(state, Sha384::begin().add(&bytes), "{bytes:?}");
-    }
+    hash::random_cuts::<Sha384>(82);
 }
 
-/// Bytes that are all alike, on each side of the ends of blocks.
+/// On each side of the ends of blocks.
 #[test]
 fn every_byte_value() {
-    for byte in 0..=255 {
-        for length in [1, 111, 112, 127, 128, 129, 239, 240, 256] {
-            let message = vec![byte; length];
-            assert_eq!(sha384_of(&message), sha384(&message), "{length} bytes {byte}");
-        }
-    }
+    hash::every_byte_value::<Sha384>(&[1, 111, 112, 127, 128, 129, 239, 240, 256]);
 }
 
-/// Two messages that begin alike, by copies of one state.
 #[test]
 fn a_state_goes_on_in_two_ways() {
-    let mut random = Random::with_seed(83);
-    for length in 0..=LONG {
-        let [front, one, other] = [length, 130, 131].map(|length| random.bytes(length));
-        let begun = Sha384::begin().add(&front);
-        let (first, second) = (begun.add(&one), begun.add(&other));
-        assert_eq!(begun.end(), sha384(&front));
-        assert_eq!(first.end(), sha384(&[front.clone(), one].concat()));
-        assert_eq!(second.end(), sha384(&[front, other].concat()));
-    }
-    assert_eq!(Sha384::default(), Sha384::begin());
-    assert_eq!(Sha384::default().add(b""), Sha384::begin());
+    hash::a_state_goes_on_in_two_ways::<Sha384>(83, [130, 131]);
 }
 
 #[test]
 fn a_state_does_not_show_what_it_was_given() {
-    let shown = format!("{:?}", Sha384::begin().add(b"secret"));
-    assert_eq!(shown, "Sha384 { .. }");
+    hash::a_state_does_not_show_what_it_was_given::<Sha384>();
 }
 
 // ---- the Fingerprint
@@ -112,8 +58,7 @@ fn right_key(random: &mut Random) -> PublicKey {
 
 /// Another digit in one place of the Fingerprint.
 fn misprint(random: &mut Random, key: &mut PublicKey) {
-    let place = random.below(PRINT_DIGITS);
-    key.print[place] = if key.print[place] == b'0' { b'1' } else { b'0' };
+    change_digit(&mut key.print, random.below(PRINT_DIGITS));
 }
 
 /// Another text in one of the parts that are hashed.

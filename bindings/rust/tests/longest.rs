@@ -1,16 +1,18 @@
 //! Each `LONGEST_` constant is the length of the longest thing of its name: it is made, and one byte less is no room for it. Each
-//! `_BYTES` constant is the only length that there is of its name.
+//! `_BYTES` constant, and `TRAILER`, is the only length that there is of its name.
 //! What the table of kinds allows is computed by `compare/`.
 
 use compare::kind::{FieldType, Kind};
 use compare::random::Random;
 use compare::sample::{self, Exchange, PublicKey};
 use obscurlane::{confirm_request, confirm_response, ConfirmRefusal};
-use obscurlane::{Reason, Record, Refusal, KEY_BYTES, LONGEST_READ, Z_BYTES};
+use obscurlane::{
+    Reason, Record, Refusal, KEY_BYTES, LONGEST_READ, LONGEST_TRAILED, TRAILER, Z_BYTES,
+};
 
 /// What a call writes with as much room as it takes; one byte less is no room.
 fn made(call: impl Fn(&mut [u8]) -> Result<usize, Refusal>) -> Vec<u8> {
-    let mut out = [0; LONGEST_READ];
+    let mut out = [0; 2 * LONGEST_READ];
     let len = call(&mut out).expect("ample room");
     let made = out[..len].to_vec();
     assert_eq!((call(&mut out[..len]), &out[..len]), (Ok(len), &made[..]));
@@ -150,6 +152,31 @@ fn keys_and_what_they_come_from() {
     let keys = compare::confirm::Keys::of(z, &request);
     assert_eq!(mac_key[..], [&keys.mac_key[..], &[0xA5]].concat());
     assert_eq!(kek[..], [&keys.kek[..], &[0xA5]].concat());
+}
+
+/// The lines of the longest record of each kind, of which a wrapped key is the longest; and of one byte more.
+#[test]
+fn lines_with_a_trailer() {
+    for kind in Kind::RECORDS {
+        let record = longest_record(kind);
+        let line = made(|out| obscurlane::write_trailed(&record, out));
+        assert_eq!(line, compare::trailed::line_of(&record), "{kind:?}");
+        assert_eq!(line.len(), record.len() + TRAILER, "{kind:?}");
+        assert_eq!(Record::read_trailed(&line), Record::read(&record), "{kind:?}");
+        assert!(line.len() <= LONGEST_TRAILED, "{kind:?}");
+    }
+    let (longest, longer) = (obscurlane::LONGEST_RECORD, obscurlane::LONGEST_RECORD + 1);
+    let mut random = Random::with_seed(56);
+    let [longest, longer] = [longest, longer].map(|length| {
+        let fields = sample::wrapped_key_fields(&mut random, length);
+        sample::of_kind(Kind::WrappedKey, &fields)
+    });
+    let line = made(|out| obscurlane::write_trailed(&longest, out));
+    assert_eq!(line.len(), LONGEST_TRAILED);
+    assert!(Record::read_trailed(&line).is_ok());
+    let refusal = Refusal { reason: Reason::TooLong, field: None };
+    assert_eq!(Record::read_trailed(&compare::trailed::line_of(&longer)), Err(refusal));
+    assert_eq!(obscurlane::write_trailed(&longer, &mut [0; 2 * LONGEST_READ]), Err(refusal));
 }
 
 #[test]

@@ -209,6 +209,58 @@ fn the_file_of_appendix_a() {
     assert_eq!(records[1..], [Ok(Kind::Key); 5]);
 }
 
+/// The signed key of the module as a manufacturer sends it: read by its names, found in a file, and written again.
+#[test]
+fn the_line_of_the_signed_module_key() {
+    let (record, line) = (worked("PUBKEY_SM"), worked("PUBKEY_SM_FILELINE"));
+    let read = Record::read_trailed(&line).expect("accepted");
+    assert_eq!((read.kind(), read.bytes()), (Kind::Ecdh, &record[..]));
+    let View::PublicKey(key) = read.view() else { panic!("no key") };
+    assert_eq!(key.subject.bytes, worked("ID_SM"));
+    assert_eq!(key.q, worked("Q_SM"));
+    assert_eq!(key.issuer.map(|issuer| issuer.bytes.to_vec()), Some(worked("ID_MAN")));
+    assert_eq!(key.signature, Some(&worked("SIG_SM")[..]));
+    assert_eq!(key.subject.bytes.as_ptr(), line[10..].as_ptr());
+
+    let hash = obscurlane::sha1_of(&[&record[..], b"\n"].concat());
+    assert_eq!(base16(&hash).as_bytes(), worked("PUBKEY_SM_SHA1"));
+    let mut out = [0; obscurlane::LONGEST_TRAILED];
+    assert_eq!(obscurlane::write_trailed(&record, &mut out), Ok(576));
+    assert_eq!(out[..576], line);
+
+    let file = [&line[..], b"\n", &line].concat();
+    let lines: Vec<_> = obscurlane::trailed_lines(&file).collect();
+    assert_eq!(lines.len(), 2);
+    assert_eq!((lines[0].start, lines[0].bytes, lines[0].next), (0, &line[..], 577));
+    assert_eq!(lines[0].answer, Ok(Kind::Ecdh));
+    assert_eq!(lines[1].answer.map_err(|refusal| refusal.reason), Err(Reason::Unfinished));
+    let totals = obscurlane::Totals { lines: 2, accepted: 1 };
+    assert_eq!(obscurlane::count_trailed(&file), totals);
+}
+
+/// Every record and its line; an identity has none.
+#[test]
+fn lines_of_every_value() {
+    for name in RECORDS {
+        let record = worked(name);
+        let mut out = [0; obscurlane::LONGEST_TRAILED];
+        let len = obscurlane::write_trailed(&record, &mut out).expect(name);
+        assert_eq!(len, record.len() + obscurlane::TRAILER, "{name}");
+        assert_eq!(Record::read_trailed(&out[..len]), Record::read(&record), "{name}");
+        let refusal = Record::read_trailed(&record).expect_err(name);
+        assert_eq!((refusal.reason, refusal.field), (Reason::MissingTrailer, None), "{name}");
+        out[len - 1] = if out[len - 1] == b'0' { b'1' } else { b'0' };
+        let refusal = Record::read_trailed(&out[..len]).expect_err(name);
+        assert_eq!((refusal.reason, refusal.field), (Reason::WrongHash, None), "{name}");
+    }
+    for name in IDENTITIES {
+        let mut out = [0; obscurlane::LONGEST_TRAILED];
+        let refusal = obscurlane::write_trailed(&worked(name), &mut out).expect_err(name);
+        assert_eq!((refusal.reason, refusal.field), (Reason::UnknownKind, None), "{name}");
+        assert_eq!(out, [0; obscurlane::LONGEST_TRAILED], "{name}");
+    }
+}
+
 /// What reads other kinds alone.
 #[test]
 fn calls_that_take_no_wrapped_key() {

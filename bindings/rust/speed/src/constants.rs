@@ -1,4 +1,4 @@
-//! The constants of SHA-384 (FIPS 180-4, 4.2.3 and 5.3.4), for both programs of plain Rust.
+//! The constants of SHA-384 (FIPS 180-4, 4.2.3 and 5.3.4) and of SHA-1 (4.2.1 and 5.3.1), for both programs of plain Rust.
 
 /// The words before the first block.
 pub const START: [u64; 8] = [
@@ -36,3 +36,9 @@ pub const ROUND_WORDS: [u64; 80] = [
     0x28DB_77F5_2304_7D84, 0x32CA_AB7B_40C7_2493, 0x3C9E_BE0A_15C9_BEBC, 0x431D_67C4_9C10_0D4C,
     0x4CC5_D4BE_CB3E_42B6, 0x597F_299C_FC65_7E2A, 0x5FCB_6FAB_3AD6_FAEC, 0x6C44_198C_4A47_5817,
 ];
+
+/// The words of SHA-1 before the first block.
+pub const SHA1_START: [u32; 5] = [0x6745_2301, 0xEFCD_AB89, 0x98BA_DCFE, 0x1032_5476, 0xC3D2_E1F0];
+
+/// A word for each twenty rounds of SHA-1.
+pub const SHA1_ROUND_WORDS: [u32; 4] = [0x5A82_7999, 0x6ED9_EBA1, 0x8F1B_BCDC, 0xCA62_C1D6];

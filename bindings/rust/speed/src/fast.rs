@@ -4,6 +4,7 @@
 
 use crate::fast_confirm;
 use crate::fast_hash::{self, Sha384};
+use crate::fast_trailed;
 use crate::kinds::{
     Kind, Type, IDENTITIES, PUBLIC_KEYS, RECORDS, WRONG_IDENTITY, WRONG_KIND, WRONG_TEXT,
 };
@@ -70,7 +71,7 @@ pub const fn value(character: u8) -> u8 {
 }
 
 /// No early end, so that the loop becomes wide instructions.
-fn are_hexadecimal(text: &[u8]) -> bool {
+pub fn are_hexadecimal(text: &[u8]) -> bool {
     text.iter().fold(true, |all, &byte| all & is_hexadecimal(byte))
 }
 
@@ -368,6 +369,20 @@ fn unless_miscounted(kind: Kind, fields: &[u8], refusal: Refusal) -> Refusal {
     }
 }
 
+/// The line at a place of a file, read by this call.
+fn line_by(
+    file: &[u8],
+    place: usize,
+    read: impl FnOnce(&[u8]) -> Result<usize, Refusal>,
+) -> Option<Line> {
+    let rest = file.get(place..).filter(|rest| !rest.is_empty())?;
+    let (len, next, answer) = match find(b'\n', rest) {
+        Some(len) => (len, place + len + 1, read(&rest[..len])),
+        None => (rest.len(), file.len(), Err(UNFINISHED)),
+    };
+    Some(Line { start: place, len, next, answer })
+}
+
 // ---- writing
 
 /// Writes from the front of an output that is long enough.
@@ -464,12 +479,7 @@ impl Side for Fast {
     }
 
     fn line_at(file: &[u8], place: usize) -> Option<Line> {
-        let rest = file.get(place..).filter(|rest| !rest.is_empty())?;
-        let (len, next, answer) = match find(b'\n', rest) {
-            Some(len) => (len, place + len + 1, Fast::read(Reads::Records, &rest[..len])),
-            None => (rest.len(), file.len(), Err(UNFINISHED)),
-        };
-        Some(Line { start: place, len, next, answer })
+        line_by(file, place, |line| Fast::read(Reads::Records, line))
     }
 
     fn build(name: &[u8], bytes: &[u8], lens: &[usize], out: &mut [u8]) -> Result<usize, Refusal> {
@@ -542,5 +552,17 @@ impl Side for Fast {
 
     fn confirm_response(z: &[u8], request: &[u8], response: &[u8]) -> Result<(), NamedRefusal> {
         fast_confirm::confirm_response(z, request, response)
+    }
+
+    fn sha1_of(bytes: &[u8]) -> [u8; 20] {
+        fast_trailed::sha1_of(bytes)
+    }
+
+    fn trailed_at(file: &[u8], place: usize) -> Option<Line> {
+        line_by(file, place, fast_trailed::read_trailed)
+    }
+
+    fn write_trailed(record: &[u8], out: &mut [u8]) -> Result<usize, Refusal> {
+        fast_trailed::write_trailed(record, out)
     }
 }

@@ -4,6 +4,7 @@ use crate::side::{Pieces, Reads, PRINT_TO_END};
 use compare::kind::Kind;
 use compare::random::Random;
 use compare::sample::{self, Cards, Exchange, PublicKey, Signed, Subject};
+use compare::trailed::line_of;
 use obscurlane::{KEY_BYTES, Z_BYTES};
 
 /// A record as bytes and as what it is built from.
@@ -137,6 +138,8 @@ pub struct Inputs {
     pub wrapped_keys: Vec<Sample>,
     pub printed: Vec<Printed>,
     pub agreed: Vec<Agreed>,
+    /// The printed keys as a manufacturer sends them, each with its trailer and a line feed.
+    pub trailed: Vec<u8>,
     /// Messages are parts of it, each of which starts a byte behind the one before.
     bytes: Vec<u8>,
 }
@@ -163,11 +166,16 @@ impl Inputs {
         }
         let requests = (0..count).map(|_| sample::record(random, Kind::VkloadReq)).collect();
         let wrapped_keys = (0..count).map(|_| Sample::wrapped_key(wrapped_keys)).collect();
-        let printed = (0..count).map(|_| Printed::new(hashed)).collect();
+        let printed: Vec<Printed> = (0..count).map(|_| Printed::new(hashed)).collect();
+        let mut trailed = Vec::new();
+        for key in &printed {
+            trailed.extend(line_of(&key.record));
+            trailed.push(b'\n');
+        }
         let worked = Exchange::worked();
         let agreed = (0..count).map(|_| Agreed::new(agreed, &worked)).collect();
         let bytes = hashed.bytes(MESSAGES[2] + count);
-        Inputs { samples, file, requests, wrapped_keys, printed, agreed, bytes }
+        Inputs { samples, file, requests, wrapped_keys, printed, agreed, trailed, bytes }
     }
 
     pub fn messages(&self, length: usize) -> impl Iterator<Item = &[u8]> {

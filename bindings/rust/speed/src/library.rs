@@ -25,6 +25,11 @@ fn read(reads: Reads, bytes: &[u8]) -> Result<Record<'_>, Refusal> {
     read.map_err(refusal)
 }
 
+fn line(line: obscurlane::Line<'_>) -> Line {
+    let answer = line.answer.map(|kind| kind as usize).map_err(refusal);
+    Line { start: line.start, len: line.bytes.len(), next: line.next, answer }
+}
+
 impl Side for Library {
     const NAME: &'static str = "library";
 
@@ -54,9 +59,7 @@ impl Side for Library {
     }
 
     fn line_at(file: &[u8], place: usize) -> Option<Line> {
-        let line = obscurlane::line_at(file, place)?;
-        let answer = line.answer.map(|kind| kind as usize).map_err(refusal);
-        Some(Line { start: line.start, len: line.bytes.len(), next: line.next, answer })
+        obscurlane::line_at(file, place).map(line)
     }
 
     fn build(name: &[u8], bytes: &[u8], lens: &[usize], out: &mut [u8]) -> Result<usize, Refusal> {
@@ -102,5 +105,17 @@ impl Side for Library {
 
     fn confirm_response(z: &[u8], request: &[u8], response: &[u8]) -> Result<(), NamedRefusal> {
         obscurlane::confirm_response(z, request, response).map_err(named)
+    }
+
+    fn sha1_of(bytes: &[u8]) -> [u8; 20] {
+        obscurlane::sha1_of(bytes)
+    }
+
+    fn trailed_at(file: &[u8], place: usize) -> Option<Line> {
+        obscurlane::trailed_at(file, place).map(line)
+    }
+
+    fn write_trailed(record: &[u8], out: &mut [u8]) -> Result<usize, Refusal> {
+        obscurlane::write_trailed(record, out).map_err(refusal)
     }
 }

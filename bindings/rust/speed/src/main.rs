@@ -9,12 +9,14 @@ mod constants;
 mod fast;
 mod fast_confirm;
 mod fast_hash;
+mod fast_trailed;
 mod inputs;
 mod kinds;
 mod library;
 mod plain;
 mod plain_confirm;
 mod plain_hash;
+mod plain_trailed;
 mod same;
 mod side;
 
@@ -22,7 +24,7 @@ use beside::{serve, Beside, SERVE};
 use fast::Fast;
 use inputs::{messages_among, Draws, Inputs, Sample, MESSAGES, TAGGED};
 use library::Library;
-use obscurlane::{KEY_BYTES, LONGEST_MODULE_TEXT, LONGEST_PUBKEY};
+use obscurlane::{KEY_BYTES, LONGEST_MODULE_TEXT, LONGEST_PUBKEY, TRAILER};
 use plain::Plain;
 use same::same_answers;
 use side::{Reads, Side, MOST_FIELDS};
@@ -151,6 +153,33 @@ fn confirming_a_response<S: Side>(inputs: &Inputs) {
     }
 }
 
+fn the_short_hash_of_a_record<S: Side>(inputs: &Inputs) {
+    for printed in &inputs.printed {
+        black_box(S::sha1_of(black_box(&printed.record)));
+    }
+}
+
+fn short_hashing<S: Side>(inputs: &Inputs) {
+    for message in inputs.messages(MESSAGES[2]) {
+        black_box(S::sha1_of(black_box(message)));
+    }
+}
+
+fn listing_with_trailers<S: Side>(inputs: &Inputs) {
+    let mut place = 0;
+    while let Some(line) = S::trailed_at(black_box(&inputs.trailed), place) {
+        place = black_box(line).next;
+    }
+}
+
+fn writing_with_a_trailer<S: Side>(inputs: &Inputs) {
+    let mut out = [0; LONGEST_PUBKEY + TRAILER];
+    for printed in &inputs.printed {
+        black_box(S::write_trailed(black_box(&printed.record), &mut out)).expect("written");
+        black_box(&out);
+    }
+}
+
 // ---- the measurement
 
 /// A line of the table: what each side does in a turn, and how often.
@@ -180,7 +209,7 @@ macro_rules! hashing {
     };
 }
 
-const ROWS: [Row; 18] = [
+const ROWS: [Row; 22] = [
     row!("reading", reading),
     row!("reading, all places", reading_all_places),
     row!("seven fields, one reading", seven_fields_one_reading),
@@ -199,6 +228,10 @@ const ROWS: [Row; 18] = [
     row!("HMAC, 276 bytes", tagging),
     row!("confirming a request", confirming_a_request),
     row!("confirming a response", confirming_a_response),
+    row!("SHA-1 of a record", the_short_hash_of_a_record),
+    Row { times: messages_among(MESSAGES[2], TURN), ..row!("SHA-1, 64 KB", short_hashing) },
+    row!("listing with trailers", listing_with_trailers),
+    row!("writing with a trailer", writing_with_a_trailer),
 ];
 
 /// Nanoseconds for a turn.

@@ -9,6 +9,7 @@ use crate::kinds::{
 };
 use crate::plain_confirm;
 use crate::plain_hash::{self, State};
+use crate::plain_trailed;
 use crate::side::{
     Fields, Line, NamedRefusal, Pieces, Reads, Refusal, Side, MISSING_CHECK, MISSING_PART,
     MOST_FIELDS, PRINT_TO_END, SHORT_OUTPUT, TOO_LONG, UNFINISHED, UNKNOWN_KIND, UNPAIRED,
@@ -38,7 +39,7 @@ fn crc_of(bytes: &[u8]) -> u16 {
     bytes.iter().fold(0xFFFF, |state, &byte| eight(state ^ u16::from(byte)))
 }
 
-fn hex_digit(value: u16) -> u8 {
+pub fn hex_digit(value: u16) -> u8 {
     b"0123456789ABCDEF"[usize::from(value & 15)]
 }
 
@@ -52,7 +53,7 @@ fn is_hexadecimal(byte: u8) -> bool {
     matches!(byte, b'0'..=b'9' | b'A'..=b'F')
 }
 
-fn is_hex(length: usize, text: &[u8]) -> bool {
+pub fn is_hex(length: usize, text: &[u8]) -> bool {
     text.len() == length && text.iter().all(|&byte| is_hexadecimal(byte))
 }
 
@@ -256,6 +257,20 @@ fn wanted(reads: Reads) -> &'static [Kind] {
     }
 }
 
+/// The line at a place of a file, read by this call.
+fn line_by(
+    file: &[u8],
+    place: usize,
+    read: impl FnOnce(&[u8]) -> Result<usize, Refusal>,
+) -> Option<Line> {
+    let rest = file.get(place..).filter(|rest| !rest.is_empty())?;
+    let (len, next, answer) = match rest.iter().position(|&byte| byte == b'\n') {
+        Some(len) => (len, place + len + 1, read(&rest[..len])),
+        None => (rest.len(), file.len(), Err(UNFINISHED)),
+    };
+    Some(Line { start: place, len, next, answer })
+}
+
 // ---- building
 
 /// Writes from the front of an output that is long enough.
@@ -390,12 +405,7 @@ impl Side for Plain {
     }
 
     fn line_at(file: &[u8], place: usize) -> Option<Line> {
-        let rest = file.get(place..).filter(|rest| !rest.is_empty())?;
-        let (len, next, answer) = match rest.iter().position(|&byte| byte == b'\n') {
-            Some(len) => (len, place + len + 1, Plain::read(Reads::Records, &rest[..len])),
-            None => (rest.len(), file.len(), Err(UNFINISHED)),
-        };
-        Some(Line { start: place, len, next, answer })
+        line_by(file, place, |line| Plain::read(Reads::Records, line))
     }
 
     fn build(name: &[u8], bytes: &[u8], lens: &[usize], out: &mut [u8]) -> Result<usize, Refusal> {
@@ -502,5 +512,17 @@ impl Side for Plain {
 
     fn confirm_response(z: &[u8], request: &[u8], response: &[u8]) -> Result<(), NamedRefusal> {
         plain_confirm::confirm_response(z, request, response)
+    }
+
+    fn sha1_of(bytes: &[u8]) -> [u8; 20] {
+        plain_trailed::sha1_of(bytes)
+    }
+
+    fn trailed_at(file: &[u8], place: usize) -> Option<Line> {
+        line_by(file, place, plain_trailed::read_trailed)
+    }
+
+    fn write_trailed(record: &[u8], out: &mut [u8]) -> Result<usize, Refusal> {
+        plain_trailed::write_trailed(record, out)
     }
 }

@@ -2,11 +2,12 @@
 //! are damaged or nothing at all.
 
 use crate::inputs::{Agreed, Inputs, Printed, Sample, MESSAGES, TAGGED};
-use crate::side::{Fields, NamedRefusal, Reads, Refusal, Side};
+use crate::side::{Fields, Line, NamedRefusal, Reads, Refusal, Side};
 use compare::kind::Kind;
 use compare::random::Random;
 use compare::sample::{self, Exchange, Fault, ListFault, PublicKey};
-use obscurlane::{KEY_BYTES, LONGEST_MODULE_TEXT, LONGEST_RECORD, Z_BYTES};
+use compare::trailed::line_of;
+use obscurlane::{KEY_BYTES, LONGEST_MODULE_TEXT, LONGEST_RECORD, TRAILER, Z_BYTES};
 
 /// The places of the fields, not only their bytes.
 fn places((kind, fields): (usize, Fields<'_>)) -> (usize, [Option<(*const u8, usize)>; 7]) {
@@ -57,16 +58,19 @@ fn same_building<A: Side, B: Side>(name: &[u8], bytes: &[u8], lens: &[usize], ro
     assert!(one == other, "{bytes:?} {lens:?}: {:?}, {:?}", one.0, other.0);
 }
 
-/// Gives back the number of lines.
-fn same_file<A: Side, B: Side>(file: &[u8]) -> usize {
-    let (mut place, mut lines) = (0, 0);
-    while let Some(line) = A::line_at(file, place) {
-        assert_eq!(Some(&line), B::line_at(file, place).as_ref());
+type LineCall = fn(&[u8], usize) -> Option<Line>;
+
+/// Gives back the number of lines, and of those that are accepted.
+fn same_file(file: &[u8], one: LineCall, other: LineCall) -> (usize, usize) {
+    let (mut place, mut lines, mut accepted) = (0, 0, 0);
+    while let Some(line) = one(file, place) {
+        assert_eq!(Some(&line), other(file, place).as_ref());
         place = line.next;
         lines += 1;
+        accepted += usize::from(line.answer.is_ok());
     }
-    assert_eq!(B::line_at(file, place), None);
-    lines
+    assert_eq!(other(file, place), None);
+    (lines, accepted)
 }
 
 /// A wrapped key of these fields, permitted or not, read and built with every sort of room.
@@ -99,6 +103,7 @@ fn same_messages<A: Side, B: Side>(inputs: &Inputs) {
     let measured = MESSAGES.iter().flat_map(|&length| inputs.messages(length));
     for message in short.chain(measured).chain([&b""[..]]) {
         assert_eq!(A::sha384_of(message), B::sha384_of(message), "{message:?}");
+        assert_eq!(A::sha1_of(message), B::sha1_of(message), "{message:?}");
     }
 }
 
@@ -192,6 +197,37 @@ fn same_confirmations<A: Side, B: Side>(random: &mut Random, agreed: &Agreed) {
     same_confirmation::<A, B>(z, &sample::anything(random), &sample::anything(random));
 }
 
+/// The record, whatever it is, written with its trailer where there is room.
+fn same_writing<A: Side, B: Side>(record: &[u8]) {
+    for room in [0, record.len() + TRAILER - 1, record.len() + TRAILER, LONGEST_RECORD + 100] {
+        let one = with_room(room, |out| A::write_trailed(record, out));
+        let other = with_room(room, |out| B::write_trailed(record, out));
+        assert!(one == other, "{record:?}: {:?}, {:?}", one.0, other.0);
+    }
+}
+
+/// A line by itself, damaged, with another trailer, and without one; of a record that is refused; and of anything. Each stands
+/// in a file, with its line feed and without.
+fn same_trailed<A: Side, B: Side>(random: &mut Random, record: &[u8]) {
+    let line = line_of(record);
+    let kind = PublicKey::of_record(record).kind;
+    let fault = random.one_of(Fault::of(kind));
+    let [refused, any] = [sample::faulty(random, kind, &[fault]), sample::anything(random)];
+    let other = [record, &line_of(&any)[any.len()..]].concat();
+    let mut misspelt = line.clone();
+    let place = line.len() - 1 - random.below(TRAILER);
+    misspelt[place] = random.one_of(b"0123456789ABCDEFabG#");
+    let damaged = sample::damaged_anywhere(random, &line, 2);
+    for line in [&line, &damaged, &other, &misspelt, &line_of(&refused), &line_of(&any)] {
+        same_file(line, A::trailed_at, B::trailed_at);
+        same_file(&[&line[..], b"\n"].concat(), A::trailed_at, B::trailed_at);
+    }
+    for record in [record, &refused, &any, &line] {
+        same_file(&[record, b"\n"].concat(), A::trailed_at, B::trailed_at);
+        same_writing::<A, B>(record);
+    }
+}
+
 /// Stops where the two differ.
 pub fn same_answers<A: Side, B: Side>(inputs: &Inputs) {
     let mut random = Random::with_seed(2027);
@@ -219,6 +255,7 @@ pub fn same_answers<A: Side, B: Side>(inputs: &Inputs) {
     same_pieces::<A, B>(&mut random, inputs);
     for printed in &inputs.printed {
         same_fingerprints::<A, B>(&mut random, printed);
+        same_trailed::<A, B>(&mut random, &printed.record);
     }
     same_tags::<A, B>(inputs);
     for agreed in &inputs.agreed {
@@ -230,6 +267,11 @@ pub fn same_answers<A: Side, B: Side>(inputs: &Inputs) {
         same_texts::<A, B>(&sample::anything(&mut random), LONGEST_MODULE_TEXT);
     }
     let count = inputs.samples.len();
-    assert_eq!(same_file::<A, B>(&inputs.file), count);
-    same_file::<A, B>(&sample::damaged_anywhere(&mut random, &inputs.file, count));
+    assert_eq!(same_file(&inputs.file, A::line_at, B::line_at).0, count);
+    let damaged = sample::damaged_anywhere(&mut random, &inputs.file, count);
+    same_file(&damaged, A::line_at, B::line_at);
+    let accepted = same_file(&inputs.trailed, A::trailed_at, B::trailed_at);
+    assert_eq!(accepted, (count, count));
+    let damaged = sample::damaged_anywhere(&mut random, &inputs.trailed, count);
+    same_file(&damaged, A::trailed_at, B::trailed_at);
 }

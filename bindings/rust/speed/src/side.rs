@@ -17,6 +17,8 @@ pub const WRONG_FINGERPRINT: Refusal = (15, 0);
 pub const WRONG_Z: Refusal = (16, 0);
 pub const OTHER_REQUEST: Refusal = (17, 0);
 pub const WRONG_TAG: Refusal = (18, 0);
+pub const MISSING_TRAILER: Refusal = (19, 0);
+pub const WRONG_HASH: Refusal = (20, 0);
 
 /// A refusal, and the record whose own it is: 1 the request, 2 the response, 0 neither.
 pub type NamedRefusal = (u8, Refusal);
@@ -82,4 +84,9 @@ pub trait Side {
     ) -> Result<(), NamedRefusal>;
     /// Reads a load request and the response to it, and compares the response's MacTag with the right one.
     fn confirm_response(z: &[u8], request: &[u8], response: &[u8]) -> Result<(), NamedRefusal>;
+    fn sha1_of(bytes: &[u8]) -> [u8; 20];
+    /// The line at a place of a manufacturer's file, with its trailer.
+    fn trailed_at(file: &[u8], place: usize) -> Option<Line>;
+    /// Reads a record, and writes it with its trailer.
+    fn write_trailed(record: &[u8], out: &mut [u8]) -> Result<usize, Refusal>;
 }

@@ -5,7 +5,9 @@
 pub mod attributes;
 pub mod confirm;
 pub mod fingerprint;
+pub mod hash;
 pub mod reading;
+pub mod trailed;
 
 use compare::file::{self, Step};
 use compare::refusal::Refusal as Expected;
@@ -75,6 +77,16 @@ pub fn place(part: &[u8]) -> (*const u8, usize) {
     (part.as_ptr(), part.len())
 }
 
+/// Another digit in one place.
+pub fn change_digit(digits: &mut [u8], place: usize) {
+    digits[place] = if digits[place] == b'0' { b'1' } else { b'0' };
+}
+
+/// What is wrong that comes first, if anything is.
+pub fn first<T, const COUNT: usize>(wrong: [(bool, T); COUNT]) -> Result<(), T> {
+    wrong.into_iter().find(|(is_there, _)| *is_there).map_or(Ok(()), |(_, refusal)| Err(refusal))
+}
+
 /// A line of a file: the name of its kind or its refusal, its start, its length, and the next place.
 pub type LineNumbers = (Result<&'static str, Numbers>, usize, usize, usize);
 
@@ -91,17 +103,22 @@ pub fn expected_line(line: file::Line) -> LineNumbers {
     (answer, line.start as usize, line.length as usize, line.next as usize)
 }
 
-/// The line that `compare/` finds at a place; none where the file is finished.
-pub fn expected_at(file: &[u8], place: usize) -> Option<LineNumbers> {
-    match file::line_at(file, place as u64) {
+/// What `compare/` finds at a place; none where the file is finished.
+pub fn expected_step(step: Step) -> Option<LineNumbers> {
+    match step {
         Step::Finished { .. } => None,
         Step::Read(line) => Some(expected_line(line)),
     }
 }
 
+/// The line that `compare/` finds at a place of a file; none where it is finished.
+pub fn expected_at(file: &[u8], place: usize) -> Option<LineNumbers> {
+    expected_step(file::line_at(file, place as u64))
+}
+
 /// How often each number was answered, 0 being accepted.
 #[derive(Debug, Default)]
-pub struct Seen([usize; 19]);
+pub struct Seen([usize; 21]);
 
 impl Seen {
     pub fn add<T>(&mut self, answer: &Result<T, Numbers>) {

@@ -40,7 +40,7 @@ fn by_name<'a>(record: &Record<'a>) -> Vec<(&'a [u8], Option<obscurlane::Kind>)>
 }
 
 /// What the crate read: the same by number, by name, and in order.
-fn read_numbers(record: &Record<'_>) -> ReadNumbers {
+pub fn read_numbers(record: &Record<'_>) -> ReadNumbers {
     assert!(record.fields().map(|field| (field.bytes, field.identity)).eq(by_name(record)));
     let fields = record.fields().map(|field| {
         assert_eq!(record.field(field.number).map(place), Some(place(field.bytes)));
@@ -50,7 +50,7 @@ fn read_numbers(record: &Record<'_>) -> ReadNumbers {
 }
 
 /// What `compare/` read.
-fn expected_read(record: record::Record<'_>) -> ReadNumbers {
+pub fn expected_read(record: record::Record<'_>) -> ReadNumbers {
     let entries = record.kind.fields().iter().zip(&record.fields);
     let fields = (1..).zip(entries).map(|(number, (entry, field))| {
         let is_identity = matches!(entry.field_type, FieldType::Identity(_)) && !field.is_empty();
