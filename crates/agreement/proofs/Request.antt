@@ -1,7 +1,7 @@
 -- What is known of an accepted record that was to be of one kind, and of an accepted request: its fields go into a text.
 -- Assumes nothing.
 use Prim.Native.Nat.{ℕ, zero, suc, _≤_}
-use mathlib.Core.Path.{_≡_, sym, ap, ap₂, _∙_}
+use mathlib.Core.Path.{_≡_, sym, ap, _∙_, subst}
 use mathlib.Core.List.{List, [], _∷_}
 use native.Mathlib.Omega.{arith}
 use native.Mathlib.Nat.{le-trans}
@@ -12,7 +12,7 @@ use Rattle.text.proofs.Tests.{less-or, allBelow, below}
 use Rattle.text.proofs.Types.{point-hex}
 use Rattle.format.specs.Kinds.{Kind, REQ, Field, Text, fieldsOf}
 use Rattle.format.specs.Build.{Fits, IsIdentity, Permitted, Built}
-use Rattle.format.specs.Read.{Outcome, accepted, fieldsIn, readOf}
+use Rattle.format.specs.Read.{accepted, fieldsIn, readOf}
 use Rattle.format.proofs.Table.{among-one, bounded, longestOf}
 use Rattle.format.proofs.Fields.{fit-length, fit-at, field-short}
 use Rattle.format.proofs.Exactly.{identity-tame, read-exact, read-says, its-fields, its-parts, its-few}
@@ -25,15 +25,20 @@ use Rattle.agreement.specs.Steps.{fieldNo, Suited, Places}
 
 -- ---- of an accepted record that was to be of one kind: its kind and its fields
 
+pub one-built : (k : Kind) (s : Bytes) {j : Kind} {fs : List Bytes} → readOf (k ∷ []) s ≡ accepted j fs → Built (k ∷ []) s k fs
+one-built k s {j} {fs} e =
+    let b = read-exact (k ∷ []) s j fs .0 e in
+    subst (λ (i : Kind). Built (k ∷ []) s i fs) (among-one j k (b .of-kind)) b
+
 module _ (k : Kind) (s : Bytes) (a : Answer) (e : a ≡ answerOf (readOf (k ∷ []) s)) (z : a .no ≡ 0) where
   pub one-read : readOf (k ∷ []) s ≡ accepted k (fieldsIn k s)
   one-read =
       let t = taken (Built (k ∷ []) s) (readOf (k ∷ []) s) a (read-says (k ∷ []) s) e z in
-      let j = among-one (t .kind) k (t .holds .of-kind) in
-      t .is ∙ ap₂ {C = Outcome} accepted j (sym (its-fields (t .holds)) ∙ ap (λ i. fieldsIn i s) j)
+      let b = one-built k s (t .is) in
+      read-exact (k ∷ []) s k (t .fields) .1 b ∙ ap (λ (fs : List Bytes). accepted k fs) (sym (its-fields b))
 
   built : Built (k ∷ []) s k (fieldsIn k s)
-  built = read-exact (k ∷ []) s k (fieldsIn k s) .0 one-read
+  built = one-built k s one-read
 
   pub one-permitted : Permitted k (fieldsIn k s)
   one-permitted = built .permitted

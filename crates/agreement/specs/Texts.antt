@@ -2,17 +2,15 @@
 -- first (any kind but VKLOAD.REQ.1 answers 2, in its normal place), then 10.
 -- Assumes nothing.
 use Prim.Native.Nat.{ℕ}
-use mathlib.Core.Bool.{cond}
 use mathlib.Core.List.{List, [], _∷_}
-use lib.ListN.{length, getD}
-use lib.Dec.{leb}
+use lib.ListN.{getD}
 use Rattle.text.specs.Text.{Bytes, ascii}
 use Rattle.text.specs.Base16.{base16Decode}
-use Rattle.numbers.specs.Numbers.{shortOutput}
 use Rattle.format.specs.Kinds.{REQ}
-use Rattle.format.specs.Read.{Outcome, accepted, refused, readOf}
+use Rattle.format.specs.Read.{readOf}
 use Rattle.items.specs.Items.{lvConcat}
-use Rattle.put.specs.Made.{Made, made, denied}
+use Rattle.put.specs.Made.{Made}
+use Rattle.given.specs.Given.{given}
 
 -- ---- the fields of a request, by their names in the table of kinds
 
@@ -48,16 +46,14 @@ centreItems fs = ascii "V2" ∷ idKmc fs ∷ idSm fs ∷ tvp fs ∷ qe fs ∷ []
 
 -- ---- the calls: what the text of these items is of a request, for an output of length `room`
 
-abbrev pub textMade : (List Bytes → List Bytes) → ℕ → Outcome → Made
-textMade items room (accepted k fs) =
-    cond (leb (length (lvConcat (items fs))) room) (made (lvConcat (items fs))) (denied shortOutput 0)
-textMade items room (refused n i) = denied n i
+abbrev pub textMade : (List Bytes → List Bytes) → Bytes → ℕ → Made
+textMade items request room = given (λ k fs. lvConcat (items fs)) room (readOf (REQ ∷ []) request)
 
 unfoldable pub sharedInfo : Bytes → ℕ → Made
-sharedInfo request room = textMade sharedItems room (readOf (REQ ∷ []) request)
+sharedInfo request room = textMade sharedItems request room
 
 unfoldable pub moduleText : Bytes → ℕ → Made
-moduleText request room = textMade moduleItems room (readOf (REQ ∷ []) request)
+moduleText request room = textMade moduleItems request room
 
 unfoldable pub centreText : Bytes → ℕ → Made
-centreText request room = textMade centreItems room (readOf (REQ ∷ []) request)
+centreText request room = textMade centreItems request room

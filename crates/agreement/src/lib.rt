@@ -1,14 +1,13 @@
 // The three key agreement texts of a load request (STS 600-4-2, clause 5.6): the number of items, then of each item its
 // length and its bytes. The request is read once, and its fields go in as parts of its own bytes; only QE is decoded.
 ghost use mathlib.Core.Path.{_≡_};
-ghost use mathlib.Core.List.{[], _∷_};
 ghost use Prim.Native.Nat.{_+_, _≤_};
 ghost use lib.ListN.{length};
 ghost use lib.Dec.{T};
 ghost use Rattle.text.specs.Text.{isHex};
 ghost use Rattle.text.specs.Base16.{base16Decode};
 ghost use Rattle.format.specs.Kinds.{REQ};
-ghost use Rattle.format.specs.Read.{fieldsIn, readOf};
+ghost use Rattle.format.specs.Read.{fieldsIn};
 ghost use Rattle.put.specs.Put.{Put};
 ghost use Rattle.put.specs.Made.{Writes};
 ghost use Rattle.agreement.specs.Texts.{textMade, sharedInfo, moduleText, centreText};
@@ -141,7 +140,7 @@ fn put_text(
 // The request's own refusal comes first, then 10; only then is anything written.
 fn write_text(label: &[u8], fields: &[usize], request: &[u8], out: &mut [u8]) -> put::Written
     requires { ⌜ Small (now label) (now fields) ⌝ }
-    ensures { λ r. ⌜ Writes (textMade (itemsBy (now (label .entry)) (now (fields .entry))) (length (now (out .entry))) (readOf (REQ ∷ []) (now (request .entry)))) (now (out .entry)) (now (out .exit)) r ⌝ }
+    ensures { λ r. ⌜ Writes (textMade (itemsBy (now (label .entry)) (now (fields .entry))) (now (request .entry)) (length (now (out .entry)))) (now (out .entry)) (now (out .exit)) r ⌝ }
 {
     let answer = reading::read_of(table::REQ, table::RESP, request);
     if answer.no != numbers::ACCEPTED {

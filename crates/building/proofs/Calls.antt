@@ -30,7 +30,7 @@ use Rattle.put.proofs.Pieces.{put-whole, put-denied}
 use Rattle.building.specs.Building.{sum, pieces, buildOf, build}
 use Rattle.building.specs.Steps.{countNo, placesBy, Lie}
 use Rattle.building.proofs.Pieces.{pieces-count, lie}
-use Rattle.building.proofs.Names.{named-some, name-short}
+use Rattle.table.proofs.Names.{named-some, name-short}
 use Rattle.building.proofs.Form.{form-found, form-counted, fromRoom, fromLength, fromFields, of-form}
 use Rattle.building.proofs.Writing.{joined-length}
 

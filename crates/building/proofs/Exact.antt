@@ -21,7 +21,7 @@ use Rattle.format.proofs.Exactly.{ask-exact, permitted-judged}
 use Rattle.table.specs.Table.{named}
 use Rattle.put.specs.Made.{made}
 use Rattle.building.specs.Building.{sum, pieces, run, buildAs, buildOf, recordMade, build, Builds}
-use Rattle.building.proofs.Names.{named-some, named-known}
+use Rattle.table.proofs.Names.{named-some, named-known}
 use Rattle.building.proofs.Pieces.{pieces-count, pieces-lengths, pieces-run, pieces-back, sum-lengths}
 use Rattle.places.specs.Places.{lengths}
 use Rattle.places.proofs.Stands.{lengths-count}

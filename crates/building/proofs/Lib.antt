@@ -1,4 +1,3 @@
-pub mod Names
 pub mod Pieces
 pub mod Sums
 pub mod Form

@@ -1,7 +1,7 @@
 -- The record is written piece after piece: each field and its mark, and the name before them and the check behind them.
 -- Assumes nothing.
 use Prim.Native.Nat.{ℕ, _+_, _-_, _≤_, _<_}
-use mathlib.Core.Path.{_≡_, refl, sym, ap, _∙_}
+use mathlib.Core.Path.{_≡_, sym, ap, _∙_}
 use mathlib.Core.List.{List, [], _∷_, _++_, append-assoc}
 use native.Mathlib.Omega.{arith}
 use native.Mathlib.Nat.{zero-add}
@@ -14,16 +14,13 @@ use Rattle.text.specs.Base16.{checkText}
 use Rattle.text.proofs.Types.{hex-length}
 use Rattle.text.proofs.Hexadecimal.{check-hex}
 use Rattle.format.specs.Build.{joined, withCheck}
+use Rattle.format.proofs.Parts.{joined-append}
 use Rattle.put.specs.Put.{Puts, Put}
 use Rattle.put.proofs.Pieces.{put-of, put-none, put-length, put-as, put-then}
 use Rattle.building.specs.Building.{sum, pieces}
 use Rattle.building.proofs.Pieces.{pieces-count}
 
 -- ---- the fields and their marks
-
-joined-append : (m : ℕ) (fs gs : List Bytes) → joined m (fs ++ gs) ≡ joined m fs ++ joined m gs
-joined-append m [] gs = refl
-joined-append m (f ∷ fs) gs = rw (joined-append m fs gs) (sym (append-assoc f (m ∷ joined m fs) (joined m gs)))
 
 pub joined-length : (m : ℕ) (ns : List ℕ) (s : Bytes) → sum ns ≡ length s → length (joined m (pieces ns s)) ≡ length s + length ns
 joined-length m [] s e = omega arith

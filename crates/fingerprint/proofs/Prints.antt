@@ -1,12 +1,12 @@
 -- The Fingerprint that is right, as the code makes it, and what the calls say by it.
 -- Assumes nothing.
-use Prim.Native.Nat.{ℕ, zero, suc, _+_, _-_, _/_, _≤_, _<_}
+use Prim.Native.Nat.{ℕ, _+_, _-_, _/_, _≤_, _<_}
 use Prim.Native.Char.{code}
 use mathlib.Core.Path.{_≡_, refl, sym, ap, _∙_}
 use mathlib.Core.Bool.{Bool, cond}
 use mathlib.Core.List.{List, [], _∷_, _++_, append-assoc}
 use native.Mathlib.Omega.{arith}
-use lib.ListN.{length, take, drop, getD, replicate, length-append, length-take}
+use lib.ListN.{length, take, drop, getD, replicate, length-append, length-take, take-append-drop}
 use lib.Seq.{length-take-le, take-append-seam, take-take}
 use borrow.Author.Tests.{le-leb, lt-leb}
 use Rattle.text.specs.Text.{Bytes, ascii, same}
@@ -14,13 +14,14 @@ use Rattle.text.specs.Base16.{base16}
 use Rattle.text.proofs.Types.{hex-length}
 use Rattle.sha384.specs.Sha384.{sha384}
 use Rattle.sha384.specs.State.{begun, addedAll, together, ended}
+use Rattle.sha384.proofs.Digest.{digest-size}
 use Rattle.sha384.proofs.Pieces.{ended-all}
 use Rattle.numbers.specs.Numbers.{shortOutput, wrongFingerprint}
 use Rattle.format.specs.Kinds.{Kind, name, pubkeyKinds}
 use Rattle.format.specs.Build.{joined, Built}
 use Rattle.format.specs.Read.{accepted, lastOr, cut, body, readIdentity, readOf}
 use Rattle.format.proofs.Table.{identity-row}
-use Rattle.format.proofs.Parts.{joined-cut, built-last}
+use Rattle.format.proofs.Parts.{joined-cut, joined-append, built-last}
 use Rattle.format.proofs.Exactly.{identity-exact, its-parts, its-count, read-says}
 use Rattle.frame.specs.Frame.{partStart}
 use Rattle.places.specs.Places.{fieldAt}
@@ -35,16 +36,15 @@ use Rattle.put.specs.Put.{Puts}
 use Rattle.put.specs.Made.{denied, says, Writes}
 use Rattle.put.specs.declared.Written.{Written}
 use Rattle.put.proofs.Hex.{length-base16}
-use Rattle.put.proofs.Pieces.{put-of, put-fills, put-denied, put-whole}
+use Rattle.put.proofs.Pieces.{put-of, put-as, put-fills}
+use Rattle.given.proofs.Given.{given-short, given-put}
 use Rattle.fingerprint.specs.Fingerprint.{hashText, printOf, rightPrint, printIn, checkFingerprint, writeFingerprint}
 use Rattle.fingerprint.specs.Steps.{frontAt, textAt}
 
 -- ---- what stands before the Fingerprint of an identity
 
 joined-split : (m n : ℕ) (fs : List Bytes) → joined m fs ≡ joined m (take n fs) ++ joined m (drop n fs)
-joined-split m zero fs = refl
-joined-split m (suc n) [] = refl
-joined-split m (suc n) (f ∷ fs) = ap (λ (r : Bytes). f ++ m ∷ r) (joined-split m n fs) ∙ sym (append-assoc f (m ∷ joined m (take n fs)) (joined m (drop n fs)))
+joined-split m n fs = ap (joined m) (sym (take-append-drop n fs)) ∙ joined-append m (take n fs) (drop n fs)
 
 -- parts at the front, each with its mark
 front-parts : (m n : ℕ) (s : Bytes) → joined m (cut m s) ≡ s → take (partStart m s n) s ≡ joined m (take n (cut m s))
@@ -113,6 +113,9 @@ hashed-pieces s q = ended-all (frontAt s ∷ q ∷ ascii ":" ∷ []) ∙ ap sha3
 length-front : (h : List ℕ) → length h ≡ 48 → length (base16 (take 8 h)) ≡ 16
 length-front h l = length-base16 (take 8 h) ∙ omega (arith, length-take-le 8 h (omega (arith, l)))
 
+pub print-length : (text : Bytes) → length (printOf text) ≡ 16
+print-length text = length-front (sha384 text) (digest-size text)
+
 -- half of the Fingerprint that stands in the Subject at i, as the code finds it
 pub half-print : {x s : Bytes} (i : Bytes) → x ≡ identityPart s 4 → s ≡ i → length (identityPart i 4) ≡ 16 → length x / 2 ≡ 8
 half-print i p q l = rw (p, q, l)
@@ -124,14 +127,9 @@ front-written h e l p = put-fills (length-front h l) (rw e at p)
 -- ---- the calls, by what was answered
 
 module _ (s : Bytes) (r : Answer) (e : r ≡ answerOf (readOf pubkeyKinds s)) where
-  module _ (z : r .no ≡ 0 → ⊥) where
-    pub check-refused : record { no = r .no; field = r .field } ≡ checkFingerprint s
-    unfolding checkFingerprint
-    check-refused = rw (untaken (readOf pubkeyKinds s) r e z)
-
-    pub write-refused : (room : ℕ) {o : Bytes} (w : Written) → w ≡ says (denied (r .no) (r .field)) → Writes (writeFingerprint s room) o o w
-    unfolding writeFingerprint
-    write-refused room w f = rw (untaken (readOf pubkeyKinds s) r e z) (put-denied w f)
+  pub check-refused : (r .no ≡ 0 → ⊥) → record { no = r .no; field = r .field } ≡ checkFingerprint s
+  unfolding checkFingerprint
+  check-refused z = rw (untaken (readOf pubkeyKinds s) r e z)
 
   -- the places of the Subject and of Q
   abbrev subject-at : Bytes
@@ -139,6 +137,9 @@ module _ (s : Bytes) (r : Answer) (e : r ≡ answerOf (readOf pubkeyKinds s)) wh
 
   abbrev right-at : Bytes
   right-at = printOf (textAt subject-at (fieldAt s (r .starts) (r .lens) 2))
+
+  right-long : length right-at ≡ 16
+  right-long = print-length _
 
   module _ (z : r .no ≡ 0) where
     read : Taken (Built pubkeyKinds s) (readOf pubkeyKinds s) (r .kind)
@@ -170,11 +171,11 @@ module _ (s : Bytes) (r : Answer) (e : r ≡ answerOf (readOf pubkeyKinds s)) wh
     unfolding checkFingerprint
     check-said b p q f = rw (its-key .is, ← print-so, ← right-so, ← p, ← q, f)
 
-    pub write-short : {room : ℕ} {o : Bytes} (w : Written) → room < 16 → w ≡ says (denied shortOutput 0) → Writes (writeFingerprint s room) o o w
+    pub write-short : {o : Bytes} (w : Written) → length o < 16 → w ≡ says (denied shortOutput 0) → Writes (writeFingerprint s (length o)) o o w
     unfolding writeFingerprint
-    write-short {room} w h f = rw (its-key .is, lt-leb 16 room h) (put-denied w f)
+    write-short {o} w h f = given-short _ (its-key .is) o w (omega (arith, ap length right-so, right-long)) f
 
-    pub write-said : {y o out : Bytes} {k : ℕ} → 16 ≤ length o → length y ≡ 16 → y ≡ right-at → Puts o 0 y out k
+    pub write-said : {y o out : Bytes} {k : ℕ} → 16 ≤ length o → y ≡ right-at → Puts o 0 y out k
         → Writes (writeFingerprint s (length o)) o out (record { no = 0; field = 0; len = k })
     unfolding writeFingerprint
-    write-said {y} {o} h l q p = rw (its-key .is, le-leb 16 (length o) h, ← right-so, ← q) (put-whole (put-of (omega (arith, l)) p))
+    write-said h q p = given-put _ (its-key .is) (put-as (q ∙ right-so) (put-of (omega (arith, ap length q, right-long)) p))

@@ -6,17 +6,17 @@ use Prim.Native.Char.{code}
 use mathlib.Core.Bool.{cond}
 use mathlib.Core.List.{List, [], _∷_}
 use lib.ListN.{take, getD}
-use lib.Dec.{leb}
 use Rattle.text.specs.Text.{Bytes, same}
 use Rattle.text.specs.Base16.{base16}
 use Rattle.sha384.specs.Sha384.{sha384}
-use Rattle.numbers.specs.Numbers.{shortOutput, wrongFingerprint}
+use Rattle.numbers.specs.Numbers.{wrongFingerprint}
 use Rattle.format.specs.Kinds.{Kind, name, pubkeyKinds}
 use Rattle.format.specs.Build.{joined}
 use Rattle.format.specs.Read.{Outcome, accepted, refused, readIdentity, readOf}
 use Rattle.subjects.specs.Subjects.{manufacturer, mid, gnt}
 use Rattle.subjects.specs.Keys.{subject}
-use Rattle.put.specs.Made.{Made, made, denied}
+use Rattle.put.specs.Made.{Made}
+use Rattle.given.specs.Given.{given}
 use Rattle.fingerprint.specs.declared.Checked.{Checked}
 
 -- ---- the Fingerprint that is right
@@ -57,9 +57,5 @@ unfoldable pub checkFingerprint : Bytes → Checked
 checkFingerprint s = checkBy (readOf pubkeyKinds s)
 
 -- for an output of length `room`
-abbrev pub printMade : ℕ → Outcome → Made
-printMade room (accepted k fs) = cond (leb 16 room) (made (rightPrint fs)) (denied shortOutput 0)
-printMade room (refused n i) = denied n i
-
 unfoldable pub writeFingerprint : Bytes → ℕ → Made
-writeFingerprint s room = printMade room (readOf pubkeyKinds s)
+writeFingerprint s room = given (λ k fs. rightPrint fs) room (readOf pubkeyKinds s)

@@ -4,7 +4,7 @@
 use Prim.Native.Nat.{ℕ, suc, _+_, _-_, _<_}
 use mathlib.Core.Path.{_≡_, refl, sym, ap, _∙_}
 use mathlib.Core.Bool.{Bool, true, false, not, cond}
-use mathlib.Core.List.{List, [], _∷_, _++_, append-assoc}
+use mathlib.Core.List.{List, [], _∷_, _++_, append-assoc, append-nil}
 use native.Mathlib.Omega.{arith}
 use lib.Dec.{T, T-not, eqb, eqb→eq, eqb-refl}
 use lib.ListN.{length, drop, getD, length-append, take-append-drop}
@@ -29,6 +29,19 @@ last-after c (d ∷ s) = last-after d s
 
 pub last-at : (s : Bytes) (k : ℕ) → length s ≡ suc k → getD s k 0 ≡ lastOr 0 s
 last-at s k e = rw e at (last-after 0 s)
+
+pub last-append : (c : ℕ) (s t : Bytes) → lastOr c (s ++ t) ≡ lastOr (lastOr c s) t
+last-append c [] t = refl
+last-append c (d ∷ s) t = last-append d s t
+
+-- of what is not empty
+pub last-any : (c d : ℕ) (s : Bytes) → 0 < length s → lastOr c s ≡ lastOr d s
+last-any c d [] h = absurd (omega arith)
+last-any c d (e ∷ s) h = refl
+
+pub last-every : (p : ℕ → Bool) (c : ℕ) (s : Bytes) → T (p c) → T (every p s) → T (p (lastOr c s))
+last-every p c [] h t = h
+last-every p c (d ∷ s) h t = let t′ = and-yes (p d) (every p s) t in last-every p d s (t′ .0) (t′ .1)
 
 pub ends-last : (m : ℕ) (s : Bytes) → T (endsIn m s) → lastOr 0 s ≡ m
 ends-last m [] h = absurd h
@@ -55,7 +68,31 @@ joined-cut b m (c ∷ d ∷ s) e =
     (λ t. rw (T-true (eqb c m) t, i, eqb→eq c m t))
     (λ t. rw (T-false (eqb c m) t) (on-first m c d (eqb d m) (cut m s) (cut m s) ∙ rw i))
 
--- the first part is what stands before the first mark
+pub joined-append : (m : ℕ) (fs gs : List Bytes) → joined m (fs ++ gs) ≡ joined m fs ++ joined m gs
+joined-append m [] gs = refl
+joined-append m (f ∷ fs) gs = rw (joined-append m fs gs) (sym (append-assoc f (m ∷ joined m fs) (joined m gs)))
+
+-- ---- cut of a text that is empty or ends with the mark, and another behind it
+
+cut-more : (m c d : ℕ) (a : Bytes) (qs : List Bytes) → onFirst c (cut m (d ∷ a) ++ qs) ≡ onFirst c (cut m (d ∷ a)) ++ qs
+cut-more m c d a qs = go (eqb d m) (cut m a)
+  where
+    go : (b : Bool) (ps : List Bytes) → onFirst c (cond b ([] ∷ ps) (onFirst d ps) ++ qs) ≡ onFirst c (cond b ([] ∷ ps) (onFirst d ps)) ++ qs
+    go true ps = refl
+    go false [] = refl
+    go false (p ∷ ps) = refl
+
+pub cut-append : (m c : ℕ) (a b : Bytes) → lastOr c a ≡ m → cut m (a ++ b) ≡ cut m a ++ cut m b
+cut-append m c [] b e = refl
+cut-append m c (d ∷ []) b e = rw (T-true (eqb d m) (yes-eqb e))
+cut-append m c (d ∷ f ∷ a) b e =
+    let i = cut-append m d (f ∷ a) b e in
+    by-test (eqb d m)
+    (λ t. rw (T-true (eqb d m) t, i))
+    (λ t. rw (T-false (eqb d m) t, i) (cut-more m d f a (cut m b)))
+
+-- ---- the first part is what stands before the first mark
+
 cut-title : (m : ℕ) (s : Bytes) → T (isMark m) → markAfter s ≡ m → cut m s ≡ title s ∷ drop 1 (cut m s)
 cut-title m [] h e = absurd (rw (← e) at h)
 cut-title m (c ∷ s) h e =
@@ -74,9 +111,13 @@ cut-through m (c ∷ f) r h =
     let h′ = and-yes (not (eqb c m)) (without m f) h in
     rw (T-false (eqb c m) (h′ .0), cut-through m f r (h′ .1))
 
+-- parts that are joined, and what follows them
+pub cut-parts : (m : ℕ) (fs : List Bytes) (r : Bytes) → WithoutAll m fs → cut m (joined m fs ++ r) ≡ fs ++ cut m r
+cut-parts m [] r h = refl
+cut-parts m (f ∷ fs) r h = rw append-assoc (cut-through m f (joined m fs ++ r) (h .0) ∙ rw (cut-parts m fs r (h .1)))
+
 pub cut-joined : (m : ℕ) (fs : List Bytes) → WithoutAll m fs → cut m (joined m fs) ≡ fs
-cut-joined m [] h = refl
-cut-joined m (f ∷ fs) h = cut-through m f (joined m fs) (h .0) ∙ rw (cut-joined m fs (h .1))
+cut-joined m fs h = ap (cut m) (sym (append-nil (joined m fs))) ∙ cut-parts m fs [] h ∙ append-nil fs
 
 pub last-joined : (c m : ℕ) (fs : List Bytes) (f : Bytes) → lastOr c (joined m (f ∷ fs)) ≡ m
 last-joined c m [] [] = refl

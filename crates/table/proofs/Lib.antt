@@ -3,3 +3,4 @@ pub mod Codes
 pub mod Pieces
 pub mod Arrays
 pub mod Search
+pub mod Names

@@ -2,12 +2,13 @@
 -- Assumes nothing.
 use Prim.Native.Nat.{ℕ, zero, suc, _≤_, _<_}
 use mathlib.Core.Path.{_≡_, refl, sym, ap₂, subst}
-use mathlib.Core.Logic.{⊎-elim}
+use mathlib.Core.Logic.{_≢_, ⊎-elim}
 use mathlib.Core.Bool.{Bool, true, false, not, cond, _&&_, _||_}
 use mathlib.Core.List.{List, [], _∷_, _++_, map}
 use native.Mathlib.Nat.{le-of-suc-le-suc, not-suc-le-zero}
-use lib.ListN.{getD}
-use lib.Dec.{T, leb, ltb, eqb, leb→le, ltb→lt, nltb→le, eqb→eq, eqb-refl}
+use native.Mathlib.Omega.{arith}
+use lib.ListN.{length, getD}
+use lib.Dec.{T, not-T, leb, ltb, eqb, leb→le, ltb→lt, nltb→le, eqb→eq, eqb-refl}
 use mir.Facts.{and-yes, yes-and, or-yes}
 use Rattle.text.specs.Text.{Bytes, every, allOf, same, between, oneOf}
 
@@ -81,6 +82,13 @@ every-append p (c ∷ s) t hs ht =
     let h = and-yes (p c) (every p s) hs in
     yes-and (p c) (every p (s ++ t)) (h .0) (every-append p s t (h .1) ht)
 
+pub every-parts : (p : ℕ → Bool) (s t : Bytes) → T (every p (s ++ t)) → T (every p s) × T (every p t)
+every-parts p [] t h = (tt, h)
+every-parts p (c ∷ s) t h =
+    let h′ = and-yes (p c) (every p (s ++ t)) h in
+    let i = every-parts p s t (h′ .1) in
+    (yes-and (p c) (every p s) (h′ .0) (i .0), i .1)
+
 -- ---- two texts
 
 pub same→eq : (s t : Bytes) → T (same s t) → s ≡ t
@@ -94,6 +102,23 @@ same→eq (c ∷ s) (d ∷ t) h =
 pub same-refl : (s : Bytes) → T (same s s)
 same-refl [] = tt
 same-refl (c ∷ s) = yes-and (eqb c c) (same s s) (eqb-refl c) (same-refl s)
+
+pub same-true : (s t : Bytes) → s ≡ t → same s t ≡ true
+same-true s t e = T-true (same s t) (rw e (same-refl t))
+
+pub same-false : (s t : Bytes) → s ≢ t → same s t ≡ false
+same-false s t n = T-false (same s t) (not-T (same s t) (λ h. n (same→eq s t h)))
+
+-- of two parts each, the first of one length
+pub same-append : (a b c d : Bytes) → length a ≡ length c → same (a ++ b) (c ++ d) ≡ (same a c && same b d)
+same-append [] b [] d e = refl
+same-append [] b (y ∷ c) d e = absurd (omega arith)
+same-append (x ∷ a) b [] d e = absurd (omega arith)
+same-append (x ∷ a) b (y ∷ c) d e = rw (same-append a b c d (omega arith)) (go (eqb x y))
+  where
+    go : (q : Bool) → (q && (same a c && same b d)) ≡ ((q && same a c) && same b d)
+    go true = refl
+    go false = refl
 
 -- ---- a test of every entry of a list, computed, and of what stands for an entry that is not there
 

@@ -3,30 +3,31 @@
 use Prim.Native.Nat.{ℕ, _+_, _-_, _≤_, _<_}
 use mathlib.Core.Path.{_≡_, refl, sym, ap, _∙_}
 use mathlib.Core.Bool.{Bool, true, false}
-use mathlib.Core.List.{List, [], _∷_, append-nil}
+use mathlib.Core.List.{[], _∷_, _++_, append-nil}
 use native.Mathlib.Omega.{arith}
-use lib.ListN.{length, take, drop, getD, replicate, length-append}
-use borrow.Author.Tests.{eq-eqb, ne-eqb, le-leb, lt-leb}
+use lib.ListN.{length, take, drop, getD, replicate}
+use borrow.Author.Tests.{eq-eqb, ne-eqb}
 use Rattle.text.specs.Text.{Bytes, same, isHex}
 use Rattle.text.specs.Base16.{base16}
 use Rattle.text.proofs.Loops.{rest-all}
 use Rattle.sha1.specs.Sha1.{sha1}
 use Rattle.sha1.proofs.Digest.{digest-size}
 use Rattle.numbers.specs.Numbers.{shortOutput, missingTrailer, wrongHash}
-use Rattle.format.specs.Kinds.{Kind, recordKinds}
+use Rattle.format.specs.Kinds.{recordKinds}
 use Rattle.format.specs.Build.{Built}
-use Rattle.format.specs.Read.{Outcome, accepted, refused, readRecord}
+use Rattle.format.specs.Read.{Outcome, refused, readRecord}
 use Rattle.format.proofs.Exactly.{record-says}
 use Rattle.reading.specs.Reading.{answerOf}
 use Rattle.reading.specs.declared.Answer.{Answer}
-use Rattle.reading.proofs.Answers.{taken, untaken}
+use Rattle.reading.proofs.Answers.{Taken, taken, untaken}
 use Rattle.put.specs.Put.{Puts}
 use Rattle.put.specs.Made.{denied, says, Writes}
 use Rattle.put.specs.declared.Written.{Written}
 use Rattle.put.proofs.Hex.{length-base16}
-use Rattle.put.proofs.Pieces.{put-of, put-then, put-length, put-whole, put-denied}
+use Rattle.put.proofs.Pieces.{put-of, put-as, put-then, put-length}
+use Rattle.given.proofs.Given.{given-short, given-put}
 use Rattle.trailed.specs.Trailed.{sharp, hashText, trailer, trailed, recordIn, trailerIn, isTrailer, onlyIf, readTrailed, writeTrailed}
-use Rattle.trailed.proofs.Trailed.{trailer-length}
+use Rattle.trailed.proofs.Trailed.{onlyIf-true, trailer-length, trailed-length}
 
 -- ---- '#' and HEX(40)
 
@@ -51,10 +52,6 @@ trailer-written r h e p =
     put-of (omega (arith, long)) p .written ∙ rw (long, e) (ap {B = Bytes} (λ (x : Bytes). sharp ∷ x) (append-nil (base16 (sha1 (hashText r)))))
 
 -- ---- reading a line
-
-onlyIf-true : (n : ℕ) (o : Outcome) → onlyIf true n o ≡ o
-onlyIf-true n (accepted k fs) = refl
-onlyIf-true n (refused m i) = refl
 
 -- the line s, whose record ends at e, and the test for a trailer after it
 module _ (s : Bytes) {e : ℕ} (end : e ≡ length s - 41) {b : Bool} (test : b ≡ isTrailer (take (length s - e) (drop e s))) where
@@ -98,33 +95,20 @@ module _ (s : Bytes) {e : ℕ} (end : e ≡ length s - 41) {b : Bool} (test : b 
           let k = taken (Built recordKinds (recordIn s)) (readRecord (recordIn s)) a (record-says (recordIn s)) own-said z in
           h ∙ ap answerOf (sym (read-by (as-compared q) (k .is)))
 
--- ---- writing a line: the record r, and a is the record call's answer for it
+-- ---- writing a line: the record r, which is accepted where the record call answers 0
 
-module _ (r : Bytes) {a : Answer} (own : a ≡ answerOf (readRecord r)) where
-  pub write-refused : (a .no ≡ 0 → ⊥) → (out : Bytes) (w : Written) → w ≡ says (denied (a .no) (a .field)) → Writes (writeTrailed r (length out)) out out w
+module _ (r : Bytes) {a : Answer} (own : a ≡ answerOf (readRecord r)) (z : a .no ≡ 0) where
+  abbrev read-so : Taken (Built recordKinds r) (readRecord r) (a .kind)
+  read-so = taken (Built recordKinds r) (readRecord r) a (record-says r) own z
+
+  pub write-short : (out : Bytes) (w : Written) → length out < length r + 41 → w ≡ says (denied shortOutput 0) → Writes (writeTrailed r (length out)) out out w
   unfolding writeTrailed
-  write-refused n out w e = rw (untaken (readRecord r) a own n) (put-denied w e)
+  write-short out w h e = given-short _ (read-so .is) out w (omega (arith, trailed-length r)) e
 
-  module _ (z : a .no ≡ 0) where
-    read-so : (k : Kind) × (fs : List Bytes) × (readRecord r ≡ accepted k fs)
-    read-so = let t = taken (Built recordKinds r) (readRecord r) a (record-says r) own z in (t .kind, t .fields, t .is)
-
-    line-length : length (trailed r) ≡ length r + 41
-    unfolding trailed
-    line-length = length-append r (trailer r) ∙ ap (λ (j : ℕ). length r + j) (trailer-length r)
-
-    pub write-short : (out : Bytes) (w : Written) → length out < length r + 41 → w ≡ says (denied shortOutput 0) → Writes (writeTrailed r (length out)) out out w
-    unfolding writeTrailed
-    write-short out w h e =
-        let (k, fs, is) = read-so in
-        rw (is, lt-leb (length (trailed r)) (length out) (omega (arith, line-length))) (put-denied w e)
-
-    pub write-said : {out out′ out″ t : Bytes} {n n′ : ℕ} → length r + 41 ≤ length out → t ≡ trailer r → Puts out 0 r out′ n → Puts out′ n t out″ n′
-        → Writes (writeTrailed r (length out)) out out″ (record { no = 0; field = 0; len = n′ })
-    unfolding writeTrailed trailed
-    write-said {out} {out′} {out″} {t} {n} {n′} h e p q =
-        let (k, fs, is) = read-so in
-        let first = put-of (omega arith) p in
-        let long : length t ≡ 41 = ap length e ∙ trailer-length r in
-        let second = put-of (omega (arith, long, put-length first, first .next)) q in
-        rw (is, le-leb (length (trailed r)) (length out) (omega (arith, line-length)), ← e) (put-whole (put-then first second))
+  pub write-said : {out out′ out″ t : Bytes} {n n′ : ℕ} → length r + 41 ≤ length out → t ≡ trailer r → Puts out 0 r out′ n → Puts out′ n t out″ n′
+      → Writes (writeTrailed r (length out)) out out″ (record { no = 0; field = 0; len = n′ })
+  unfolding writeTrailed trailed
+  write-said h e p q =
+      let first = put-of (omega arith) p in
+      let second = put-of (omega (arith, ap length e, trailer-length r, put-length first, first .next)) q in
+      given-put _ (read-so .is) (put-as (ap (λ (x : Bytes). r ++ x) e) (put-then first second))

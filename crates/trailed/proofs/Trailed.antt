@@ -1,7 +1,7 @@
 -- A line with a trailer: what is accepted is exactly what is written of an accepted record. So lines with the same record are the same, and
 -- what the record call catches in a record is caught wherever it stands in the line.
 -- Assumes nothing.
-use Prim.Native.Nat.{ℕ, _-_}
+use Prim.Native.Nat.{ℕ, _+_, _-_}
 use mathlib.Core.Path.{_≡_, refl, sym, ap, _∙_}
 use mathlib.Core.Logic.{_↔_}
 use mathlib.Core.Bool.{Bool, true, false}
@@ -30,6 +30,12 @@ use Rattle.format.proofs.Exactly.{record-exact}
 use Rattle.format.proofs.DamagedLines.{part-law, part-bytes, all-lines-caught}
 use Rattle.format.proofs.Damage.{record-catches, record-never-zero}
 use Rattle.trailed.specs.Trailed.{sharp, hashText, trailer, trailed, recordIn, trailerIn, isTrailer, onlyIf, readTrailed, walkTrailed}
+
+-- ---- a test that passes changes nothing
+
+pub onlyIf-true : (n : ℕ) (o : Outcome) → onlyIf true n o ≡ o
+onlyIf-true n (accepted k fs) = refl
+onlyIf-true n (refused m i) = refl
 
 -- ---- a line that is accepted
 
@@ -60,23 +66,23 @@ module _ (r : Bytes) where
   unfolding trailer
   trailer-fits = yes-and (eqb sharp sharp) (isHex 40 (base16 (sha1 (hashText r)))) tt hash-hex
 
+  pub trailed-length : length (trailed r) ≡ length r + 41
+  unfolding trailed
+  trailed-length = omega (arith, length-append r (trailer r), trailer-length)
+
   pub record-in : recordIn (trailed r) ≡ r
   unfolding trailed
-  record-in = take-at r (trailer r) (length (r ++ trailer r) - 41) (omega (arith, length-append r (trailer r), trailer-length))
+  record-in = take-at r (trailer r) (length (trailed r) - 41) (omega (arith, trailed-length))
 
   trailer-in : trailerIn (trailed r) ≡ trailer r
   unfolding trailed
-  trailer-in = drop-at r (trailer r) (length (r ++ trailer r) - 41) (omega (arith, length-append r (trailer r), trailer-length))
+  trailer-in = drop-at r (trailer r) (length (trailed r) - 41) (omega (arith, trailed-length))
 
   -- is read as its record
   pub trailed-read : readTrailed (trailed r) ≡ readRecord r
   unfolding readTrailed
   trailed-read =
-      rw (record-in, trailer-in, T-true (isTrailer (trailer r)) trailer-fits, T-true (same (trailer r) (trailer r)) (same-refl (trailer r))) (always (readRecord r))
-    where
-      always : (o : Outcome) → onlyIf true wrongHash o ≡ o
-      always (accepted k fs) = refl
-      always (refused n i) = refl
+      rw (record-in, trailer-in, T-true (isTrailer (trailer r)) trailer-fits, T-true (same (trailer r) (trailer r)) (same-refl (trailer r))) (onlyIf-true wrongHash (readRecord r))
 
 pub trailed-exact : (s : Bytes) (k : Kind) (fs : List Bytes) → (readTrailed s ≡ accepted k fs) ↔ ((r : Bytes) × Built recordKinds r k fs × (s ≡ trailed r))
 trailed-exact s k fs = (

@@ -3,17 +3,18 @@
 -- Assumes nothing.
 use Prim.Native.Nat.{ℕ, _-_}
 use Prim.Native.Char.{code}
-use mathlib.Core.Bool.{Bool, false, cond, _&&_}
+use mathlib.Core.Bool.{Bool, false, _&&_}
 use mathlib.Core.List.{List, [], _∷_, _++_}
 use lib.ListN.{length, take, drop}
-use lib.Dec.{leb, eqb}
+use lib.Dec.{eqb}
 use Rattle.text.specs.Text.{Bytes, same, isHex}
 use Rattle.text.specs.Base16.{base16}
 use Rattle.sha1.specs.Sha1.{sha1}
-use Rattle.numbers.specs.Numbers.{shortOutput, missingTrailer, wrongHash}
+use Rattle.numbers.specs.Numbers.{missingTrailer, wrongHash}
 use Rattle.format.specs.Read.{Outcome, accepted, refused, provided, readRecord}
 use Rattle.format.specs.Files.{lineFeed, Line, Said, lineAtOver, walkOver}
-use Rattle.put.specs.Made.{Made, made, denied}
+use Rattle.put.specs.Made.{Made}
+use Rattle.given.specs.Given.{given}
 use Rattle.files.specs.declared.Totals.{Totals}
 use Rattle.files.specs.Walk.{totalsOf}
 
@@ -71,10 +72,6 @@ countTrailed file = totalsOf (walkTrailed file)
 
 -- ---- writing a line
 
--- of the record r, by what the record call says to it, for an output of length `room`
-abbrev pub lineMade : Bytes → ℕ → Outcome → Made
-lineMade r room (accepted k fs) = cond (leb (length (trailed r)) room) (made (trailed r)) (denied shortOutput 0)
-lineMade r room (refused n i) = denied n i
-
+-- of the record r, for an output of length `room`
 unfoldable pub writeTrailed : Bytes → ℕ → Made
-writeTrailed r room = lineMade r room (readRecord r)
+writeTrailed r room = given (λ k fs. trailed r) room (readRecord r)

@@ -1,10 +1,12 @@
 -- `agreement::write_text` meets its contract.
 -- Assumes nothing.
 use denote.Ref.{now}
+use mathlib.Core.List.{[], _∷_}
 use native.Mathlib.Omega.{arith}
-use Rattle.agreement.specs.Steps.{itemsBy}
+use Rattle.format.specs.Kinds.{REQ}
+use Rattle.format.specs.Read.{readOf}
+use Rattle.given.proofs.Given.{given-refused, given-short, given-put}
 use Rattle.agreement.proofs.Request.{request-read, request-suited, request-places}
-use Rattle.agreement.proofs.Texts.{text-refused, text-none, text-written}
 use borrow.Author.Needs.{needs}
 use Rattle.agreement.proofs.write_text.Statement.{statement}
 use Rattle.agreement.proofs.write_text.Tie as tie
@@ -16,9 +18,7 @@ refuse-requires : tie.Need-refuse-requires
 refuse-requires c κs = search needs
 
 returns : tie.Need-returns
-returns c =
-    let a = c .before .before .before .before .before .before .before .before .args in
-    text-refused (itemsBy (now (a .label)) (now (a .fields))) (now (a .request)) _ _ (c .before .before .before .read-of .ensures) (c .before .if1 .taken) _ (c .refuse .ensures)
+returns c = given-refused _ (readOf (REQ ∷ []) (now (c .before .before .before .before .before .before .before .before .args .request))) (c .before .before .before .read-of .ensures) (c .before .if1 .taken) _ _ (c .refuse .ensures)
 
 text-length-requires : tie.Need-text-length-requires
 text-length-requires c κs =
@@ -33,7 +33,7 @@ returns-2 : tie.Need-returns-2
 returns-2 c =
     let a = c .before .before .before .before .before .before .before .before .before .before .before .before .before .before .args in
     let e = request-read (now (a .request)) _ (c .before .before .before .before .before .before .before .before .before .read-of .ensures) (c .before .before .before .before .before .before .before .if1 .left) in
-    text-none (itemsBy (now (a .label)) (now (a .fields))) (now (a .request)) _ _ e (omega (arith, c .before .before .text-length .ensures, c .before .if2 .taken)) _ (c .refuse2 .ensures)
+    given-short _ e _ _ (omega (arith, c .before .before .text-length .ensures, c .before .if2 .taken)) (c .refuse2 .ensures)
 
 put-text-requires : tie.Need-put-text-requires
 put-text-requires c κs =
@@ -48,7 +48,7 @@ returns-3 : tie.Need-returns-3
 returns-3 c =
     let a = c .before .before .before .before .before .before .before .before .before .before .before .before .before .before .before .before .before .before .before .args in
     let e = request-read (now (a .request)) _ (c .before .before .before .before .before .before .before .before .before .before .before .before .before .before .read-of .ensures) (c .before .before .before .before .before .before .before .before .before .before .before .before .if1 .left) in
-    text-written (itemsBy (now (a .label)) (now (a .fields))) (now (a .request)) _ _ e (c .before .before .put-text .ensures)
+    given-put _ e (c .before .before .put-text .ensures)
 
 pub write-text-spec : {M : Type 1} → statement M
 write-text-spec =

@@ -1,7 +1,11 @@
 -- `fingerprint::write_fingerprint` meets its contract.
 -- Assumes nothing.
 use denote.Ref.{now}
-use Rattle.fingerprint.proofs.Prints.{write-refused, print-long, write-short, write-said}
+use Rattle.format.specs.Kinds.{pubkeyKinds}
+use Rattle.format.specs.Read.{readOf}
+use Rattle.given.proofs.Given.{given-refused}
+use Rattle.fingerprint.specs.Fingerprint.{writeFingerprint}
+use Rattle.fingerprint.proofs.Prints.{print-long, write-short, write-said}
 use borrow.Author.Needs.{needs}
 use Rattle.fingerprint.proofs.write_fingerprint.Statement.{statement}
 use Rattle.fingerprint.proofs.write_fingerprint.Tie as tie
@@ -13,7 +17,8 @@ refuse-requires : tie.Need-refuse-requires
 refuse-requires c κs = search needs
 
 returns : tie.Need-returns
-returns c = write-refused (now (c .before .before .before .before .before .before .args .record)) _ (c .before .before .before .read-of .ensures) (c .before .if1 .taken) _ _ (c .refuse .ensures)
+unfolding writeFingerprint
+returns c = given-refused _ (readOf pubkeyKinds (now (c .before .before .before .before .before .before .args .record))) (c .before .before .before .read-of .ensures) (c .before .if1 .taken) _ _ (c .refuse .ensures)
 
 refuse-requires-2 : tie.Need-refuse-requires-2
 refuse-requires-2 c κs = search needs
@@ -34,7 +39,7 @@ same-length : tie.Need-same-length
 same-length c = search needs
 
 returns-3 : tie.Need-returns-3
-returns-3 c = write-said (now (c .before .before .before .before .before .before .before .before .before .before .before .before .before .before .before .before .args .record)) _ (c .before .before .before .before .before .before .before .before .before .before .before .before .before .read-of .ensures) (c .before .before .before .before .before .before .before .before .before .before .before .if1 .left) (c .before .before .before .before .before .before .before .before .before .before .if2 .left) (search needs) (c .before .before .before .before .before .right-print .ensures) (c .before .before .put .ensures)
+returns-3 c = write-said (now (c .before .before .before .before .before .before .before .before .before .before .before .before .before .before .before .before .args .record)) _ (c .before .before .before .before .before .before .before .before .before .before .before .before .before .read-of .ensures) (c .before .before .before .before .before .before .before .before .before .before .before .if1 .left) (c .before .before .before .before .before .before .before .before .before .before .if2 .left) (c .before .before .before .before .before .right-print .ensures) (c .before .before .put .ensures)
 
 pub write-fingerprint-spec : {M : Type 1} → statement M
 write-fingerprint-spec =

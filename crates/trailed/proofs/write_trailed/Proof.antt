@@ -1,7 +1,10 @@
 -- `trailed::write_trailed` meets its contract.
 -- Assumes nothing.
 use denote.Ref.{now}
-use Rattle.trailed.proofs.Calls.{write-refused, write-short, write-said}
+use Rattle.format.specs.Read.{readRecord}
+use Rattle.given.proofs.Given.{given-refused}
+use Rattle.trailed.specs.Trailed.{writeTrailed}
+use Rattle.trailed.proofs.Calls.{write-short, write-said}
 use borrow.Author.Needs.{needs}
 use Rattle.trailed.proofs.write_trailed.Statement.{statement}
 use Rattle.trailed.proofs.write_trailed.Tie as tie
@@ -13,7 +16,8 @@ refuse-requires : tie.Need-refuse-requires
 refuse-requires c κs = search needs
 
 returns : tie.Need-returns
-returns c = write-refused (now (c .before .before .before .before .before .before .args .record)) (c .before .before .before .read-record .ensures) (c .before .if1 .taken) _ _ (c .refuse .ensures)
+unfolding writeTrailed
+returns c = given-refused _ (readRecord (now (c .before .before .before .before .before .before .args .record))) (c .before .before .before .read-record .ensures) (c .before .if1 .taken) _ _ (c .refuse .ensures)
 
 add-if2 : tie.Need-add-if2
 add-if2 c = search needs
