@@ -61,3 +61,9 @@ missingTrailer = 19
 
 abbrev pub wrongHash : ℕ
 wrongHash = 20
+
+abbrev pub missingBegins : ℕ
+missingBegins = 21
+
+abbrev pub missingEnds : ℕ
+missingEnds = 22

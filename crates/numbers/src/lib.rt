@@ -41,3 +41,7 @@ pub const WRONG_TAG: u8 = 18;
 pub const MISSING_TRAILER: u8 = 19;
 
 pub const WRONG_HASH: u8 = 20;
+
+pub const MISSING_BEGINS: u8 = 21;
+
+pub const MISSING_ENDS: u8 = 22;
