@@ -4,6 +4,7 @@
 pub mod check;
 pub mod confirming;
 pub mod hashes;
+pub mod mailing;
 pub mod records;
 pub mod trailing;
 pub mod types;
