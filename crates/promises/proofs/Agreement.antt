@@ -1,96 +1,49 @@
 -- The promises of the key agreement texts, from the laws of format, items and agreement.
 -- Assumes nothing.
-use Prim.Native.Nat.{ℕ, _+_, _-_, _≤_}
-use mathlib.Core.Path.{_≡_, refl, sym, ap, _∙_, subst}
+use Prim.Native.Nat.{ℕ, _+_, _-_}
+use mathlib.Core.Path.{_≡_, refl, sym, ap, _∙_}
 use mathlib.Core.Logic.{_↔_, _≢_}
 use mathlib.Core.Option.{Option, none, some}
 use mathlib.Core.List.{List, [], _∷_}
 use native.Mathlib.Omega.{arith}
 use lib.ListN.{length, take}
-use borrow.Author.Tests.{lt-leb}
-use lib.Dec.{T, leb, leb→le, le→leb}
+use lib.Dec.{T}
 use Rattle.crc16.specs.Damage.{AreBytes}
 use denote.Ref.{RefT, now}
 use Rattle.text.specs.Text.{Bytes}
 use Rattle.text.proofs.Part.{same-part}
-use Rattle.text.proofs.Tests.{by-test, cond-yes, cond-no}
-use Rattle.numbers.specs.Numbers.{shortOutput}
 use Rattle.format.specs.Kinds.{Kind, REQ}
 use Rattle.format.specs.Build.{Built}
-use Rattle.format.specs.Read.{Outcome, accepted, refused, answer, readOf}
-use Rattle.format.proofs.Table.{among-one}
-use Rattle.format.proofs.Exactly.{read-exact, read-honest}
-use Rattle.put.specs.Made.{Made, made, denied, says, leaves, Writes}
+use Rattle.format.specs.Read.{accepted, readOf}
+use Rattle.format.proofs.Outcomes.{Numbered, honest-map}
+use Rattle.format.proofs.Exactly.{read-exact, read-says}
+use Rattle.put.specs.Made.{Writes}
 use Rattle.put.specs.declared.Written.{Written}
 use Rattle.items.specs.Items.{lvConcat, concats, itemsOf, nth, nthOf, textItem, itemBytes}
 use Rattle.items.specs.Place.{behind, placeFrom, itemPlace, ItemPlaced, ItemHanded}
 use Rattle.items.specs.declared.Place.{Place}
 use Rattle.items.proofs.OneToOne.{concat-inj, items-back, item-exact}
 use Rattle.items.proofs.Places.{behind-items, nth-within}
+use Rattle.given.proofs.Given.{said-own, said-short, said-whole, said-zero, refusal-leaves}
 use Rattle.agreement.specs.Texts.{textMade, sharedInfo, moduleText, centreText}
+use Rattle.agreement.proofs.Request.{one-built}
 use Rattle.agreement.proofs.Texts.{items-concat, qe-length}
 use Rattle.promises.specs.Agreement.{TextSaid, ItemSaid, ItemPlaceSaid, Agreement}
 
 -- ---- a text
 
--- a made text is that of an accepted request, and there is room
-pub record TextFits (items : List Bytes → List Bytes) (room : ℕ) (o : Outcome) : Type 0 where
-  pub fs : List Bytes
-  pub k : Kind
-  pub is-accepted : o ≡ accepted k fs
-  pub room-so : length (lvConcat (items fs)) ≤ room
-
-module _ (items : List Bytes → List Bytes) (room : ℕ) where
-  made-yes : (k : Kind) (fs : List Bytes) → length (lvConcat (items fs)) ≤ room → textMade items room (accepted k fs) ≡ made (lvConcat (items fs))
-  made-yes k fs h = cond-yes (leb (length (lvConcat (items fs))) room) _ _ (le→leb (length (lvConcat (items fs))) room h)
-
-  made-zero : (o : Outcome) → (answer o ≡ 0 → (k : Kind) × (fs : List Bytes) × (o ≡ accepted k fs)) → says (textMade items room o) .no ≡ 0 → TextFits items room o
-  made-zero (accepted k fs) h z =
-      by-test (leb (length (lvConcat (items fs))) room)
-      (λ t. record { fs = fs; k = k; is-accepted = refl; room-so = leb→le (length (lvConcat (items fs))) room t })
-      (λ t. absurd (omega (arith, sym (ap (λ (m : Made). says m .no) (cond-no (leb (length (lvConcat (items fs))) room) (made (lvConcat (items fs))) (denied shortOutput 0) t)) ∙ z)))
-  made-zero (refused n i) h z = let (k, fs, e) = h z in absurd (let o : _≡_ {A = ℕ} 0 1 = cc in omega arith)
-
-  made-kept : (o : Outcome) (out : Bytes) → says (textMade items room o) .no ≢ 0
-      → (says (textMade items room o) .len ≡ 0) × (leaves (textMade items room o) out ≡ out)
-  made-kept (accepted k fs) out n =
-      by-test (leb (length (lvConcat (items fs))) room)
-      (λ t. absurd (n (ap (λ (m : Made). says m .no) (cond-yes (leb (length (lvConcat (items fs))) room) (made (lvConcat (items fs))) (denied shortOutput 0) t))))
-      (λ t.
-      let e = cond-no (leb (length (lvConcat (items fs))) room) (made (lvConcat (items fs))) (denied shortOutput 0) t in
-      (ap (λ (m : Made). says m .len) e, ap (λ (m : Made). leaves m out) e))
-  made-kept (refused m i) out n = (refl, refl)
-
-text-said : (items : List Bytes → List Bytes) (request out out′ : Bytes) (r : Written)
-    → Writes (textMade items (length out) (readOf (REQ ∷ []) request)) out out′ r → TextSaid items request out out′ r
+text-said : (items : List Bytes → List Bytes) (request out out′ : Bytes) (r : Written) → Writes (textMade items request (length out)) out out′ r
+    → TextSaid items request out out′ r
 text-said items request out out′ r w =
-    let o : Outcome = readOf (REQ ∷ []) request in
-    let q : r .no ≡ says (textMade items (length out) o) .no = ap (λ (x : Written). x .no) (w .said) in
-    let yes : (fs : List Bytes) → Built (REQ ∷ []) request REQ fs → length (lvConcat (items fs)) ≤ length out
-    → textMade items (length out) o ≡ made (lvConcat (items fs)) =
-    λ fs b h. ap (textMade items (length out)) (read-exact (REQ ∷ []) request REQ fs .1 b) ∙ made-yes items (length out) REQ fs h in
+    let text : Kind → List Bytes → Bytes = λ k fs. lvConcat (items fs) in
+    let read : (fs : List Bytes) → Built (REQ ∷ []) request REQ fs → readOf (REQ ∷ []) request ≡ accepted REQ fs = λ fs b. read-exact (REQ ∷ []) request REQ fs .1 b in
+    let numbered : Numbered (readOf (REQ ∷ []) request) = honest-map (λ k fs b. tt) (readOf (REQ ∷ []) request) (read-says (REQ ∷ []) request) in
     record {
-      exactly = (
-        λ z.
-            let f = made-zero items (length out) o (read-honest (REQ ∷ []) request) (sym q ∙ z) in
-            let b = read-exact (REQ ∷ []) request (f .k) (f .fs) .0 (f .is-accepted) in
-            (f .fs, subst (λ (k : Kind). Built (REQ ∷ []) request k (f .fs)) (among-one (f .k) REQ (b .of-kind)) b, f .room-so),
-        λ b. q ∙ ap (λ (m : Made). says m .no) (yes (b .0) (b .1) (b .2)),
-      );
-      written = λ fs b h.
-          let e = yes fs b h in
-          (ap (λ (x : Written). x .len) (w .said ∙ ap says e), w .left ∙ ap (λ (m : Made). leaves m out) e);
-      own = λ n i h.
-          let e : r ≡ record { no = n; field = i; len = 0 } = w .said ∙ ap (λ (x : Outcome). says (textMade items (length out) x)) h in
-          (ap (λ (x : Written). x .no) e, ap (λ (x : Written). x .field) e);
-      short = λ fs b h.
-          let f : textMade items (length out) o ≡ denied shortOutput 0 =
-          ap (textMade items (length out)) (read-exact (REQ ∷ []) request REQ fs .1 b) ∙ rw (lt-leb (length (lvConcat (items fs))) (length out) h) in
-          let e : r ≡ record { no = shortOutput; field = 0; len = 0 } = w .said ∙ ap says f in
-          (ap (λ (x : Written). x .no) e, ap (λ (x : Written). x .field) e);
-      untouched = λ n.
-          let e = made-kept items (length out) o out (λ z. n (q ∙ z)) in
-          (ap (λ (x : Written). x .len) (w .said) ∙ e .0, w .left ∙ e .1);
+      exactly = (λ z. let (k, fs, e, h) = said-zero text w numbered z in (fs, one-built REQ request e, h), λ (fs, b, h). said-whole text w (read fs b) h .0);
+      written = λ fs b h. let (z, l, o) = said-whole text w (read fs b) h in (l, o);
+      own = said-own text w;
+      short = λ fs b h. said-short text w (read fs b) h;
+      untouched = refusal-leaves (textMade items request (length out)) w;
     }
 
 -- ---- an item

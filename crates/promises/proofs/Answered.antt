@@ -8,8 +8,8 @@ use lib.Dec.{leb, eqb}
 use lib.ListN.{length, take, drop}
 use Rattle.text.specs.Text.{Bytes, same, between}
 use Rattle.text.specs.Later.{later}
-use Rattle.numbers.specs.Numbers.{tooLong, unknownKind, wrongCount, shortOutput, unfinished, missingItem, notAlike, wrongFingerprint, wrongZ, otherRequest, wrongTag, missingTrailer, wrongHash}
-use Rattle.format.specs.Kinds.{Kind, fieldsOf, pubkeyKinds, allKinds}
+use Rattle.numbers.specs.Numbers.{tooLong, unknownKind, wrongCount, shortOutput, unfinished, missingItem, notAlike, wrongFingerprint, wrongZ, otherRequest, wrongTag, missingTrailer, wrongHash, missingBegins, missingEnds}
+use Rattle.format.specs.Kinds.{Kind, fieldsOf, recordKinds, pubkeyKinds, allKinds}
 use Rattle.format.specs.Build.{recordOf, longestRecord}
 use Rattle.format.specs.Read.{Outcome, accepted, refused, answer, place, provided, judged, readIdentity, readOf, readRecord}
 use Rattle.format.specs.Files.{lineAtOver}
@@ -20,16 +20,16 @@ use Rattle.places.specs.Places.{partsFrom}
 use Rattle.reading.specs.Reading.{answerOf, judgedBy, judgedSaid, judge}
 use Rattle.fields.specs.Fields.{wantedNo}
 use Rattle.fields.specs.Attributes.{cardsSaid, attributeNo}
-use Rattle.put.specs.Made as put
-use Rattle.put.specs.Made.{made, says}
+use Rattle.put.specs.Made.{made, denied, says}
 use Rattle.building.specs.Building.{sum, pieces, buildAs, buildOf, recordMade, build}
-use Rattle.items.specs.Items.{lvConcat}
-use Rattle.agreement.specs.Texts.{textMade}
+use Rattle.given.specs.Given.{given}
 use Rattle.files.specs.Walk.{lineSaid, lastLine, numberOf, fieldOf}
 use Rattle.files.specs.declared.Line.the-variants.{Finished, Read}
-use Rattle.trailed.specs.Trailed.{trailer, trailed, recordIn, trailerIn, isTrailer, onlyIf, readTrailed, lineMade}
+use Rattle.trailed.specs.Trailed.{trailer, recordIn, trailerIn, isTrailer, onlyIf, readTrailed}
+use Rattle.mail.specs.Mail.{linesIn, alone, readFound, readMail}
+use Rattle.mail.proofs.Blocks.{opened-found}
 use Rattle.subjects.specs.Subjects.{gnt, alike}
-use Rattle.fingerprint.specs.Fingerprint.{rightPrint, printIn, checkBy, printMade}
+use Rattle.fingerprint.specs.Fingerprint.{rightPrint, printIn, checkBy}
 use Rattle.confirm.specs.Confirm as confirm
 use Rattle.confirm.specs.Confirm.{macKey, kek, moduleTag, centreTag, requestTag, responseTag, answers, denies, saysOf, requestBy, responseBy}
 use Rattle.newer.specs.Newer.{theFirst, theSecond, noChoice, bySubjects, byRecords, newer, choiceNo, choiceField, subject}
@@ -46,10 +46,6 @@ module _ (P : ℕ → ℕ → Type 0) (z : P 0 0) where
   or-missing true more = z
   or-missing false more = more
 
-  or-short : (b : Bool) (v : Bytes) → P shortOutput 0 → let m = cond b (made v) (put.denied shortOutput 0) in P (says m .no) (says m .field)
-  or-short true v more = z
-  or-short false v more = more
-
   -- one field: 12 besides
   pub wanted-answered : (o : Outcome) (wanted : ℕ) → Of o → P missingItem 0 → P (wantedNo o wanted) (place o)
   unfolding wantedNo
@@ -62,13 +58,17 @@ module _ (P : ℕ → ℕ → Type 0) (z : P 0 0) where
   attribute-answered (accepted k fs) wanted h more = or-missing (between 1 (length (cardsSaid (accepted k fs))) wanted) more
   attribute-answered (refused n i) wanted h more = h
 
-  -- a text: 10 besides
-  pub text-answered : (items : List Bytes → List Bytes) (room : ℕ) (o : Outcome) → Of o → P shortOutput 0
-      → P (says (textMade items room o) .no) (says (textMade items room o) .field)
-  text-answered items room (accepted k fs) h more = or-short (leb (length (lvConcat (items fs))) room) (lvConcat (items fs)) more
-  text-answered items room (refused n i) h more = h
+  -- what is written of a record: 10 besides
+  pub given-answered : (bytes : Kind → List Bytes → Bytes) (room : ℕ) (o : Outcome) → Of o → P shortOutput 0
+      → P (says (given bytes room o) .no) (says (given bytes room o) .field)
+  given-answered bytes room (accepted k fs) h more = go (leb (length (bytes k fs)) room)
+    where
+      go : (b : Bool) → let m = cond b (made (bytes k fs)) (denied shortOutput 0) in P (says m .no) (says m .field)
+      go true = z
+      go false = more
+  given-answered bytes room (refused n i) h more = h
 
-  -- the Fingerprint of a public key: checked, 15 besides; written, 10 besides
+  -- the Fingerprint of a public key, checked: 15 besides
   pub check-answered : (o : Outcome) → Of o → P wrongFingerprint 0 → P (checkBy o .no) (checkBy o .field)
   check-answered (accepted k fs) h more = go (same (printIn (readIdentity (subject fs))) (rightPrint fs))
     where
@@ -76,10 +76,6 @@ module _ (P : ℕ → ℕ → Type 0) (z : P 0 0) where
       go true = z
       go false = more
   check-answered (refused n i) h more = h
-
-  pub print-answered : (room : ℕ) (o : Outcome) → Of o → P shortOutput 0 → P (says (printMade room o) .no) (says (printMade room o) .field)
-  print-answered room (accepted k fs) h more = or-short (leb 16 room) (rightPrint fs) more
-  print-answered room (refused n i) h more = h
 
   -- confirmation tags: 16 and 18 besides; of a request 10, of a response 17
   pub request-answered : (x : Bytes) (m k : ℕ) (o : Outcome) → Of o → P wrongZ 0 → P shortOutput 0 → P wrongTag 0
@@ -148,7 +144,7 @@ module _ (P : ℕ → ℕ → Type 0) (z : P 0 0) where
       go true = z
       go false = more
 
-  -- a line with a trailer: 19 and 20 besides; written, 10 besides
+  -- a line with a trailer: 19 and 20 besides
   pub trailed-answered : (s : Bytes) → Of (readRecord (recordIn s)) → P missingTrailer 0 → P wrongHash 0 → Of (readTrailed s)
   unfolding readTrailed
   trailed-answered s own missing wrong = go (isTrailer (trailerIn s)) (same (trailerIn s) (trailer (recordIn s))) (readRecord (recordIn s)) own
@@ -159,9 +155,17 @@ module _ (P : ℕ → ℕ → Type 0) (z : P 0 0) where
       go true c (refused n i) h = h
       go false c o h = missing
 
-  pub written-answered : (r : Bytes) (room : ℕ) (o : Outcome) → Of o → P shortOutput 0 → P (says (lineMade r room o) .no) (says (lineMade r room o) .field)
-  written-answered r room (accepted k fs) h more = or-short (leb (length (trailed r)) room) (trailed r) more
-  written-answered r room (refused n i) h more = h
+  -- a record by mail, read: 21, 22 and 10 besides
+  pub mail-answered : (text : Bytes) (room : ℕ) → ((ks : List Kind) (s : Bytes) → Of (readOf ks s)) → P missingBegins 0 → P missingEnds 0 → P shortOutput 0
+      → P (says (readMail text room) .no) (says (readMail text room) .field)
+  unfolding readMail
+  mail-answered text room own begins ends short =
+      opened-found
+      (λ f. P (says (readFound room f) .no) (says (readFound room f) .field))
+      (λ t s. given-answered (λ k fs. s) room (readOf (alone (named recordKinds t)) s) (own (alone (named recordKinds t)) s) short)
+      ends
+      begins
+      (linesIn text)
 
   -- the newer key: 13 besides
   module _ (more : P notAlike 0) where

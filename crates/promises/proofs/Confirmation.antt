@@ -1,7 +1,7 @@
 -- The promises about confirmation tags, from the definitions of hmac and confirm.
 -- Assumes nothing.
 use Prim.Native.Nat.{ℕ, zero, suc, _≤_, _<_}
-use mathlib.Core.Path.{_≡_, refl, sym, ap, _∙_, subst}
+use mathlib.Core.Path.{_≡_, refl, sym, ap, _∙_}
 use mathlib.Core.Logic.{_⊎_, inl, inr, _≢_}
 use mathlib.Core.Bool.{Bool, true, false, not, cond, _&&_, and-false}
 use mathlib.Core.List.{List, [], _∷_, _++_}
@@ -9,12 +9,12 @@ use native.Mathlib.Omega.{arith}
 use native.Mathlib.Nat.{le-trans}
 use lib.ListN.{length, take, getD, set, take-append-drop, length-drop}
 use lib.Seq.{length-take-le, getD-take, getD-set-same, getD-set-other}
-use lib.Dec.{T, leb, eqb, eqb→eq, leb→le, le→leb, not-T, T-not, lit≤}
+use lib.Dec.{T, leb, eqb, eqb→eq, leb→le, le→leb, lit≤}
 use mir.Facts.{and-yes}
 use borrow.Author.Tests.{eq-eqb, ne-eqb, le-leb, lt-leb}
 use Rattle.text.specs.Text.{Bytes, same, isMac, Ident}
 use Rattle.text.specs.Base16.{base16}
-use Rattle.text.proofs.Tests.{T-true, T-false, same→eq, same-refl}
+use Rattle.text.proofs.Tests.{T-true, same→eq, same-true, same-false}
 use Rattle.put.specs.Made.{leaves}
 use Rattle.put.proofs.Hex.{base16-hex}
 use Rattle.sha384.specs.Sha384.{sha384}
@@ -25,12 +25,12 @@ use Rattle.sha384.proofs.Pieces.{ended-all}
 use Rattle.format.specs.Kinds.{Kind, REQ, RESP, Field, Text, fieldsOf}
 use Rattle.format.specs.Build.{FitAll, Fits, IsIdentity, Permitted, Built, recordOf}
 use Rattle.format.specs.Read.{Outcome, accepted, refused, answer, readOf}
-use Rattle.format.proofs.Table.{among-one}
 use Rattle.format.proofs.Fields.{fit-length, fit-at, record-short}
 use Rattle.format.proofs.Exactly.{identity-tame, read-exact, read-honest}
 use Rattle.format.proofs.Refusals.{Gives}
 use Rattle.items.specs.Items.{lvConcat}
 use Rattle.agreement.specs.Texts.{idSm, idKmc, tvp, sharedItems, moduleItems, centreItems}
+use Rattle.agreement.proofs.Request.{one-built}
 use Rattle.hmac.specs.Hmac.{mixed, ipad, mac, hmac}
 use Rattle.hmac.specs.State.{hmacBegun, hmacEnded}
 use Rattle.hmac.proofs.Tags.{tag-size, tag-bytes}
@@ -68,22 +68,13 @@ module _ (y : ℕ) (nonzero : y ≢ 0) (other : y ≢ 18) where
   third false b c d = inl refl
 
 same-no : (x y : Bytes) → T (not (same x y)) → x ≢ y
-same-no x y t e = T-not (same x y) t (rw e (same-refl y))
-
-no-same : (x y : Bytes) → x ≢ y → T (not (same x y))
-no-same x y n = not-T (same x y) (λ t. n (same→eq x y t))
-
-yes-same : (x y : Bytes) → x ≡ y → T (same x y)
-yes-same x y e = rw e (same-refl y)
+same-no x y t e = rw (same-true x y e) at t
 
 -- ---- an accepted record that was to be of one kind
 
 module _ (k : Kind) (s : Bytes) where
-  one-built : answer (readOf (k ∷ []) s) ≡ 0 → (fs : List Bytes) × Built (k ∷ []) s k fs
-  one-built z =
-      let (j, fs, e) = read-honest (k ∷ []) s z in
-      let b = read-exact (k ∷ []) s j fs .0 e in
-      (fs, subst (λ (i : Kind). Built (k ∷ []) s i fs) (among-one j k (b .of-kind)) b)
+  one-zero : answer (readOf (k ∷ []) s) ≡ 0 → (fs : List Bytes) × Built (k ∷ []) s k fs
+  one-zero z = let (j, fs, e) = read-honest (k ∷ []) s z in (fs, one-built k s e)
 
   built-read : (fs : List Bytes) → Built (k ∷ []) s k fs → readOf (k ∷ []) s ≡ accepted k fs
   built-read fs b = read-exact (k ∷ []) s k fs .1 b
@@ -152,12 +143,12 @@ module _ (z request m k m′ k′ : Bytes) (r : Confirmed) (p : Confirms (confir
 
   zero-built : r .no ≡ 0 → (fs : List Bytes) × Built (REQ ∷ []) request REQ fs
   unfolding confirmRequest
-  zero-built h = one-built REQ request (request-zero z request (length m) (length k) (readOf (REQ ∷ []) request) (sym no-so ∙ h))
+  zero-built h = one-zero REQ request (request-zero z request (length m) (length k) (readOf (REQ ∷ []) request) (sym no-so ∙ h))
 
   tag-built : r .no ≡ 18 → (fs : List Bytes) × Built (REQ ∷ []) request REQ fs
   unfolding confirmRequest
   tag-built h =
-      one-built REQ request (request-tag z request (length m) (length k) (readOf (REQ ∷ []) request) (load-given request ofLoads tt .0) (sym no-so ∙ h))
+      one-zero REQ request (request-tag z request (length m) (length k) (readOf (REQ ∷ []) request) (load-given request ofLoads tt .0) (sym no-so ∙ h))
 
   keys-left : (fs : List Bytes) → Built (REQ ∷ []) request REQ fs → r .no ≡ 0 → found ≡ keys (macKey z fs) (kek z fs)
   unfolding confirmRequest
@@ -176,14 +167,14 @@ module _ (z request m k m′ k′ : Bytes) (r : Confirmed) (p : Confirms (confir
           let (fs, b) = zero-built h in
           let (t, u, v) = zero-all 10 (λ e. absurd (omega arith)) (λ e. absurd (omega arith)) (eqb (length z) 96) (leb 24 (length m) && leb 24 (length k)) (same (requestTag fs) (moduleTag z fs)) (sym (no-of (of fs b)) ∙ h) in
           (fs, asked-so fs b t u, same→eq (requestTag fs) (moduleTag z fs) v),
-      λ (fs, a, e). asked-no fs a ∙ rw (T-true (same (requestTag fs) (moduleTag z fs)) (yes-same (requestTag fs) (moduleTag z fs) e)),
+      λ (fs, a, e). asked-no fs a ∙ rw (same-true (requestTag fs) (moduleTag z fs) e),
     );
     differs = (
       λ h.
           let (fs, b) = tag-built h in
           let (t, u, v) = tag-alone 10 (λ e. absurd (omega arith)) (λ e. absurd (omega arith)) (eqb (length z) 96) (leb 24 (length m) && leb 24 (length k)) (same (requestTag fs) (moduleTag z fs)) (sym (no-of (of fs b)) ∙ h) in
           (fs, asked-so fs b t u, same-no (requestTag fs) (moduleTag z fs) v),
-      λ (fs, a, e). asked-no fs a ∙ rw (T-false (same (requestTag fs) (moduleTag z fs)) (no-same (requestTag fs) (moduleTag z fs) e)),
+      λ (fs, a, e). asked-no fs a ∙ rw (same-false (requestTag fs) (moduleTag z fs) e),
     );
     written = λ fs b h.
         let c = keys-left fs b h in
@@ -233,17 +224,17 @@ module _ (z request response : Bytes) where
     zero-both : r .no ≡ 0 → (fs gs : List Bytes) × Built (REQ ∷ []) request REQ fs × Built (RESP ∷ []) response RESP gs
     unfolding confirmResponse
     zero-both h =
-        let (fs, b) = one-built REQ request (asked-zero (readOf (REQ ∷ []) request) (readOf (RESP ∷ []) response) (sym its-no ∙ h)) in
+        let (fs, b) = one-zero REQ request (asked-zero (readOf (REQ ∷ []) request) (readOf (RESP ∷ []) response) (sym its-no ∙ h)) in
         let e : responseBy z (accepted REQ fs) (readOf (RESP ∷ []) response) .no ≡ 0 = rw (built-read REQ request fs b) at (sym its-no ∙ h) in
-        let (gs, c) = one-built RESP response (answered-zero REQ fs (readOf (RESP ∷ []) response) e) in
+        let (gs, c) = one-zero RESP response (answered-zero REQ fs (readOf (RESP ∷ []) response) e) in
         (fs, gs, b, c)
 
     tag-both : r .no ≡ 18 → (fs gs : List Bytes) × Built (REQ ∷ []) request REQ fs × Built (RESP ∷ []) response RESP gs
     unfolding confirmResponse
     tag-both h =
-        let (fs, b) = one-built REQ request (asked-tag (readOf (REQ ∷ []) request) (readOf (RESP ∷ []) response) (load-given request ofLoads tt .0) (sym its-no ∙ h)) in
+        let (fs, b) = one-zero REQ request (asked-tag (readOf (REQ ∷ []) request) (readOf (RESP ∷ []) response) (load-given request ofLoads tt .0) (sym its-no ∙ h)) in
         let e : responseBy z (accepted REQ fs) (readOf (RESP ∷ []) response) .no ≡ 18 = rw (built-read REQ request fs b) at (sym its-no ∙ h) in
-        let (gs, c) = one-built RESP response (answered-tag REQ fs (readOf (RESP ∷ []) response) (load-given response ofLoads tt .1) e) in
+        let (gs, c) = one-zero RESP response (answered-tag REQ fs (readOf (RESP ∷ []) response) (load-given response ofLoads tt .1) e) in
         (fs, gs, b, c)
 
     answered-so : (fs gs : List Bytes) → Built (REQ ∷ []) request REQ fs → Built (RESP ∷ []) response RESP gs → T (eqb (length z) 96) → T (answers fs gs) → Answered z request response fs gs
@@ -262,17 +253,17 @@ module _ (z request response : Bytes) where
     answers-yes : (fs gs : List Bytes) → Answered z request response fs gs → answers fs gs ≡ true
     answers-yes fs gs a =
         rw (
-          T-true (same (idKmc fs) (getD gs 0 [])) (yes-same (idKmc fs) (getD gs 0 []) (a .same-kmc)),
-          T-true (same (idSm fs) (getD gs 1 [])) (yes-same (idSm fs) (getD gs 1 []) (a .same-sm)),
-          T-true (same (tvp fs) (getD gs 2 [])) (yes-same (tvp fs) (getD gs 2 []) (a .same-tvp)),
+          same-true (idKmc fs) (getD gs 0 []) (a .same-kmc),
+          same-true (idSm fs) (getD gs 1 []) (a .same-sm),
+          same-true (tvp fs) (getD gs 2 []) (a .same-tvp),
         )
 
     answers-no : (fs gs : List Bytes) → (idKmc fs ≢ getD gs 0 []) ⊎ (idSm fs ≢ getD gs 1 []) ⊎ (tvp fs ≢ getD gs 2 []) → answers fs gs ≡ false
-    answers-no fs gs (inl n) = rw (T-false (same (idKmc fs) (getD gs 0 [])) (no-same (idKmc fs) (getD gs 0 []) n))
+    answers-no fs gs (inl n) = rw (same-false (idKmc fs) (getD gs 0 []) n)
     answers-no fs gs (inr (inl n)) =
-        rw (T-false (same (idSm fs) (getD gs 1 [])) (no-same (idSm fs) (getD gs 1 []) n), and-false (same (idKmc fs) (getD gs 0 [])))
+        rw (same-false (idSm fs) (getD gs 1 []) n, and-false (same (idKmc fs) (getD gs 0 [])))
     answers-no fs gs (inr (inr n)) =
-        rw (T-false (same (tvp fs) (getD gs 2 [])) (no-same (tvp fs) (getD gs 2 []) n)) (and-false (same (idKmc fs) (getD gs 0 []) && same (idSm fs) (getD gs 1 [])))
+        rw (same-false (tvp fs) (getD gs 2 []) n) (and-false (same (idKmc fs) (getD gs 0 []) && same (idSm fs) (getD gs 1 [])))
 
     answered-no : (fs gs : List Bytes) → Answered z request response fs gs → r .no ≡ cond (same (responseTag gs) (centreTag z fs)) 0 18
     answered-no fs gs a = no-of (so fs gs (a .asked) (a .built)) ∙ rw (eq-eqb (length z) 96 (a .z-long), answers-yes fs gs a)
@@ -289,14 +280,14 @@ module _ (z request response : Bytes) where
             let (fs, gs, b, c) = zero-both h in
             let (t, u, v) = zero-all 17 (λ e. absurd (omega arith)) (λ e. absurd (omega arith)) (eqb (length z) 96) (answers fs gs) (same (responseTag gs) (centreTag z fs)) (sym (no-of (so fs gs b c)) ∙ h) in
             (fs, gs, answered-so fs gs b c t u, same→eq (responseTag gs) (centreTag z fs) v),
-        λ (fs, gs, a, e). answered-no fs gs a ∙ rw (T-true (same (responseTag gs) (centreTag z fs)) (yes-same (responseTag gs) (centreTag z fs) e)),
+        λ (fs, gs, a, e). answered-no fs gs a ∙ rw (same-true (responseTag gs) (centreTag z fs) e),
       );
       differs = (
         λ h.
             let (fs, gs, b, c) = tag-both h in
             let (t, u, v) = tag-alone 17 (λ e. absurd (omega arith)) (λ e. absurd (omega arith)) (eqb (length z) 96) (answers fs gs) (same (responseTag gs) (centreTag z fs)) (sym (no-of (so fs gs b c)) ∙ h) in
             (fs, gs, answered-so fs gs b c t u, same-no (responseTag gs) (centreTag z fs) v),
-        λ (fs, gs, a, e). answered-no fs gs a ∙ rw (T-false (same (responseTag gs) (centreTag z fs)) (no-same (responseTag gs) (centreTag z fs) e)),
+        λ (fs, gs, a, e). answered-no fs gs a ∙ rw (same-false (responseTag gs) (centreTag z fs) e),
       );
     }
 
@@ -381,7 +372,7 @@ module _ (z : Bytes) (fs : List Bytes) (p : Permitted REQ fs) where
   confirmed : (m k : ℕ) → length z ≡ 96 → 24 ≤ m → 24 ≤ k → saysOf (confirmRequest z (recordOf REQ right) m k) ≡ plain 0
   confirmed m k l hm hk =
       request-so z (recordOf REQ right) m k right right-built
-      ∙ ap plain (rw (eq-eqb (length z) 96 l, le-leb 24 m hm, le-leb 24 k hk, T-true (same (requestTag right) (moduleTag z right)) (yes-same (requestTag right) (moduleTag z right) right-tag)))
+      ∙ ap plain (rw (eq-eqb (length z) 96 l, le-leb 24 m hm, le-leb 24 k hk, same-true (requestTag right) (moduleTag z right) right-tag))
 
   -- and its response
 
@@ -412,7 +403,7 @@ module _ (z : Bytes) (fs : List Bytes) (p : Permitted REQ fs) where
   answered : length z ≡ 96 → confirmResponse z (recordOf REQ fs) (recordOf RESP its-response) ≡ plain 0
   answered l =
       response-so z (recordOf REQ fs) (recordOf RESP its-response) fs its-response request-built response-built
-      ∙ ap plain (rw (eq-eqb (length z) 96 l, T-true (same (idKmc fs) (idKmc fs)) (same-refl (idKmc fs)), T-true (same (idSm fs) (idSm fs)) (same-refl (idSm fs)), T-true (same (tvp fs) (tvp fs)) (same-refl (tvp fs)), T-true (same (centreTag z fs) (centreTag z fs)) (same-refl (centreTag z fs))))
+      ∙ ap plain (rw (eq-eqb (length z) 96 l, same-true (idKmc fs) (idKmc fs) refl, same-true (idSm fs) (idSm fs) refl, same-true (tvp fs) (tvp fs) refl, same-true (centreTag z fs) (centreTag z fs) refl))
 
 -- ---- HMAC in slices
 

@@ -12,12 +12,13 @@ use Rattle.format.specs.Read.{place, nobody, readIdentity, readOf, readRecord}
 use Rattle.format.proofs.Refusals.{naming, Names, judged-names, over-names}
 use Rattle.table.specs.Table.{kindsFrom}
 use Rattle.fields.specs.Attributes.{attributeNo}
-use Rattle.agreement.specs.Texts.{sharedItems, moduleItems, centreItems, sharedInfo, moduleText, centreText}
+use Rattle.agreement.specs.Texts.{sharedInfo, moduleText, centreText}
 use Rattle.fingerprint.specs.Fingerprint.{checkFingerprint, writeFingerprint}
 use Rattle.confirm.specs.Confirm.{confirmRequest, confirmResponse}
 use Rattle.trailed.specs.Trailed.{recordIn, readTrailed, writeTrailed}
+use Rattle.mail.specs.Mail.{writeMail}
 use Rattle.promises.specs.FieldNumbers.{FieldNumbers}
-use Rattle.promises.proofs.Answered.{answered, wanted-answered, attribute-answered, text-answered, judge-answered, build-answered, line-answered, last-answered, trailed-answered, written-answered, newer-answered, check-answered, print-answered, request-answered, response-answered}
+use Rattle.promises.proofs.Answered.{answered, wanted-answered, attribute-answered, given-answered, judge-answered, build-answered, line-answered, last-answered, trailed-answered, mail-answered, newer-answered, check-answered, request-answered, response-answered}
 
 identity-names : (s : Bytes) → Names (readIdentity s)
 unfolding readIdentity
@@ -42,7 +43,7 @@ attribute-names : (s : Bytes) (wanted : ℕ) → NamesAt (attributeNo (readOf ke
 attribute-names s wanted = attribute-answered NamesAt refl (readOf keyKinds s) wanted (read-names keyKinds s) refl
 
 pub field-numbers : FieldNumbers
-unfolding sharedInfo moduleText centreText checkFingerprint writeFingerprint confirmRequest confirmResponse writeTrailed
+unfolding sharedInfo moduleText centreText checkFingerprint writeFingerprint confirmRequest confirmResponse writeTrailed writeMail
 field-numbers = record {
   read-identity = λ κs a r s p. rw p (answered NamesAt refl (readIdentity (now (a .0))) (identity-names (now (a .0))));
   read-record = λ κs a r s p. rw p (answered NamesAt refl (readRecord (now (a .0))) (record-names (now (a .0))));
@@ -57,19 +58,21 @@ field-numbers = record {
   attribute = λ κs a r s p. rw (p .its-no, p .its-field) (attribute-names (now (a .0)) (a .1 .0));
   attribute-named = λ κs a r s p. rw (p .its-no, p .its-field) (attribute-names (now (a .0)) _);
   build = λ κs a r s p. rw (p .said) (build-answered NamesAt refl (judged-names readIdentity) refl refl refl refl (now (a .0)) (now (a .1 .0)) (now (a .1 .1 .0)) (length (now (a .1 .1 .1 .0))));
-  shared-info = λ κs a r s p. rw (p .said) (text-answered NamesAt refl sharedItems (length (now (a .1 .0))) (readOf (REQ ∷ []) (now (a .0))) (read-names (REQ ∷ []) (now (a .0))) refl);
-  module-text = λ κs a r s p. rw (p .said) (text-answered NamesAt refl moduleItems (length (now (a .1 .0))) (readOf (REQ ∷ []) (now (a .0))) (read-names (REQ ∷ []) (now (a .0))) refl);
-  centre-text = λ κs a r s p. rw (p .said) (text-answered NamesAt refl centreItems (length (now (a .1 .0))) (readOf (REQ ∷ []) (now (a .0))) (read-names (REQ ∷ []) (now (a .0))) refl);
+  shared-info = λ κs a r s p. rw (p .said) (given-answered NamesAt refl _ (length (now (a .1 .0))) (readOf (REQ ∷ []) (now (a .0))) (read-names (REQ ∷ []) (now (a .0))) refl);
+  module-text = λ κs a r s p. rw (p .said) (given-answered NamesAt refl _ (length (now (a .1 .0))) (readOf (REQ ∷ []) (now (a .0))) (read-names (REQ ∷ []) (now (a .0))) refl);
+  centre-text = λ κs a r s p. rw (p .said) (given-answered NamesAt refl _ (length (now (a .1 .0))) (readOf (REQ ∷ []) (now (a .0))) (read-names (REQ ∷ []) (now (a .0))) refl);
   line-at = λ κs a r s p. rw p (line-answered NamesAt refl readRecord record-names refl (now (a .0)) (a .1 .0));
   step-from = λ κs a r s p. rw p (line-answered NamesAt refl readRecord record-names refl (now (a .0)) (a .1 .0));
   last-line = λ κs a r s p. rw p (last-answered NamesAt refl refl (a .0) (a .1 .0));
   read-trailed = λ κs a r s p. rw p (answered NamesAt refl (readTrailed (now (a .0))) (trailed-names (now (a .0))));
   trailed-at = λ κs a r s p. rw p (line-answered NamesAt refl readTrailed trailed-names refl (now (a .0)) (a .1 .0));
-  write-trailed = λ κs a r s p. rw (p .said) (written-answered NamesAt refl (now (a .0)) (length (now (a .1 .0))) (readRecord (now (a .0))) (record-names (now (a .0))) refl);
+  write-trailed = λ κs a r s p. rw (p .said) (given-answered NamesAt refl _ (length (now (a .1 .0))) (readRecord (now (a .0))) (record-names (now (a .0))) refl);
+  write-mail = λ κs a r s p. rw (p .said) (given-answered NamesAt refl _ (length (now (a .1 .0))) (readRecord (now (a .0))) (record-names (now (a .0))) refl);
+  read-mail = λ κs a r s p. rw (p .said) (mail-answered NamesAt refl (now (a .0)) (length (now (a .1 .0))) read-names refl refl refl);
   newer-of = λ κs a r s p. rw p (newer-answered NamesAt refl refl identity-names (read-names pubkeyKinds) (now (a .0)) (now (a .1 .0)));
   newer = λ κs a r s p. rw (p .number-so, p .field-so) (newer-answered NamesAt refl refl identity-names (read-names pubkeyKinds) (now (a .0)) (now (a .1 .0)));
   check-fingerprint = λ κs a r s p. rw p (check-answered NamesAt refl (readOf pubkeyKinds (now (a .0))) (read-names pubkeyKinds (now (a .0))) refl);
-  write-fingerprint = λ κs a r s p. rw (p .said) (print-answered NamesAt refl (length (now (a .1 .0))) (readOf pubkeyKinds (now (a .0))) (read-names pubkeyKinds (now (a .0))) refl);
+  write-fingerprint = λ κs a r s p. rw (p .said) (given-answered NamesAt refl _ (length (now (a .1 .0))) (readOf pubkeyKinds (now (a .0))) (read-names pubkeyKinds (now (a .0))) refl);
   confirm-request = λ κs a r s p. rw (p .said) (request-answered NamesAt refl (now (a .0)) (length (now (a .1 .1 .0))) (length (now (a .1 .1 .1 .0))) (readOf (REQ ∷ []) (now (a .1 .0))) (read-names (REQ ∷ []) (now (a .1 .0))) refl refl refl);
   confirm-response = λ κs a r s p. rw p (response-answered NamesAt refl (now (a .0)) (readOf (REQ ∷ []) (now (a .1 .0))) (readOf (RESP ∷ []) (now (a .1 .1 .0))) (read-names (REQ ∷ []) (now (a .1 .0))) (read-names (RESP ∷ []) (now (a .1 .1 .0))) refl refl refl);
 }

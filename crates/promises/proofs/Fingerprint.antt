@@ -4,14 +4,13 @@ use Prim.Native.Nat.{ℕ}
 use mathlib.Core.Path.{_≡_, refl, sym, ap, _∙_}
 use mathlib.Core.Logic.{_≢_}
 use mathlib.Core.Bool.{Bool, cond}
-use mathlib.Core.List.{_++_}
+use mathlib.Core.List.{List}
 use native.Mathlib.Omega.{arith}
-use lib.ListN.{length, take, drop}
+use lib.ListN.{length, take}
 use denote.Ref.{now}
 use lib.Dec.{T}
-use borrow.Author.Tests.{le-leb, lt-leb}
 use Rattle.text.specs.Text.{Bytes, same, isPrint}
-use Rattle.text.proofs.Tests.{T-true, T-false, by-test, same→eq, same-refl}
+use Rattle.text.proofs.Tests.{T-false, by-test, same→eq, same-true, same-false}
 use Rattle.put.proofs.Hex.{base16-hex}
 use Rattle.sha384.specs.Sha384.{left384, sha384}
 use Rattle.numbers.specs.Numbers.{wrongFingerprint}
@@ -22,10 +21,12 @@ use Rattle.format.proofs.Refusals.{Gives}
 use Rattle.format.proofs.Exactly.{read-exact, record-exact, read-honest}
 use Rattle.subjects.specs.Keys.{Key}
 use Rattle.subjects.proofs.Keys.{key}
-use Rattle.put.specs.Made.{Made, made, denied, says, leaves, Writes}
+use Rattle.put.specs.Made.{Writes}
 use Rattle.put.specs.declared.Written.{Written}
-use Rattle.fingerprint.specs.Fingerprint.{printOf, checkBy, checkFingerprint, writeFingerprint}
+use Rattle.given.proofs.Given.{said-own, said-short, said-whole, refusal-leaves}
+use Rattle.fingerprint.specs.Fingerprint.{printOf, rightPrint, checkBy, checkFingerprint, writeFingerprint}
 use Rattle.fingerprint.specs.declared.Checked.{Checked}
+use Rattle.fingerprint.proofs.Prints.{print-length}
 use Rattle.promises.specs.Refusals.{ofPubkeys}
 use Rattle.promises.specs.Fingerprint.{standing, right, CheckSaid, WriteSaid, Fingerprints}
 use Rattle.promises.proofs.Refusals.{pubkey-given}
@@ -67,13 +68,7 @@ same-zero : (x y : Bytes) → number-of (same x y) ≡ 0 → x ≡ y
 same-zero x y h = by-test (same x y) (λ t. same→eq x y t) (λ t. let e = T-false (same x y) t in absurd (let z : wrongFingerprint ≡ 0 = rw e at h in omega arith))
 
 same-other : (x y : Bytes) → number-of (same x y) ≡ wrongFingerprint → x ≢ y
-same-other x y h e = let z : 0 ≡ wrongFingerprint = rw (T-true (same y y) (same-refl y)) at (rw e at h) in absurd (omega arith)
-
-zero-same : (x y : Bytes) → x ≡ y → number-of (same x y) ≡ 0
-zero-same x y e = rw (e, T-true (same y y) (same-refl y))
-
-other-same : (x y : Bytes) → x ≢ y → number-of (same x y) ≡ wrongFingerprint
-other-same x y n = by-test (same x y) (λ t. absurd (n (same→eq x y t))) (λ t. rw (T-false (same x y) t))
+same-other x y h e = let z : 0 ≡ wrongFingerprint = rw (same-true x y e) at h in absurd (omega arith)
 
 all-records : (k : Kind) → T (among k pubkeyKinds) → T (among k recordKinds)
 all-records SMMAN t = absurd t
@@ -97,34 +92,24 @@ check-said s r e =
     let of : (k : Key s) → r .no ≡ number-of (same (standing k) (right k)) = λ k. no ∙ ap (λ (c : Checked). c .no) (said-of s k) in
     record {
       own = λ n i h. e ∙ rw h;
-      agrees = (λ z. let k = pub-key s (sym no ∙ z) in (k, same-zero (standing k) (right k) (sym (of k) ∙ z)), λ (k, p). of k ∙ zero-same (standing k) (right k) p);
-      differs = (λ z. let k = other-key s (sym no ∙ z) in (k, same-other (standing k) (right k) (sym (of k) ∙ z)), λ (k, p). of k ∙ other-same (standing k) (right k) p);
+      agrees = (λ z. let k = pub-key s (sym no ∙ z) in (k, same-zero (standing k) (right k) (sym (of k) ∙ z)), λ (k, p). of k ∙ ap number-of (same-true (standing k) (right k) p));
+      differs = (λ z. let k = other-key s (sym no ∙ z) in (k, same-other (standing k) (right k) (sym (of k) ∙ z)), λ (k, p). of k ∙ ap number-of (same-false (standing k) (right k) p));
       kept = record-keeps s;
     }
 
 -- ---- the call that writes
 
-print-length : (text : Bytes) → length (printOf text) ≡ 16
-unfolding sha384 left384
-print-length text = refl
-
--- whatever is made, a refusal leaves the output
-pub refusal-leaves : (m : Made) (out out′ : Bytes) (r : Written) → Writes m out out′ r → r .no ≢ 0 → (r .len ≡ 0) × (out′ ≡ out)
-refusal-leaves (made v) out out′ r w n = absurd (n (ap (λ (x : Written). x .no) (w .said)))
-refusal-leaves (denied m i) out out′ r w n = (ap (λ (x : Written). x .len) (w .said), w .left)
-
 write-said : (s out out′ : Bytes) (r : Written) → Writes (writeFingerprint s (length out)) out out′ r → WriteSaid s out out′ r
 unfolding writeFingerprint
 write-said s out out′ r w =
+    let print : Kind → List Bytes → Bytes = λ k fs. rightPrint fs in
+    let so : (k : Key s) → rightPrint (k .fields) ≡ right k = λ k. rw (k .known) in
+    let long : (k : Key s) → length (rightPrint (k .fields)) ≡ 16 = λ k. ap length (so k) ∙ print-length _ in
     record {
-      own = λ n i h. rw (w .said, h) (refl, refl);
-      short = λ k h. rw (w .said, k .is, lt-leb 16 (length out) h) (refl, refl);
-      written = λ k h.
-          let m : writeFingerprint s (length out) ≡ made (right k) = rw (k .is, le-leb 16 (length out) h, k .known) in
-          let said : r ≡ says (made (right k)) = w .said ∙ ap says m in
-          let left : out′ ≡ leaves (made (right k)) out = w .left ∙ ap (λ (x : Made). leaves x out) m in
-          (ap (λ (x : Written). x .no) said, ap (λ (x : Written). x .len) said ∙ print-length _, left ∙ ap (λ (j : ℕ). right k ++ drop j out) (print-length _));
-      untouched = refusal-leaves (writeFingerprint s (length out)) out out′ r w;
+      own = said-own print w;
+      short = λ k h. said-short print w (k .is) (omega (arith, long k));
+      written = λ k h. rw (long k, so k) at (said-whole print w (k .is) (omega (arith, long k)));
+      untouched = refusal-leaves (writeFingerprint s (length out)) w;
     }
 
 -- ---- the characters

@@ -23,9 +23,10 @@ use Rattle.hmac.specs.Hmac.{K₀, mixed, mac, hmac}
 use Rattle.confirm.specs.Confirm.{confirmRequest, confirmResponse}
 use Rattle.sha1.specs.Sha1 as short
 use Rattle.trailed.specs.Trailed.{trailer, trailed, readTrailed, writeTrailed}
+use Rattle.mail.specs.Mail as mail
 use Rattle.promises.specs.Values.{Value, AllCome, admittedFrom}
 use Rattle.promises.specs.Worked.{manufacturerIdFields, manufacturerId, moduleIdFields, moduleId, centreIdFields, centreId, manufacturerKeyFields, manufacturerKey, moduleKeyFields, moduleKey, centreKeyFields, centreKey, requestFields, request, responseFields, response, keyAttributes, keyFields, key, longAttributes}
-use Rattle.promises.specs.Fixed.{rows, alphabets, limits, labels, checks, numbers, building, texts, others, lists, keys, longKeys, days, dates, hashes, agreeing, differing, fingerprints, tags, confirming, shortHashes, printed, lines, fixed}
+use Rattle.promises.specs.Fixed.{rows, alphabets, limits, labels, checks, numbers, building, texts, others, lists, keys, longKeys, days, dates, hashes, agreeing, differing, fingerprints, tags, confirming, shortHashes, printed, lines, fixed, posted, letters}
 
 -- two sets of values are one; a record, so that the checker finds which two
 record Come (vs : List Value) : Type 0 where
@@ -131,6 +132,14 @@ all-lines : Come lines
 unfolding lines readTrailed writeTrailed trailed trailer lineAtOver lineOfOver responseFields response moduleIdFields moduleId centreIdFields centreId recordOf withCheck checkText hexDigit crcOf addAll add bitSteps bitStep isIdent isTimestamp looks numberFrom isHex checkNo identityAnswer fieldAnswer wholeAnswer judged readAs readOver readIdentity readOf readRecord turns grown block hashed short.byTwenty short.padding short.padded short.H₀ short.word short.words short.schedule short.rounds short.compress short.joined short.sha1
 all-lines = record { come = (refl, (refl, (refl, (refl, (refl, (refl, (refl, (refl, (refl, (refl, (refl, (refl, (refl, (refl, (refl, (refl, (refl, tt))))))))))))))))) }
 
+all-posted : Come posted
+unfolding posted mail.writeMail mail.blockOf mail.rows requestFields request moduleIdFields moduleId centreIdFields centreId recordOf withCheck checkText hexDigit crcOf addAll add bitSteps bitStep isIdent isTimestamp looks numberFrom isHex isPoint checkNo identityAnswer fieldAnswer wholeAnswer judged readAs readOver readIdentity readOf readRecord
+all-posted = record { come = (refl, tt) }
+
+all-letters : Come letters
+unfolding letters mail.writeMail mail.readMail mail.blockOf mail.rows mail.isBegins responseFields response moduleIdFields moduleId centreIdFields centreId recordOf withCheck checkText hexDigit crcOf addAll add bitSteps bitStep isIdent isTimestamp looks numberFrom isHex isPoint checkNo identityAnswer fieldAnswer wholeAnswer judged readAs readOver readIdentity readOf readRecord
+all-letters = record { come = (refl, (refl, (refl, (refl, (refl, (refl, (refl, (refl, (refl, (refl, (refl, (refl, (refl, (refl, (refl, (refl, (refl, (refl, (refl, (refl, (refl, (refl, (refl, (refl, (refl, (refl, (refl, tt))))))))))))))))))))))))))) }
+
 pub all-fixed : AllCome fixed
 unfolding fixed
-all-fixed = (all-rows and all-alphabets and all-limits and all-labels and all-checks and all-numbers and all-building and all-texts and all-others and all-lists and all-keys and all-long-keys and all-days and all-dates and all-hashes and all-agreeing and all-differing and all-fingerprints and all-tags and all-confirming and all-short-hashes and all-printed and all-lines) .come
+all-fixed = (all-rows and all-alphabets and all-limits and all-labels and all-checks and all-numbers and all-building and all-texts and all-others and all-lists and all-keys and all-long-keys and all-days and all-dates and all-hashes and all-agreeing and all-differing and all-fingerprints and all-tags and all-confirming and all-short-hashes and all-printed and all-lines and all-posted and all-letters) .come

@@ -73,4 +73,8 @@ interface = record {
   count-trailed = λ κs a r s p. p;
   write-trailed-said = λ κs a r s p. p .said;
   write-trailed-out = λ κs a r s p. p .left;
+  write-mail-said = λ κs a r s p. p .said;
+  write-mail-out = λ κs a r s p. p .left;
+  read-mail-said = λ κs a r s p. p .said;
+  read-mail-out = λ κs a r s p. p .left;
 }

@@ -20,13 +20,14 @@ use Rattle.put.specs.Made as put
 use Rattle.put.specs.Made.{made, says}
 use Rattle.items.specs.Items.{textItem}
 use Rattle.items.specs.Place.{placeFrom}
-use Rattle.agreement.specs.Texts.{sharedItems, moduleItems, centreItems, sharedInfo, moduleText, centreText}
+use Rattle.agreement.specs.Texts.{sharedInfo, moduleText, centreText}
 use Rattle.fingerprint.specs.Fingerprint.{checkFingerprint, writeFingerprint}
 use Rattle.confirm.specs.Confirm.{confirmRequest, confirmResponse}
 use Rattle.list_text.specs.Listing.{listText, listRoom, writeList}
 use Rattle.trailed.specs.Trailed.{recordIn, readTrailed, writeTrailed}
+use Rattle.mail.specs.Mail.{writeMail}
 use Rattle.promises.specs.Refusals.{ofIdentities, ofRecords, ofPubkeys, ofKeys, ofLoads, ofTexts, Refusals}
-use Rattle.promises.proofs.Answered.{answered, wanted-answered, attribute-answered, text-answered, judge-answered, build-answered, line-answered, last-answered, trailed-answered, written-answered, newer-answered, check-answered, print-answered, request-answered, response-answered}
+use Rattle.promises.proofs.Answered.{answered, wanted-answered, attribute-answered, given-answered, judge-answered, build-answered, line-answered, last-answered, trailed-answered, mail-answered, newer-answered, check-answered, request-answered, response-answered}
 
 -- n is one of ns, whatever the field's number
 abbrev In : List ℕ → ℕ → ℕ → Type 0
@@ -43,7 +44,7 @@ identity-given : (s : Bytes) → Gives ofIdentities (readIdentity s)
 unfolding readIdentity
 identity-given s = over-given ofIdentities tt nobody (tt, tt, tt, tt, tt) identityKinds (tt, (tt, (tt, tt))) s
 
-read-given : (ks : List Kind) (s : Bytes) → Gives ofRecords (readOf ks s)
+pub read-given : (ks : List Kind) (s : Bytes) → Gives ofRecords (readOf ks s)
 unfolding readOf
 read-given ks s = over-given ofRecords tt readIdentity (tt, tt, tt, tt, tt) ks (all-of (λ k. T (covers ofRecords k)) (every-kind (covers ofRecords) tt) ks) s
 
@@ -72,7 +73,7 @@ unfolding readOf
 pubkey-given s = over-given ofPubkeys tt readIdentity (tt, tt, tt, tt, tt) pubkeyKinds (tt, (tt, tt)) s
 
 -- a number more may be given
-further : (m : ℕ) (ns : List ℕ) (o : Outcome) → Gives ns o → Gives (m ∷ ns) o
+pub further : (m : ℕ) (ns : List ℕ) (o : Outcome) → Gives ns o → Gives (m ∷ ns) o
 further m ns o h = or-right (eqb (answer o) m) (oneOf ns (answer o)) h
 
 -- ---- the fields alone, and building
@@ -111,6 +112,9 @@ trailed-given s =
     let o = readRecord (recordIn s) in
     trailed-answered (In (19 ∷ 20 ∷ ofRecords)) tt s (further 19 (20 ∷ ofRecords) o (further 20 ofRecords o (record-given (recordIn s)))) tt tt
 
+mail-given : (ks : List Kind) (s : Bytes) → Gives (10 ∷ 21 ∷ 22 ∷ ofRecords) (readOf ks s)
+mail-given ks s = let o = readOf ks s in further 10 (21 ∷ 22 ∷ ofRecords) o (further 21 (22 ∷ ofRecords) o (further 22 ofRecords o (read-given ks s)))
+
 subject-given : (s : Bytes) → Gives (13 ∷ ofPubkeys) (readIdentity s)
 subject-given s = one-of (oneOf (13 ∷ ofPubkeys)) ofIdentities tt (answer (readIdentity s)) (identity-given s)
 
@@ -129,7 +133,7 @@ attribute-given : (s : Bytes) (wanted : ℕ) → T (oneOf (12 ∷ ofKeys) (attri
 attribute-given s wanted = attribute-answered (In (12 ∷ ofKeys)) tt (readOf keyKinds s) wanted (further 12 ofKeys (readOf keyKinds s) (wrapped-given s)) tt
 
 pub refusals : Refusals
-unfolding sharedInfo moduleText centreText checkFingerprint writeFingerprint confirmRequest confirmResponse writeTrailed
+unfolding sharedInfo moduleText centreText checkFingerprint writeFingerprint confirmRequest confirmResponse writeTrailed writeMail
 refusals = record {
   check-no = λ κs a r s p. rw p (check-given (0 ∷ 3 ∷ 4 ∷ []) tt (a .0) (now (a .1 .0)) tt tt);
   read-identity = λ κs a r s p. rw p (answered (In ofIdentities) tt (readIdentity (now (a .0))) (identity-given (now (a .0))));
@@ -145,9 +149,9 @@ refusals = record {
   attribute = λ κs a r s p. rw (p .its-no) (attribute-given (now (a .0)) (a .1 .0));
   attribute-named = λ κs a r s p. rw (p .its-no) (attribute-given (now (a .0)) _);
   build = λ κs a r s p. rw (p .said) (build-answered (In ofBuilding) tt building-given tt tt tt tt (now (a .0)) (now (a .1 .0)) (now (a .1 .1 .0)) (length (now (a .1 .1 .1 .0))));
-  shared-info = λ κs a r s p. rw (p .said) (text-answered (In ofTexts) tt sharedItems (length (now (a .1 .0))) (readOf (REQ ∷ []) (now (a .0))) (request-given (now (a .0))) tt);
-  module-text = λ κs a r s p. rw (p .said) (text-answered (In ofTexts) tt moduleItems (length (now (a .1 .0))) (readOf (REQ ∷ []) (now (a .0))) (request-given (now (a .0))) tt);
-  centre-text = λ κs a r s p. rw (p .said) (text-answered (In ofTexts) tt centreItems (length (now (a .1 .0))) (readOf (REQ ∷ []) (now (a .0))) (request-given (now (a .0))) tt);
+  shared-info = λ κs a r s p. rw (p .said) (given-answered (In ofTexts) tt _ (length (now (a .1 .0))) (readOf (REQ ∷ []) (now (a .0))) (request-given (now (a .0))) tt);
+  module-text = λ κs a r s p. rw (p .said) (given-answered (In ofTexts) tt _ (length (now (a .1 .0))) (readOf (REQ ∷ []) (now (a .0))) (request-given (now (a .0))) tt);
+  centre-text = λ κs a r s p. rw (p .said) (given-answered (In ofTexts) tt _ (length (now (a .1 .0))) (readOf (REQ ∷ []) (now (a .0))) (request-given (now (a .0))) tt);
   item-place = λ κs a r s p. rw (p .said) (place-given _ (textItem (now (a .0)) (a .1 .0)));
   text-item = λ κs a r s p. rw (p .number-so) (place-given _ (textItem (now (a .0)) (a .1 .0)));
   line-at = λ κs a r s p. rw p (line-answered (In (11 ∷ ofRecords)) tt readRecord line-given tt (now (a .0)) (a .1 .0));
@@ -155,12 +159,14 @@ refusals = record {
   last-line = λ κs a r s p. rw p (last-answered (In (0 ∷ 11 ∷ [])) tt tt (a .0) (a .1 .0));
   read-trailed = λ κs a r s p. rw p (answered (In (19 ∷ 20 ∷ ofRecords)) tt (readTrailed (now (a .0))) (trailed-given (now (a .0))));
   trailed-at = λ κs a r s p. rw p (line-answered (In (11 ∷ 19 ∷ 20 ∷ ofRecords)) tt readTrailed (λ l. further 11 (19 ∷ 20 ∷ ofRecords) (readTrailed l) (trailed-given l)) tt (now (a .0)) (a .1 .0));
-  write-trailed = λ κs a r s p. rw (p .said) (written-answered (In (10 ∷ ofRecords)) tt (now (a .0)) (length (now (a .1 .0))) (readRecord (now (a .0))) (further 10 ofRecords (readRecord (now (a .0))) (record-given (now (a .0)))) tt);
+  write-trailed = λ κs a r s p. rw (p .said) (given-answered (In (10 ∷ ofRecords)) tt _ (length (now (a .1 .0))) (readRecord (now (a .0))) (further 10 ofRecords (readRecord (now (a .0))) (record-given (now (a .0)))) tt);
+  write-mail = λ κs a r s p. rw (p .said) (given-answered (In (10 ∷ ofRecords)) tt _ (length (now (a .1 .0))) (readRecord (now (a .0))) (further 10 ofRecords (readRecord (now (a .0))) (record-given (now (a .0)))) tt);
+  read-mail = λ κs a r s p. rw (p .said) (mail-answered (In (10 ∷ 21 ∷ 22 ∷ ofRecords)) tt (now (a .0)) (length (now (a .1 .0))) mail-given tt tt tt);
   write-list = λ κs a r s p. rw (p .said) (list-given (now (a .0)) (length (now (a .1 .0))));
   newer-of = λ κs a r s p. rw p (newer-answered (In (13 ∷ ofPubkeys)) tt tt subject-given key-given (now (a .0)) (now (a .1 .0)));
   newer = λ κs a r s p. rw (p .number-so) (newer-answered (In (13 ∷ ofPubkeys)) tt tt subject-given key-given (now (a .0)) (now (a .1 .0)));
   check-fingerprint = λ κs a r s p. rw p (check-answered (In (15 ∷ ofPubkeys)) tt (readOf pubkeyKinds (now (a .0))) (checked-given (now (a .0))) tt);
-  write-fingerprint = λ κs a r s p. rw (p .said) (print-answered (In (10 ∷ ofPubkeys)) tt (length (now (a .1 .0))) (readOf pubkeyKinds (now (a .0))) (print-given (now (a .0))) tt);
+  write-fingerprint = λ κs a r s p. rw (p .said) (given-answered (In (10 ∷ ofPubkeys)) tt _ (length (now (a .1 .0))) (readOf pubkeyKinds (now (a .0))) (print-given (now (a .0))) tt);
   confirm-request = λ κs a r s p.
       let request = now (a .1 .0) in
       rw (p .said) (request-answered (In (16 ∷ 10 ∷ 18 ∷ ofLoads)) tt (now (a .0)) (length (now (a .1 .1 .0))) (length (now (a .1 .1 .1 .0))) (readOf (REQ ∷ []) request) (load-given request (16 ∷ 10 ∷ 18 ∷ ofLoads) tt .0) tt tt tt);

@@ -91,6 +91,8 @@ total = record {
   trailed-at = λ κs a. search needs;
   count-trailed = λ κs a. search needs;
   write-trailed = λ κs a. search needs;
+  write-mail = λ κs a. search needs;
+  read-mail = λ κs a. search needs;
   write-list = λ κs a. search needs;
   print-list = λ κs a. search needs;
   field-in = λ κs a. search needs;
@@ -145,4 +147,6 @@ total = record {
   c-trailed-at = λ κs a. search needs;
   c-count-trailed = λ κs a. search needs;
   c-write-trailed = λ κs a. search needs;
+  c-write-mail = λ κs a. search needs;
+  c-read-mail = λ κs a. search needs;
 }

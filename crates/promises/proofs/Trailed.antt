@@ -1,15 +1,14 @@
 -- The promises about manufacturers' record files, from the laws of trailed.
 -- Assumes nothing.
-use Prim.Native.Nat.{ℕ, _+_, _≤_}
+use Prim.Native.Nat.{ℕ}
 use mathlib.Core.Path.{_≡_, refl, sym, ap, _∙_}
 use mathlib.Core.Logic.{_↔_}
 use mathlib.Core.Bool.{Bool, true, false}
-use mathlib.Core.List.{List, _++_}
+use mathlib.Core.List.{List}
 use native.Mathlib.Omega.{arith}
 use lib.Dec.{T}
-use lib.ListN.{length, drop, length-append}
+use lib.ListN.{length}
 use denote.Ref.{now}
-use borrow.Author.Tests.{le-leb, lt-leb}
 use Rattle.text.specs.Text.{Bytes, same}
 use Rattle.text.proofs.Tests.{same→eq, same-refl}
 use Rattle.numbers.specs.Numbers.{missingTrailer, wrongHash}
@@ -21,16 +20,16 @@ use Rattle.format.proofs.Exactly.{record-exact}
 use Rattle.reading.specs.Reading.{answerOf}
 use Rattle.reading.specs.declared.Answer.{Answer}
 use Rattle.reading.proofs.Answers.{told}
-use Rattle.put.specs.Made.{Made, made, says, leaves, Writes}
+use Rattle.put.specs.Made.{Writes}
 use Rattle.put.specs.declared.Written.{Written}
+use Rattle.given.proofs.Given.{said-own, said-short, said-whole, refusal-leaves}
 use Rattle.trailed.specs.Trailed.{trailer, trailed, recordIn, trailerIn, isTrailer, onlyIf, readTrailed, writeTrailed}
-use Rattle.trailed.proofs.Trailed.{trailed-sound, trailer-length, trailed-read, trailed-exact, trailed-never-zero}
+use Rattle.trailed.proofs.Trailed.{trailed-sound, trailed-length, trailed-read, trailed-exact, trailed-never-zero}
 use Rattle.promises.specs.Refusals.{ofRecords}
 use Rattle.promises.specs.Trailed.{TrailedLine, LineSaid, WriteSaid, Trailed}
 use Rattle.promises.proofs.Reading.{exactly, no-places}
 use Rattle.promises.proofs.Files.{walked}
 use Rattle.promises.proofs.Refusals.{record-given}
-use Rattle.promises.proofs.Fingerprint.{refusal-leaves}
 
 -- ---- a line, by its three tests
 
@@ -91,32 +90,20 @@ line-said s r e =
 
 -- ---- writing
 
-trailed-length : (r : Bytes) → length (trailed r) ≡ length r + 41
-unfolding trailed
-trailed-length r = length-append r (trailer r) ∙ ap (λ (j : ℕ). length r + j) (trailer-length r)
-
--- a record that is accepted, in an output with room
-with-room : (s out out′ : Bytes) (r : Written) (k : Kind) (fs : List Bytes) → Writes (writeTrailed s (length out)) out out′ r → readRecord s ≡ accepted k fs
-    → length (trailed s) ≤ length out → (r .no ≡ 0) × (r .len ≡ length (trailed s)) × (out′ ≡ trailed s ++ drop (length (trailed s)) out)
-unfolding writeTrailed
-with-room s out out′ r k fs w is h =
-    let m : writeTrailed s (length out) ≡ made (trailed s) = rw (is, le-leb (length (trailed s)) (length out) h) in
-    let said : r ≡ says (made (trailed s)) = w .said ∙ ap says m in
-    (ap (λ (x : Written). x .no) said, ap (λ (x : Written). x .len) said, w .left ∙ ap (λ (x : Made). leaves x out) m)
-
 line-written : (s out out′ : Bytes) (r : Written) → Writes (writeTrailed s (length out)) out out′ r → WriteSaid s out out′ r
 unfolding writeTrailed
 line-written s out out′ r w =
+    let line : Kind → List Bytes → Bytes = λ k fs. trailed s in
     let long = trailed-length s in
     record {
-      own = λ n i h. rw (w .said, h) (refl, refl);
-      short = λ k fs b h. rw (w .said, record-exact s k fs .1 b, lt-leb (length (trailed s)) (length out) (omega (arith, long))) (refl, refl);
-      written = λ k fs b h. rw long at (with-room s out out′ r k fs w (record-exact s k fs .1 b) (omega (arith, long)));
-      untouched = refusal-leaves (writeTrailed s (length out)) out out′ r w;
-      again = λ line k fs e q h.
-          let (own, is) = trailed-sound line k fs e in
-          let same : line ≡ trailed s = is ∙ ap trailed (sym q) in
-          rw (← same) at (with-room s out out′ r k fs w (ap readRecord q ∙ own) (rw (← same) h));
+      own = said-own line w;
+      short = λ k fs b h. said-short line w (record-exact s k fs .1 b) (omega (arith, long));
+      written = λ k fs b h. rw long at (said-whole line w (record-exact s k fs .1 b) (omega (arith, long)));
+      untouched = refusal-leaves (writeTrailed s (length out)) w;
+      again = λ line′ k fs e q h.
+          let (own, is) = trailed-sound line′ k fs e in
+          let same : line′ ≡ trailed s = is ∙ ap trailed (sym q) in
+          rw (← same) at (said-whole line w (ap readRecord q ∙ own) (rw (← same) h));
     }
 
 pub manufacturers : Trailed

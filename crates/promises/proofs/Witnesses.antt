@@ -3,7 +3,7 @@
 use Prim.Native.Nat.{ℕ, zero, suc, _+_, _≤_, _<_}
 use Prim.Native.Char.{code}
 use mathlib.Core.Path.{_≡_, refl, sym, ap, _∙_}
-use mathlib.Core.List.{List, [], _∷_, _++_}
+use mathlib.Core.List.{List, [], _∷_, _++_, List·Memᴰ·eq-of-singleton}
 use native.Mathlib.Omega.{arith}
 use lib.ListN.{length, drop, getD, replicate, length-drop, length-replicate}
 use lib.Seq.{drop-cons}
@@ -17,7 +17,7 @@ use Rattle.format.specs.Attributes.{cardsIn}
 use Rattle.format.specs.Build.{recordOf, IsIdentity, Permitted}
 use Rattle.format.specs.Read.{Outcome, accepted, place, readIdentity, readRecord}
 use Rattle.format.proofs.Exactly.{identity-exact, read-exact, record-exact}
-use Rattle.format.specs.Files.{lineAtOver, lineAt}
+use Rattle.format.specs.Files.{lineFeed, lineAtOver, lineAt}
 use Rattle.subjects.specs.Subjects.{alike}
 use Rattle.files.specs.declared.Line.{Line}
 use Rattle.files.specs.declared.Reader.{Reader}
@@ -32,6 +32,7 @@ use Rattle.fields.specs.Fields.{wantedPart, wantedNo, wantedStart}
 use Rattle.promises.specs.Rebuilding as asked
 use Rattle.promises.specs.Rebuilding.{Asked, IdentityField, RecordField}
 use Rattle.trailed.specs.Trailed.{readTrailed}
+use Rattle.mail.specs.Mail.{isBegins, PassedOver}
 use Rattle.promises.specs.Files.{PlainSays}
 use Rattle.promises.specs.Trailed.{TrailedSays}
 use Rattle.promises.specs.Demand3.{Called, none, more}
@@ -170,6 +171,10 @@ module _ (Says : ℕ → Bytes → ℕ → Type 0) (k : Kind) (fs : List Bytes) 
       let first : getD fs n [] ≡ x = cc in
       asked.more (rw (le-leb 1 (suc n) (omega arith), le-leb (suc n) (length fs) inside, first) at (call (suc n))) (ask-all (suc n) xs (cc))
 
+passed-over : PassedOver (ascii "Dear all," ++ lineFeed ∷ [])
+unfolding isBegins isIdent
+passed-over = record { ended = refl; unopened = λ l i. rw (List·Memᴰ·eq-of-singleton i) tt }
+
 pub witnesses : Witnesses
 unfolding request requestFields fieldsOfWorked
 witnesses = record {
@@ -194,4 +199,5 @@ witnesses = record {
   caught = caught;
   damaged-trailed = damaged-trailed;
   caught-trailed = caught-trailed;
+  passed-over = passed-over;
 }

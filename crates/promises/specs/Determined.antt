@@ -91,6 +91,8 @@ use Rattle.trailed.proofs.read_trailed.Reads as read-trailed
 use Rattle.trailed.proofs.trailed_at.Reads as trailed-at
 use Rattle.trailed.proofs.count_trailed.Reads as count-trailed
 use Rattle.trailed.proofs.write_trailed.Reads as write-trailed
+use Rattle.mail.proofs.write_mail.Reads as write-mail
+use Rattle.mail.proofs.read_mail.Reads as read-mail
 use Rattle.list_text.proofs.write_list.Reads as write-list
 use Rattle.list_printing.proofs.print_list.Reads as print-list
 use Rattle.subjects.proofs.field_in.Reads as field-in
@@ -241,6 +243,11 @@ pub record Determined : Type 0 where
   pub count-trailed : OneAnswer count-trailed.Post
   pub write-trailed-said : OneAnswer write-trailed.Post
   pub write-trailed-out : OneLeft write-trailed.Post (λ κs s. now (s .1 .0))
+  -- mail
+  pub write-mail-said : OneAnswer write-mail.Post
+  pub write-mail-out : OneLeft write-mail.Post (λ κs s. now (s .1 .0))
+  pub read-mail-said : OneAnswer read-mail.Post
+  pub read-mail-out : OneLeft read-mail.Post (λ κs s. now (s .1 .0))
   -- list_text
   pub write-list-said : OneAnswer write-list.Post
   pub write-list-out : OneLeft write-list.Post (λ κs s. now (s .1 .0))

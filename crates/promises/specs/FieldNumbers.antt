@@ -30,6 +30,8 @@ use Rattle.files.proofs.last_line.Reads as last-line
 use Rattle.trailed.proofs.read_trailed.Reads as read-trailed
 use Rattle.trailed.proofs.trailed_at.Reads as trailed-at
 use Rattle.trailed.proofs.write_trailed.Reads as write-trailed
+use Rattle.mail.proofs.write_mail.Reads as write-mail
+use Rattle.mail.proofs.read_mail.Reads as read-mail
 use Rattle.newer.proofs.newer_of.Reads as newer-of
 use Rattle.newer.proofs.newer.Reads as newer
 use Rattle.fingerprint.proofs.check_fingerprint.Reads as check-fingerprint
@@ -65,6 +67,8 @@ pub record FieldNumbers : Type 0 where
   pub read-trailed : NamesField read-trailed.Post (λ κs r s. r .no) (λ κs r s. r .field)
   pub trailed-at : NamesField trailed-at.Post (λ κs r s. numberOf r) (λ κs r s. fieldOf r)
   pub write-trailed : NamesField write-trailed.Post (λ κs r s. r .no) (λ κs r s. r .field)
+  pub write-mail : NamesField write-mail.Post (λ κs r s. r .no) (λ κs r s. r .field)
+  pub read-mail : NamesField read-mail.Post (λ κs r s. r .no) (λ κs r s. r .field)
   pub newer-of : NamesField newer-of.Post (λ κs r s. r .no) (λ κs r s. r .field)
   pub newer : NamesField newer.Post (λ κs r s. now (s .1 .1 .0)) (λ κs r s. now (s .1 .1 .1 .0))
   pub check-fingerprint : NamesField check-fingerprint.Post (λ κs r s. r .no) (λ κs r s. r .field)

@@ -6,19 +6,19 @@ use Prim.Native.Char.{code}
 use mathlib.Core.Bool.{Bool, true, false}
 use mathlib.Core.List.{List, [], _∷_, _++_}
 use lib.ListN.{take, drop, replicate, set}
-use Rattle.numbers.specs.Numbers.{tooLong, unknownKind, missingCheck, wrongCheck, wrongCount, wrongText, wrongIdentity, unpaired, wrongKind, shortOutput, unfinished, missingItem, notAlike, wrongAttributes, wrongFingerprint, wrongZ, otherRequest, wrongTag, missingTrailer, wrongHash}
+use Rattle.numbers.specs.Numbers.{tooLong, unknownKind, missingCheck, wrongCheck, wrongCount, wrongText, wrongIdentity, unpaired, wrongKind, shortOutput, unfinished, missingItem, notAlike, wrongAttributes, wrongFingerprint, wrongZ, otherRequest, wrongTag, missingTrailer, wrongHash, missingBegins, missingEnds}
 use Rattle.text.specs.Text.{Bytes, ascii, isIdent, isTimestamp, isHex, isPrintable, Ident, Timestamp, Point, Sig, Mac, Print, Protected, Hex, isOf}
 use Rattle.text.specs.Base16.{base16}
 use Rattle.sha384.specs.Sha384.{sha384}
 use Rattle.format.specs.Kinds.{Kind, SMMAN, SMID, KMCID, ECDSA, ECDH, REQ, RESP, KEY, Field, Text, Printable, Identity, OrEmpty, name, mark, fieldsOf, keyKinds}
 use Rattle.format.specs.Attributes.{areAttributes}
-use Rattle.format.specs.Build.{recordOf}
+use Rattle.format.specs.Build.{joined, recordOf}
 use Rattle.format.specs.Read.{Outcome, answer, place, check, readIdentity, readOf, readRecord}
 use Rattle.table.specs.Table.{rowOf, missingRow}
 use Rattle.items.specs.Items.{lvConcat}
 use Rattle.agreement.specs.Texts.{sharedItems, moduleItems, centreItems, sharedInfo, moduleText, centreText}
 use Rattle.places.specs.Places.{lengths}
-use Rattle.put.specs.Made.{Made, says}
+use Rattle.put.specs.Made.{Made, says, leaves}
 use Rattle.building.specs.Building.{run, build}
 use Rattle.fields.specs.Fields.{wantedNo}
 use Rattle.fields.specs.Attributes.{attributePart, attributeNo, cardsSaid, numberNamed}
@@ -32,6 +32,7 @@ use Rattle.confirm.specs.Confirm.{saysOf, confirmRequest, confirmResponse}
 use Rattle.confirm.specs.declared.Confirmed.{Confirmed}
 use Rattle.sha1.specs.Sha1.{sha1}
 use Rattle.trailed.specs.Trailed.{trailer, readTrailed, trailedAt, writeTrailed}
+use Rattle.mail.specs.Mail.{guarded, writeMail, readMail}
 use Rattle.promises.specs.Values.{Value, number, bytes, test, types, admitted}
 use Rattle.promises.specs.Worked.{manufacturerId, moduleIdFields, moduleId, centreId, manufacturerKeyFields, manufacturerKey, moduleKeyFields, moduleKey, centreKeyFields, centreKey, requestFields, request, responseFields, response, keyAttributes, keyFields, key, longAttributes}
 
@@ -152,8 +153,8 @@ said o = answer o ∷ place o ∷ []
 
 unfoldable pub numbers : List Value
 numbers =
-    bytes (tooLong ∷ unknownKind ∷ missingCheck ∷ wrongCheck ∷ wrongCount ∷ wrongText ∷ wrongIdentity ∷ unpaired ∷ wrongKind ∷ shortOutput ∷ unfinished ∷ missingItem ∷ notAlike ∷ wrongAttributes ∷ wrongFingerprint ∷ wrongZ ∷ otherRequest ∷ wrongTag ∷ missingTrailer ∷ wrongHash ∷ [])
-    (1 ∷ 2 ∷ 3 ∷ 4 ∷ 5 ∷ 6 ∷ 7 ∷ 8 ∷ 9 ∷ 10 ∷ 11 ∷ 12 ∷ 13 ∷ 14 ∷ 15 ∷ 16 ∷ 17 ∷ 18 ∷ 19 ∷ 20 ∷ [])
+    bytes (tooLong ∷ unknownKind ∷ missingCheck ∷ wrongCheck ∷ wrongCount ∷ wrongText ∷ wrongIdentity ∷ unpaired ∷ wrongKind ∷ shortOutput ∷ unfinished ∷ missingItem ∷ notAlike ∷ wrongAttributes ∷ wrongFingerprint ∷ wrongZ ∷ otherRequest ∷ wrongTag ∷ missingTrailer ∷ wrongHash ∷ missingBegins ∷ missingEnds ∷ [])
+    (1 ∷ 2 ∷ 3 ∷ 4 ∷ 5 ∷ 6 ∷ 7 ∷ 8 ∷ 9 ∷ 10 ∷ 11 ∷ 12 ∷ 13 ∷ 14 ∷ 15 ∷ 16 ∷ 17 ∷ 18 ∷ 19 ∷ 20 ∷ 21 ∷ 22 ∷ [])
     ∷ bytes (said (readRecord (ascii "PK.ECDH.1"))) (2 ∷ 0 ∷ [])
     ∷ bytes (said (readRecord (ascii "PK.ECDH.1:x"))) (2 ∷ 0 ∷ [])
     ∷ bytes (said (readRecord moduleId)) (2 ∷ 0 ∷ [])
@@ -483,5 +484,74 @@ lines =
     ∷ bytes (saidOf (writeTrailed response 260)) (0 ∷ 0 ∷ [])
     ∷ []
 
+-- ---- document 02, E7: the block that 003 prints of its request, in rows of 64 characters
+
+unfoldable pub posted : List Value
+posted =
+    bytes (leaves (writeMail request 495) [])
+    (joined
+    lineFeed
+    (ascii "--STS:VKLOAD.REQ.1 BEGINS--"
+    ∷ ascii "VKLOAD.REQ.1|SMID.1:Prism:06000001:20180120T090000Z:320C265FDC76"
+    ∷ ascii "9D3E:8EFF|KMCID.1:sts-KeyAgreement-1.2:TEST1:20180110T120000Z:47"
+    ∷ ascii "12CFF444570C8A:4C31|20180125T150000Z|Prism-VSM-1|STS6-001|0473E2"
+    ∷ ascii "C294EE44A17A5668ABE67C1F93CBDBCE38DEF4848584C279047A8DDCFFBAE885"
+    ∷ ascii "7C2CCC101A50E4ADB1ECDE9E14735B8CBFA88D18BD25F247DF0014298F48BB11"
+    ∷ ascii "CA8415320E7AF7172B0B20D5C00D57D04E33D07343EDE185299CF2CA1E10|BE6"
+    ∷ ascii "CB4AC631E12EEB5D3F85496042A3274FEAB0477935778|F6B3"
+    ∷ ascii "--STS:VKLOAD.REQ.1 ENDS--"
+    ∷ []))
+    ∷ []
+
+-- a line of a text, and its line feed
+abbrev pub line : Bytes → Bytes
+line s = s ++ lineFeed ∷ []
+
+-- a record in one row between the guards of t; 003's response in rows of other lengths, one of them empty
+abbrev pub mailed : Bytes → Bytes → Bytes
+mailed t s = guarded t (s ∷ [])
+
+abbrev pub otherRows : List Bytes
+otherRows = take 1 response ∷ [] ∷ take 100 (drop 1 response) ∷ drop 101 response ∷ []
+
+-- the numbers of reading in their order, each with the later faults present: 21 where no whole line is a BEGINS line of an IDENT; 22 where no ENDS line behind
+-- the first one matches it; the record's own, of which 1 counts the bytes after unfolding and 2 is given where another kind is named; 10
+unfoldable pub letters : List Value
+letters =
+    bytes (saidOf (readMail [] 0)) (21 ∷ 0 ∷ [])
+    ∷ bytes (saidOf (readMail response 0)) (21 ∷ 0 ∷ [])
+    ∷ bytes (saidOf (readMail (line (ascii "--STS:x ENDS--")) 0)) (21 ∷ 0 ∷ [])
+    ∷ bytes (saidOf (readMail (line (ascii "--STS:x BEGINS--" ++ 0x0D ∷ []) ++ line (ascii "--STS:x ENDS--")) 0)) (21 ∷ 0 ∷ [])
+    ∷ bytes (saidOf (readMail (ascii " " ++ mailed (ascii "x") response) 0)) (21 ∷ 0 ∷ [])
+    ∷ bytes (saidOf (readMail (mailed [] response) 0)) (21 ∷ 0 ∷ [])
+    ∷ bytes (saidOf (readMail (mailed (ascii "x y") response) 0)) (21 ∷ 0 ∷ [])
+    ∷ bytes (saidOf (readMail (mailed (replicate 33 (code "x")) response) 0)) (21 ∷ 0 ∷ [])
+    ∷ bytes (saidOf (readMail (mailed (replicate 32 (code "x")) response) 0)) (2 ∷ 0 ∷ [])
+    -- bytes after the last line feed are a line
+    ∷ bytes (saidOf (readMail (ascii "--STS:x BEGINS--") 0)) (22 ∷ 0 ∷ [])
+    ∷ bytes (saidOf (readMail (line (ascii "--STS:x ENDS--") ++ line (ascii "--STS:x BEGINS--") ++ line (ascii "--STS:y ENDS--")) 0)) (22 ∷ 0 ∷ [])
+    ∷ bytes (saidOf (readMail (line (ascii "--STS:x BEGINS--") ++ line (ascii "--STS:x ENDS--" ++ 0x0D ∷ [])) 0)) (22 ∷ 0 ∷ [])
+    ∷ bytes (saidOf (readMail (line (ascii "--STS:x BEGINS--") ++ ascii "--STS:x ENDS--") 0)) (2 ∷ 0 ∷ [])
+    -- after unfolding
+    ∷ bytes (saidOf (readMail (guarded (ascii "x") (replicate 1000 (code "A") ∷ replicate 25 (code "A") ∷ [])) 0)) (1 ∷ 0 ∷ [])
+    ∷ bytes (saidOf (readMail (guarded (ascii "x") (replicate 1000 (code "A") ∷ replicate 24 (code "A") ∷ [])) 0)) (2 ∷ 0 ∷ [])
+    -- another kind, an identity's kind, no kind
+    ∷ bytes (saidOf (readMail (mailed (name RESP) mistyped) 0)) (2 ∷ 0 ∷ [])
+    ∷ bytes (saidOf (readMail (mailed (name SMID) moduleId) 0)) (2 ∷ 0 ∷ [])
+    ∷ bytes (saidOf (readMail (mailed (ascii "vkload.resp.1") response) 0)) (2 ∷ 0 ∷ [])
+    ∷ bytes (saidOf (readMail (mailed (name REQ) mistyped) 0)) (4 ∷ 0 ∷ [])
+    ∷ bytes (saidOf (readMail (mailed (name RESP) (recordOf RESP (set responseFields 2 april31))) 0)) (6 ∷ 3 ∷ [])
+    ∷ bytes (saidOf (readMail (mailed (name RESP) response) 218)) (10 ∷ 0 ∷ [])
+    -- the first block decides
+    ∷ bytes (saidOf (readMail (mailed (name REQ) mistyped ++ mailed (name RESP) response) 219)) (4 ∷ 0 ∷ [])
+    -- rows of any length, text before and behind; past the record the output stays
+    ∷ bytes (leaves (readMail (line (ascii "Dear all,") ++ guarded (name RESP) otherRows ++ ascii "Regards") 220) (replicate 220 0)) (response ++ 0 ∷ [])
+    -- writing: the record's own, then 10
+    ∷ bytes (saidOf (writeMail mistyped 0)) (4 ∷ 0 ∷ [])
+    ∷ bytes (saidOf (writeMail moduleId 0)) (2 ∷ 0 ∷ [])
+    ∷ bytes (saidOf (writeMail response 278)) (10 ∷ 0 ∷ [])
+    ∷ bytes (saidOf (writeMail response 279)) (0 ∷ 0 ∷ [])
+    ∷ []
+
 unfoldable pub fixed : List Value
-fixed = rows ++ alphabets ++ limits ++ labels ++ checks ++ numbers ++ building ++ texts ++ others ++ lists ++ keys ++ longKeys ++ days ++ dates ++ hashes ++ agreeing ++ differing ++ fingerprints ++ tags ++ confirming ++ shortHashes ++ printed ++ lines
+fixed = rows ++ alphabets ++ limits ++ labels ++ checks ++ numbers ++ building ++ texts ++ others ++ lists ++ keys ++ longKeys ++ days ++ dates ++ hashes ++ agreeing ++ differing ++ fingerprints ++ tags ++ confirming ++ shortHashes ++ printed ++ lines ++ posted ++ letters

@@ -46,6 +46,8 @@ use Rattle.exports.proofs.trailing.obscurlane_read_trailed.Reads as read-traile
 use Rattle.exports.proofs.trailing.obscurlane_trailed_at.Reads as trailed-at
 use Rattle.exports.proofs.trailing.obscurlane_count_trailed.Reads as count-trailed
 use Rattle.exports.proofs.trailing.obscurlane_write_trailed.Reads as write-trailed
+use Rattle.exports.proofs.mailing.obscurlane_write_mail.Reads as write-mail
+use Rattle.exports.proofs.mailing.obscurlane_read_mail.Reads as read-mail
 use lib.ListN.{length}
 use Rattle.crc16.specs.Crc.{begin, add, end, crcOf}
 use Rattle.text.specs.Text.{isIdent, isTimestamp, isHex, isPoint, isSig, isMac, isPrint}
@@ -68,6 +70,7 @@ use Rattle.hmac.specs.Hmac.{hmac}
 use Rattle.sha1.specs.Sha1.{sha1}
 use Rattle.sha1.specs.State as short
 use Rattle.trailed.specs.Trailed.{readTrailed, trailedAt, countTrailed, writeTrailed}
+use Rattle.mail.specs.Mail.{writeMail, readMail}
 use Rattle.confirm.specs.Confirm.{saysOf, macKeyOf, kekOf, confirmRequest, confirmResponse}
 use Rattle.exports.specs.Exports.{found}
 use Rattle.promises.specs.Calls.{Answers, Leaves}
@@ -140,3 +143,8 @@ pub record Interface : Type 0 where
   pub count-trailed : Answers count-trailed.Post (λ κs a. countTrailed (now (a .0)))
   pub write-trailed-said : Answers write-trailed.Post (λ κs a. says (writeTrailed (now (a .0)) (length (now (a .1 .0)))))
   pub write-trailed-out : Leaves write-trailed.Post (λ κs s. now (s .1 .0)) (λ κs a. leaves (writeTrailed (now (a .0)) (length (now (a .1 .0)))) (now (a .1 .0)))
+  -- records by mail
+  pub write-mail-said : Answers write-mail.Post (λ κs a. says (writeMail (now (a .0)) (length (now (a .1 .0)))))
+  pub write-mail-out : Leaves write-mail.Post (λ κs s. now (s .1 .0)) (λ κs a. leaves (writeMail (now (a .0)) (length (now (a .1 .0)))) (now (a .1 .0)))
+  pub read-mail-said : Answers read-mail.Post (λ κs a. says (readMail (now (a .0)) (length (now (a .1 .0)))))
+  pub read-mail-out : Leaves read-mail.Post (λ κs s. now (s .1 .0)) (λ κs a. leaves (readMail (now (a .0)) (length (now (a .1 .0)))) (now (a .1 .0)))

@@ -33,6 +33,8 @@ use Rattle.files.proofs.last_line.Reads as last-line
 use Rattle.trailed.proofs.read_trailed.Reads as read-trailed
 use Rattle.trailed.proofs.trailed_at.Reads as trailed-at
 use Rattle.trailed.proofs.write_trailed.Reads as write-trailed
+use Rattle.mail.proofs.write_mail.Reads as write-mail
+use Rattle.mail.proofs.read_mail.Reads as read-mail
 use Rattle.list_text.proofs.write_list.Reads as write-list
 use Rattle.newer.proofs.newer_of.Reads as newer-of
 use Rattle.newer.proofs.newer.Reads as newer
@@ -100,6 +102,9 @@ pub record Refusals : Type 0 where
   pub read-trailed : GivesOnly read-trailed.Post (λ κs r s. r .no) (19 ∷ 20 ∷ ofRecords)
   pub trailed-at : GivesOnly trailed-at.Post (λ κs r s. numberOf r) (11 ∷ 19 ∷ 20 ∷ ofRecords)
   pub write-trailed : GivesOnly write-trailed.Post (λ κs r s. r .no) (10 ∷ ofRecords)
+  -- records by mail: no other call gives 21 or 22
+  pub write-mail : GivesOnly write-mail.Post (λ κs r s. r .no) (10 ∷ ofRecords)
+  pub read-mail : GivesOnly read-mail.Post (λ κs r s. r .no) (10 ∷ 21 ∷ 22 ∷ ofRecords)
   pub write-list : GivesOnly write-list.Post (λ κs r s. r .no) (0 ∷ 10 ∷ [])
   -- the newer key
   pub newer-of : GivesOnly newer-of.Post (λ κs r s. r .no) (13 ∷ ofPubkeys)

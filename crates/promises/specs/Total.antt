@@ -88,6 +88,8 @@ use Rattle.trailed.proofs.read_trailed.Reads as read-trailed
 use Rattle.trailed.proofs.trailed_at.Reads as trailed-at
 use Rattle.trailed.proofs.count_trailed.Reads as count-trailed
 use Rattle.trailed.proofs.write_trailed.Reads as write-trailed
+use Rattle.mail.proofs.write_mail.Reads as write-mail
+use Rattle.mail.proofs.read_mail.Reads as read-mail
 use Rattle.list_text.proofs.write_list.Reads as write-list
 use Rattle.list_printing.proofs.print_list.Reads as print-list
 use Rattle.subjects.proofs.field_in.Reads as field-in
@@ -142,6 +144,8 @@ use Rattle.exports.proofs.trailing.obscurlane_read_trailed.Reads as c-read-trai
 use Rattle.exports.proofs.trailing.obscurlane_trailed_at.Reads as c-trailed-at
 use Rattle.exports.proofs.trailing.obscurlane_count_trailed.Reads as c-count-trailed
 use Rattle.exports.proofs.trailing.obscurlane_write_trailed.Reads as c-write-trailed
+use Rattle.exports.proofs.mailing.obscurlane_write_mail.Reads as c-write-mail
+use Rattle.exports.proofs.mailing.obscurlane_read_mail.Reads as c-read-mail
 
 -- the call whose `requires` is P takes any arguments a, whatever the lifetimes κs
 abbrev pub Takes : {K : Type 0} {A : K → Type 0} → ((κs : K) → A κs → Type 0) → Type 0
@@ -251,6 +255,9 @@ pub record Total : Type 0 where
   pub trailed-at : Takes trailed-at.Pre
   pub count-trailed : Takes count-trailed.Pre
   pub write-trailed : Takes write-trailed.Pre
+  -- mail
+  pub write-mail : Takes write-mail.Pre
+  pub read-mail : Takes read-mail.Pre
   -- list_text
   pub write-list : Takes write-list.Pre
   -- list_printing
@@ -312,3 +319,5 @@ pub record Total : Type 0 where
   pub c-trailed-at : Takes c-trailed-at.Pre
   pub c-count-trailed : Takes c-count-trailed.Pre
   pub c-write-trailed : Takes c-write-trailed.Pre
+  pub c-write-mail : Takes c-write-mail.Pre
+  pub c-read-mail : Takes c-read-mail.Pre

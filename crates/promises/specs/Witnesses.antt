@@ -4,15 +4,16 @@
 use Prim.Native.Nat.{ℕ}
 use mathlib.Core.Path.{_≡_}
 use mathlib.Core.Logic.{_≢_}
-use mathlib.Core.List.{List, [], _∷_}
+use mathlib.Core.List.{List, [], _∷_, _++_}
 use lib.ListN.{length}
 use lib.Dec.{T}
 use denote.Ref.{RefT, now}
-use Rattle.text.specs.Text.{Bytes, TextType, isOf}
+use Rattle.text.specs.Text.{Bytes, ascii, TextType, isOf}
 use Rattle.format.specs.Kinds.{Kind, ECDSA, ECDH, REQ, name, identityKinds, recordKinds, among}
 use Rattle.format.specs.Build.{recordOf, Permitted, Built}
 use Rattle.format.specs.Read.{accepted, readIdentity, readRecord}
 use Rattle.format.specs.Attributes.{cardsIn}
+use Rattle.format.specs.Files.{lineFeed}
 use Rattle.format.specs.Damage.{DamagedOver, Damaged}
 use Rattle.places.specs.Places.{lengths}
 use Rattle.building.specs.Building.{run, Builds}
@@ -24,6 +25,7 @@ use Rattle.newer.specs.Keys.{Agreed}
 use Rattle.newer.specs.Newer.{theFirst, theSecond, newer}
 use Rattle.promises.specs.Attributes.{Wrapped}
 use Rattle.trailed.specs.Trailed.{readTrailed}
+use Rattle.mail.specs.Mail.{PassedOver}
 use Rattle.promises.specs.Files.{PlainSays}
 use Rattle.promises.specs.Trailed.{TrailedSays}
 use Rattle.promises.specs.Demand3.{Called}
@@ -66,3 +68,5 @@ pub record Witnesses : Type 0 where
   pub damaged-trailed : DamagedOver readTrailed trailedFile damagedTrailedFile
   pub caught-trailed : (f g : RefT Bytes) → now f ≡ trailedFile → now g ≡ damagedTrailedFile → (l m : Line) → Called TrailedSays f 0 (l ∷ []) → Called TrailedSays g 0 (m ∷ [])
       → (numberOf l ≡ 0) × (numberOf m ≢ 0)
+  -- by mail: a text that is passed over before a block
+  pub passed-over : PassedOver (ascii "Dear all," ++ lineFeed ∷ [])
