@@ -5,7 +5,8 @@ use compare::crc::crc16;
 use compare::sha1::sha1;
 use compare::sha384::sha384;
 use compare::{
-    agreement, attributes, build, confirm, file, fingerprint, hmac, newer, record, text, trailed,
+    agreement, attributes, build, confirm, file, fingerprint, hmac, mail, newer, record, text,
+    trailed,
 };
 
 /// One call of the library.
@@ -102,6 +103,8 @@ calls! {
     WriteTrailed "write_trailed " |case| {
         case.built(|output| trailed::write(&case.a, output))
     };
+    WriteMail "write_mail " |case| case.built(|output| mail::write(&case.a, output));
+    ReadMail "read_mail " |case| case.built(|output| mail::read(&case.a, output));
 }
 
 impl Op {

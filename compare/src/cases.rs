@@ -31,7 +31,8 @@ pub struct Case {
     pub c: Vec<u8>,
 }
 
-/// The line that answers a case, without its line feed.
+/// What answers a case, without the line feed behind it: a line, or several where a block of a record by
+/// mail stands in it.
 pub struct Answer {
     pub line: Vec<u8>,
     /// The numbers in it.
@@ -308,6 +309,8 @@ mod tests {
         assert_eq!(Op::TrailedLine.number(), 42);
         assert_eq!(Op::CountTrailed.number(), 43);
         assert_eq!(Op::WriteTrailed.number(), 44);
+        assert_eq!(Op::WriteMail.number(), 45);
+        assert_eq!(Op::ReadMail.number(), 46);
     }
 
     #[test]
@@ -471,6 +474,34 @@ mod tests {
         let short = format!("write_trailed  10 0 0 {}", crc16(&lent_before()[..575]));
         assert_eq!(line(Op::WriteTrailed, 575, [&record, no, no]), short);
         assert_eq!(line(Op::WriteTrailed, 0, [&trailed, no, no]), "write_trailed  3 0 0 65535");
+    }
+
+    /// The block stands there as it is, and the numbers behind its last line feed.
+    #[test]
+    fn a_block_goes_over_several_lines() {
+        let no: &[u8] = &[];
+        let (record, block) = (worked("VKLOADREQ"), worked("MAIL_VKLOADREQ"));
+        let text = String::from_utf8(block.clone()).unwrap();
+        let whole = [&block[..], &lent_before()[495..500]].concat();
+        let written = format!("write_mail {text} 0 0 495 {}", crc16(&whole));
+        assert_eq!(line(Op::WriteMail, 500, [&record, no, no]), written);
+        assert_eq!(written.lines().count(), 1 + 7 + 1 + 1);
+        let short = format!("write_mail  10 0 0 {}", crc16(&lent_before()[..494]));
+        assert_eq!(line(Op::WriteMail, 494, [&record, no, no]), short);
+    }
+
+    #[test]
+    fn a_record_that_was_read_from_mail_stands_before_its_numbers() {
+        let no: &[u8] = &[];
+        let (record, block) = (worked("VKLOADREQ"), worked("MAIL_VKLOADREQ"));
+        let text = String::from_utf8(record.clone()).unwrap();
+        let read = format!("read_mail {text} 0 0 434 {}", crc16(&record));
+        assert_eq!(line(Op::ReadMail, 434, [&block, no, no]), read);
+        let short = format!("read_mail  10 0 0 {}", crc16(&lent_before()[..433]));
+        assert_eq!(line(Op::ReadMail, 433, [&block, no, no]), short);
+        assert_eq!(line(Op::ReadMail, 0, [&record, no, no]), "read_mail  21 0 0 65535");
+        assert_eq!(line(Op::ReadMail, 0, [&block[..494], no, no]), "read_mail  10 0 0 65535");
+        assert_eq!(line(Op::ReadMail, 0, [&block[..493], no, no]), "read_mail  22 0 0 65535");
     }
 
     #[test]

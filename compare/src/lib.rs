@@ -4,8 +4,8 @@
 //! checking and building them, the attributes of a wrapped key, the three key agreement texts of a
 //! load request, the walk over a file of records and its list, the choice of the newer of two public
 //! keys, SHA-384, the Fingerprint of a public key, HMAC-SHA-384-192, the keys and confirmation tags
-//! of a load request and its response, SHA-1, and manufacturers' record files. What it takes inside is
-//! its own: only the library's calls for users and its lister are answered.
+//! of a load request and its response, SHA-1, manufacturers' record files, and records by mail. What it
+//! takes inside is its own: only the library's calls for users and its lister are answered.
 //!
 //! It shares no line with the library that it is held against, and it is written for plain
 //! reading rather than for proof: slices, iterators, `Result`. Two implementations that come from
@@ -30,6 +30,7 @@
 //! | [`confirm`] | MacKey, KEK and confirmation tags |
 //! | [`sha1`] | SHA-1 |
 //! | [`trailed`] | manufacturers' record files, whose lines have a trailer |
+//! | [`mail`] | one record by mail, between its guards |
 //! | [`random`] | the numbers that inputs are drawn by |
 //! | [`sample`] | inputs: permitted records, faults, damage |
 //! | [`worked`] | the worked values of the documents |
@@ -47,6 +48,7 @@ pub mod fingerprint;
 pub mod hmac;
 pub mod kind;
 pub mod listing;
+pub mod mail;
 pub mod newer;
 pub mod random;
 pub mod record;

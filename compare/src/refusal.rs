@@ -43,6 +43,10 @@ pub enum Refusal {
     NoTrailer,
     /// 20: the SHA-1 in the trailer is not that of the record.
     HashDiffers,
+    /// 21: no BEGINS line stands in the text.
+    NoBegins,
+    /// 22: no ENDS line of the name in the first BEGINS line stands behind it.
+    NoEnds,
 }
 
 impl Refusal {
@@ -69,6 +73,8 @@ impl Refusal {
             Refusal::TagDiffers => 18,
             Refusal::NoTrailer => 19,
             Refusal::HashDiffers => 20,
+            Refusal::NoBegins => 21,
+            Refusal::NoEnds => 22,
         }
     }
 

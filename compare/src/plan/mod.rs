@@ -10,10 +10,12 @@ mod dates;
 mod fields;
 mod files;
 mod fingerprints;
+mod guards;
 mod hashes;
 mod hmacs;
 mod lists;
 mod long;
+mod mail;
 mod newer;
 mod places;
 mod reading;
@@ -60,6 +62,8 @@ pub fn all() -> Vec<Case> {
         sha1::add,
         trailers::add,
         trailed_files::add,
+        mail::add,
+        guards::add,
     ];
     let mut plan = Plan { cases: Vec::new(), random: Random::with_seed(0) };
     for (seed, add) in (1..).zip(groups) {

@@ -30,7 +30,7 @@ fn run_case(file: &[u8], head: &[u8]) {
     let c = input::string(file, head, 33);
     say::text(input::string(file, head, 9));
     match op {
-        24..=27 | 35 | 44 => outputs::write(op, a, b, c, n, input::cut(file, 0, 1024)),
+        24..=27 | 35 | 44..=46 => outputs::write(op, a, b, c, n, input::cut(file, 0, 1024)),
         37 => confirmations::print_request(a, b, c, n, input::cut(file, 0, 1024)),
         38 => confirmations::print_response(a, b, c),
         64..=127 => sweeps::sweep(op % 64, n, a, b, c),

@@ -34,13 +34,15 @@ fn write_to(op: usize, a: &[u8], b: &[u8], c: &[u8], out: &mut [u8]) -> put::Wri
         26 => agreement::centre_text(a, out),
         35 => fingerprint::write_fingerprint(a, out),
         44 => trailed::write_trailed(a, out),
+        45 => mail::write_mail(a, out),
+        46 => mail::read_mail(a, out),
         _ => building::build(a, b, &lens[..count], out),
     }
 }
 
-// A record that was built or a line that was written, the answer, and the check of the whole output.
+// A record that was built or read, a line or a block that was written, the answer, and the check of the whole output.
 fn print(op: usize, made: put::Written, space: &[u8; 66560], room: usize) {
-    if op == 27 || op == 44 {
+    if op == 27 || op >= 44 {
         say::text(input::cut(space, 0, made.len));
     }
     say::outcome(made.no, made.field, made.len);

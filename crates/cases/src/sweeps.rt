@@ -15,6 +15,14 @@ fn pair_of_totals(totals: files::Totals) -> usize {
     totals.lines % 100 * 100 + totals.accepted % 100
 }
 
+// The text is read into an output of n bytes.
+fn pair_of_mail(n: usize, text: &[u8]) -> usize {
+    let mut out = [0u8; 2048];
+    let room = n % 2049;
+    let made = mail::read_mail(text, &mut out[..room]);
+    pair(made.no, made.field)
+}
+
 // The answer in one number: its only one, or 100 times the first and the second.
 fn answer(op: usize, n: usize, a: &[u8]) -> usize {
     match op {
@@ -33,6 +41,7 @@ fn answer(op: usize, n: usize, a: &[u8]) -> usize {
         }
         41 => pair_of(trailed::read_trailed(a)),
         43 => pair_of_totals(trailed::count_trailed(a)),
+        46 => pair_of_mail(n, a),
         _ => calls::test(op, n, a) as usize,
     }
 }

@@ -25,6 +25,12 @@ write-fingerprint-requires c κs = search needs
 write-trailed-requires : tie.Need-write-trailed-requires
 write-trailed-requires c κs = search needs
 
+write-mail-requires : tie.Need-write-mail-requires
+write-mail-requires c κs = search needs
+
+read-mail-requires : tie.Need-read-mail-requires
+read-mail-requires c κs = search needs
+
 array-share-prefix-lens : tie.Need-array-share-prefix-lens
 array-share-prefix-lens c = search needs
 
@@ -70,6 +76,18 @@ same-length-6 c = search needs
 returns-6 : tie.Need-returns-6
 returns-6 c = search needs
 
+same-length-7 : tie.Need-same-length-7
+same-length-7 c = search needs
+
+returns-7 : tie.Need-returns-7
+returns-7 c = search needs
+
+same-length-8 : tie.Need-same-length-8
+same-length-8 c = search needs
+
+returns-8 : tie.Need-returns-8
+returns-8 c = search needs
+
 pub write-to-spec : {M : Type 1} → statement M
 write-to-spec =
     tie.close
@@ -80,6 +98,8 @@ write-to-spec =
     centre-text-requires
     write-fingerprint-requires
     write-trailed-requires
+    write-mail-requires
+    read-mail-requires
     array-share-prefix-lens
     slice-aggregate-build
     build-requires
@@ -94,4 +114,8 @@ write-to-spec =
     same-length-5
     returns-5
     same-length-6
-    returns-6)
+    returns-6
+    same-length-7
+    returns-7
+    same-length-8
+    returns-8)
