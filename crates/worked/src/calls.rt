@@ -2,6 +2,7 @@
 // agrees.
 use crate::confirmations;
 use crate::say;
+use crate::writing;
 
 // ---- building from the fields that reading hands back
 
@@ -187,21 +188,6 @@ fn file(known: &[u8], call: usize, n: usize, step: &[u8]) -> usize {
     of_file(known, call, &file, std::num::wrapping_sub_usize(end, n))
 }
 
-// The number, and the whole output.
-fn output(known: &[u8], no: u8, out: &[u8; 1024], room: usize) -> usize {
-    let at = say::piece(known, say::number(known, 0, no as usize), b" ");
-    say::piece(known, at, say::cut(out, 0, room))
-}
-
-// The line of a record, into an output that holds `before`.
-fn write_trailed(known: &[u8], record: &[u8], before: &[u8]) -> usize {
-    let mut out = [0u8; 1024];
-    put::put(&mut out, 0, before);
-    let room = before.len() % 1025;
-    let w = trailed::write_trailed(record, &mut out[..room]);
-    output(known, w.no, &out, room)
-}
-
 // ---- hashes
 
 fn hash(known: &[u8], bytes: &[u8]) -> usize {
@@ -294,16 +280,20 @@ const READ_TRAILED: usize = 27;
 
 const BUILD_TRAILED: usize = 28;
 
-const WRITE_TRAILED: usize = 29;
+pub(crate) const WRITE_TRAILED: usize = 29;
 
 const TRAILED_FILE: usize = 30;
 
-const BUILD: usize = 31;
+pub(crate) const WRITE_MAIL: usize = 31;
+
+const READ_MAIL: usize = 32;
+
+const BUILD: usize = 33;
 
 // Which of the names a word is; BUILD where it is none of them.
 fn call_of(name: &[u8]) -> usize {
     let names =
-        b"newer file shared_info module_text centre_text module_item read_identity read_record identity_field record_field attribute attribute_named attributes sha384 thousandfold fingerprint check_fingerprint hmac module_tag centre_tag mac_key kek confirm_request confirm_response sha1 sha1_file sha1_thousandfold read_trailed build_trailed write_trailed trailed_file";
+        b"newer file shared_info module_text centre_text module_item read_identity read_record identity_field record_field attribute attribute_named attributes sha384 thousandfold fingerprint check_fingerprint hmac module_tag centre_tag mac_key kek confirm_request confirm_response sha1 sha1_file sha1_thousandfold read_trailed build_trailed write_trailed trailed_file write_mail read_mail";
     let mut k: usize = 0;
     while k < BUILD {
         if text::are_same(name, frame::part(b' ', names, k)) {
@@ -346,7 +336,8 @@ pub(crate) fn run<'a>(
         SHA1_THOUSANDFOLD => thousandfold(known, true, a),
         READ_TRAILED => say::part(known, trailed::read_trailed(a).no, b"accepted"),
         BUILD_TRAILED => rebuild(known, a, trailed::read_trailed(a)),
-        WRITE_TRAILED => write_trailed(known, a, b),
+        WRITE_TRAILED => writing::write(known, call, a, b),
+        WRITE_MAIL | READ_MAIL => writing::by_mail(known, call, a, step),
         BUILD => rebuild(known, a, read(a)),
         _ => part(known, call, n, a, b),
     }

@@ -1,11 +1,13 @@
 // The published examples of SHA-384 and SHA-1 (FIPS 180-4) and of HMAC (RFC 4231), the worked example of STS600-9-1 (003), and
 // the records of STS 600-4-2's Appendix A (000), step by step, through the public calls alone. Standard input has three lines
 // for a step: where it stands and what it is; a call with what it is lent, with a tab between them, because an attribute may
-// have spaces; the value known. The program prints each step with the value that the library gives, says of each whether it
-// agrees, and at last how many do. docs/VECTORS.md tells where each value was taken from.
+// have spaces; the value known. In a text by mail, which comes last, and in the value known of it, a tab stands for a line
+// feed. The program prints each step with the value that the library gives, says of each whether it agrees, and at last how
+// many do. docs/VECTORS.md tells where each value was taken from.
 mod calls;
 mod confirmations;
 mod say;
+mod writing;
 
 use libc::STDIN_FILENO;
 ghost use mathlib.Core.Path.{_≡_};

@@ -1,11 +1,11 @@
--- `worked::calls::write_trailed` lends the front of an array.
+-- `worked::writing::write` lends the front of an array.
 -- Assumes nothing.
 use mathlib.Core.Path.{sym}
 use native.Mathlib.Omega.{arith}
 use lib.Seq.{length-take-le}
 use borrow.Author.Needs.{needs}
-use Rattle.worked.proofs.calls.write_trailed.Statement.{statement}
-use Rattle.worked.proofs.calls.write_trailed.Tie as tie
+use Rattle.worked.proofs.writing.write.Statement.{statement}
+use Rattle.worked.proofs.writing.write.Tie as tie
 
 slice-aggregate-put : tie.Need-slice-aggregate-put
 slice-aggregate-put c = search needs
@@ -16,11 +16,11 @@ put-requires c κs = search needs
 array-borrow-prefix-out : tie.Need-array-borrow-prefix-out
 array-borrow-prefix-out c = search needs
 
-slice-aggregate-write-trailed : tie.Need-slice-aggregate-write-trailed
-slice-aggregate-write-trailed c = sym (length-take-le _ _ (omega arith))
+slice-aggregate-write-to : tie.Need-slice-aggregate-write-to
+slice-aggregate-write-to c = sym (length-take-le _ _ (omega arith))
 
-write-trailed-requires : tie.Need-write-trailed-requires
-write-trailed-requires c κs = search needs
+write-to-requires : tie.Need-write-to-requires
+write-to-requires c κs = search needs
 
 output-requires : tie.Need-output-requires
 output-requires c κs = search needs
@@ -28,14 +28,14 @@ output-requires c κs = search needs
 returns : tie.Need-returns
 returns c = search needs
 
-pub write-trailed-spec : {M : Type 1} → statement M
-write-trailed-spec =
+pub write-spec : {M : Type 1} → statement M
+write-spec =
     tie.close
     (tie.spec
     slice-aggregate-put
     put-requires
     array-borrow-prefix-out
-    slice-aggregate-write-trailed
-    write-trailed-requires
+    slice-aggregate-write-to
+    write-to-requires
     output-requires
     returns)
