@@ -3,8 +3,8 @@
  * leaves in an output. The exit status is 1 if anything is not as expected; the last line says how many comparisons were made.
  *
  * Here stand records and texts. Wrapped keys and their attributes stand in wrapped.c; SHA-384 and Fingerprints in hashes.c;
- * HMAC and the tags of a key agreement in confirmations.c; SHA-1 in sha1.c; manufacturers' files in trailed.c; the check, the
- * text types, plain files and names in parts.c.
+ * HMAC and the tags of a key agreement in confirmations.c; SHA-1 in sha1.c; manufacturers' files in trailed.c; records by mail
+ * in mail.c; the check, the text types, plain files and names in parts.c. Records that several of them take stand in samples.c.
  */
 #include "expect.h"
 #include "worked.h"
@@ -320,7 +320,7 @@ static void expect_read_and_built(const struct sample *of)
     expect_built(of);
 }
 
-static void records(void)
+static void every_record(void)
 {
     static const struct sample *const samples[] = {&maker,      &module,  &centre,   &maker_key,   &module_key,
                                                    &centre_key, &request, &response, &wrapped_key, &longer_key};
@@ -515,7 +515,7 @@ static void newer(void)
 
 int main(void)
 {
-    records();
+    every_record();
     longest_public_key();
     texts();
     items();
@@ -525,6 +525,7 @@ int main(void)
     call_for_confirmations();
     call_for_sha1();
     call_for_trailed_lines();
+    call_for_mail();
     call_parts();
     printf("every function: %lu as expected\n", expectations);
     return EXIT_SUCCESS;

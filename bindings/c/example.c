@@ -1,6 +1,7 @@
 /* Reads the load request of the worked example once, prints its fields by their names, makes its three texts and says whether
- * its tag is right; then prints the attributes of its second wrapped key, and the Fingerprint of the centre's public key; and
- * reads and writes the line of a manufacturer's file, the module's signed key with its trailer. */
+ * its tag is right; then prints the attributes of its second wrapped key, and the Fingerprint of the centre's public key; reads
+ * and writes the line of a manufacturer's file, the module's signed key with its trailer; and reads the request out of a
+ * letter, and writes it as it goes by mail. */
 #include "obscurlane.h"
 #include "worked.h"
 
@@ -74,6 +75,19 @@ static void print_line(void)
     }
 }
 
+/* The request is found in the letter, its rows are joined, and it is folded again. */
+static void print_mail(void)
+{
+    static const char letter[] = "Dear vendor,\nplease find the request below.\n\n" WORKED_MAIL_REQUEST "\nThe centre\n";
+    uint8_t record[OBSCURLANE_LONGEST_RECORD], block[OBSCURLANE_LONGEST_MAIL];
+    obscurlane_written made = obscurlane_read_mail((const uint8_t *)letter, sizeof letter - 1, record, sizeof record);
+    printf("letter of %zu bytes: %s, %zu bytes\n", sizeof letter - 1, obscurlane_reason(made.no), made.len);
+    made = obscurlane_write_mail(record, made.len, block, sizeof block);
+    if (made.no == OBSCURLANE_ACCEPTED) {
+        printf("%.*s", (int)made.len, (const char *)block);
+    }
+}
+
 int main(void)
 {
     const uint8_t *bytes = (const uint8_t *)request;
@@ -98,5 +112,6 @@ int main(void)
     print_attributes();
     print_fingerprint();
     print_line();
+    print_mail();
     return 0;
 }

@@ -1,5 +1,5 @@
-/* What the files of the test of every function share: every.c, wrapped.c, hashes.c, confirmations.c, sha1.c,
- * trailed.c and parts.c. */
+/* What the files of the test of every function share: every.c, samples.c, wrapped.c, hashes.c, confirmations.c, sha1.c,
+ * trailed.c, mail.c and parts.c. */
 #ifndef EXPECT_H
 #define EXPECT_H
 
@@ -42,12 +42,23 @@ void seal(char *text, size_t len);
 /* The record with one text in the place of another, and its identities' checks and its own made right again; its length. */
 size_t write_with(const char *record, const char *old, const char *with, char out[ROOM]);
 
-/* Expects of a record, or of what is none, that it is refused with this number and this field's. */
+/* Expects of a record, or of what is none, that it is refused with this number and this field's, or accepted with 0. */
 typedef void expect_number(const char *record, size_t len, uint8_t no, uint8_t field);
 
 /* The numbers that do not depend on the fields: of bytes that begin with the record and are longer than is read, of those
  * without a check at their end, of none at all, and of the record with another check. */
 void expect_refused_before_fields(const char *record, expect_number *expect_refused);
+
+/* The records of the worked example and of Appendix A, all of them accepted. */
+enum { RECORDS = 14 };
+extern const char *const records[RECORDS];
+
+/* Expects what it shall of each of these records, of what is refused before its fields, of records with a fault in their
+ * fields, and of identities, which are no records; with the number 0 for what is accepted. */
+void expect_every_record(expect_number *expect_record);
+
+/* A wrapped key of so many bytes, all of them permitted; its length. */
+size_t write_wrapped_key(size_t len, char out[ROOM]);
 
 /* Calls the functions for attributes, and those that read or build on wrapped keys. */
 void call_for_wrapped_keys(void);
@@ -63,6 +74,9 @@ void call_for_sha1(void);
 
 /* Calls the functions for manufacturers' record files. */
 void call_for_trailed_lines(void);
+
+/* Calls the functions for records by mail. */
+void call_for_mail(void);
 
 /* Calls the functions for the check, the text types and files, and those for names. */
 void call_parts(void);

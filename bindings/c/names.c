@@ -25,6 +25,8 @@ static const char *const reasons[] = {
     [OBSCURLANE_WRONG_TAG] = "the tag differs",
     [OBSCURLANE_MISSING_TRAILER] = "no '#' in the forty-first place from the end of the line, or no HEX(40) after it",
     [OBSCURLANE_WRONG_HASH] = "the SHA-1 differs",
+    [OBSCURLANE_MISSING_BEGINS] = "the text has no BEGINS line",
+    [OBSCURLANE_MISSING_ENDS] = "no later ENDS line matches the first BEGINS line",
 };
 
 struct kind {

@@ -1,13 +1,14 @@
 /*
  * Obscurlane: reading, checking and building the identity, public key, load request, load response and wrapped key records
- * of STS 600-4-2, files of them, plain and manufacturers', the texts that a key agreement hashes, the tags that confirm it,
- * SHA-384 with the Fingerprints that are made by it, and SHA-1, which is in a manufacturer's line.
+ * of STS 600-4-2, files of them, plain and manufacturers', one of them by mail, the texts that a key agreement hashes, the tags
+ * that confirm it, SHA-384 with the Fingerprints that are made by it, and SHA-1, which is in a manufacturer's line.
  *
  * Link with libexports.a, which `bindings/archive` proves, compiles for the machine that it runs on and puts into
  * target/staticlib/; or with the one that `bindings/archive module` puts into target/module/target/staticlib/, which has the
  * same functions and fewer constants. The names at the end of this header stand in names.c, which is compiled with the program.
  *
- * A record, identity or line is given WITHOUT its line feed. A file of records is given whole, and its lines are found in it.
+ * A record, identity or line is given WITHOUT its line feed. A file of records is given whole, and its lines are found in it;
+ * so is a text that has a record by mail.
  *
  * What the caller owes, because no proof can see it:
  *
@@ -25,7 +26,7 @@
  * - `field` is the number of the field that a refusal is about, and 0 where it is about none or nothing is refused.
  * - Starts and lengths are places in the bytes that were given: nothing is copied. With a refusal they are all 0, and every
  *   kind is OBSCURLANE_KIND_NONE. (A line of a file has its place whatever its answer.)
- * - With a refusal an output is as it was, every byte. Where a text, record, line or key is written, it stands at the
+ * - With a refusal an output is as it was, every byte. Where a text, record, line, block or key is written, it stands at the
  *   front, and the bytes past its length are as they were.
  * - Fields, attributes and items are counted from 1, so field n of an answer is its starts[n - 1] and lens[n - 1]. Starts and
  *   places are counted from 0.
@@ -40,9 +41,9 @@
 #include <stddef.h>
 #include <stdint.h>
 
-#define OBSCURLANE_VERSION "0.7.0"
+#define OBSCURLANE_VERSION "0.8.0"
 #define OBSCURLANE_VERSION_MAJOR 0
-#define OBSCURLANE_VERSION_MINOR 7
+#define OBSCURLANE_VERSION_MINOR 8
 #define OBSCURLANE_VERSION_PATCH 0
 
 #ifdef __cplusplus
@@ -54,10 +55,11 @@ extern "C" {
 enum {
     /* Accepted. */
     OBSCURLANE_ACCEPTED = 0,
-    /* The record or identity to read is longer than 1,024 bytes. Building: or the record would be. */
+    /* The record or identity to read is longer than 1,024 bytes, which by mail are counted after unfolding. Building: or the
+     * record would be. */
     OBSCURLANE_TOO_LONG = 1,
-    /* What stands before the first mark is no kind that this call reads, or the mark is not its kind's, or there is none.
-     * Building: the kind name is not in the table. */
+    /* What stands before the first mark is no kind that this call reads, or the mark is not its kind's, or there is none. By
+     * mail: or it is not the kind that the BEGINS line names. Building: the kind name is not in the table. */
     OBSCURLANE_UNKNOWN_KIND = 2,
     /* The last four bytes are not HEX(4), or the byte before them is not the kind's mark. */
     OBSCURLANE_MISSING_CHECK = 3,
@@ -73,7 +75,7 @@ enum {
     OBSCURLANE_UNPAIRED = 8,
     /* An identity field is of a kind not permitted there; its number comes too. */
     OBSCURLANE_WRONG_KIND = 9,
-    /* The lent output is shorter than the record, text, key or line needs. */
+    /* The lent output is shorter than the record, text, key, line or block needs. */
     OBSCURLANE_SHORT_OUTPUT = 10,
     /* The last line of a file has bytes and no line feed. */
     OBSCURLANE_UNFINISHED = 11,
@@ -95,7 +97,11 @@ enum {
     /* No '#' in the forty-first place from the end of a manufacturer's line, or no HEX(40) after it. */
     OBSCURLANE_MISSING_TRAILER = 19,
     /* The SHA-1 differs. */
-    OBSCURLANE_WRONG_HASH = 20
+    OBSCURLANE_WRONG_HASH = 20,
+    /* The text has no BEGINS line. */
+    OBSCURLANE_MISSING_BEGINS = 21,
+    /* No later ENDS line matches the first BEGINS line. */
+    OBSCURLANE_MISSING_ENDS = 22
 };
 
 /*
@@ -205,7 +211,11 @@ enum {
     /* A manufacturer's line has so many bytes behind its record: '#' and HEX(40). */
     OBSCURLANE_TRAILER = 41,
     /* The longest manufacturer's line that is written or accepted, without its line feed. */
-    OBSCURLANE_LONGEST_TRAILED = OBSCURLANE_LONGEST_RECORD + OBSCURLANE_TRAILER
+    OBSCURLANE_LONGEST_TRAILED = OBSCURLANE_LONGEST_RECORD + OBSCURLANE_TRAILER,
+    /* The longest block that is written, a KEY.1: its BEGINS line and its ENDS line, in both of which 5 bytes are the name, and
+     * between them the record in rows of 64; with a line feed behind every line. */
+    OBSCURLANE_LONGEST_MAIL = 6 + 5 + 9 + 1 + OBSCURLANE_LONGEST_RECORD + (OBSCURLANE_LONGEST_RECORD + 63) / 64 +
+                              6 + 5 + 7 + 1
 };
 
 /* ---- reading */
@@ -348,6 +358,47 @@ obscurlane_totals obscurlane_count_trailed(const uint8_t *file, size_t file_len)
  * obscurlane_read_record answers to the record, then OBSCURLANE_SHORT_OUTPUT for an output of fewer than
  * record_len + OBSCURLANE_TRAILER bytes: 0 to 10, or 14. OBSCURLANE_LONGEST_TRAILED bytes are always enough. */
 obscurlane_written obscurlane_write_trailed(const uint8_t *record, size_t record_len, uint8_t *out, size_t out_len);
+
+/*
+ * ---- records by mail: a record in a block, and the block in a text (Appendix C of STS 600-4-2)
+ *
+ * A block is a BEGINS line, the record folded into rows, and an ENDS line. Both name the record's kind:
+ *
+ *   --STS:KEY.1 BEGINS--
+ *   KEY.1|000000000000000000000001|ACT19930101T000000Z;BDT19930101T0
+ *   00000Z;DKG02;KEN255;KRN1;KTC2;SGC0000123456;|D80D0BA61492E51E2AF
+ *   E96FC69633DB5BE92932DEAECEA6C|4726
+ *   --STS:KEY.1 ENDS--
+ *
+ * It is written with rows of 64 characters, the last of which has the rest, and a line feed (0A hex) behind every line. Any
+ * folding is read: rows may have any length, and may be empty. (A row that is itself the ENDS line ends the record; of 64
+ * characters none can be.)
+ *
+ * A line of a text is what stands between line feeds; the bytes behind the last line feed are a line too. A BEGINS line is a
+ * WHOLE line of "--STS:", a name, which may be any IDENT, and " BEGINS--". The ENDS line that matches it is a whole line of
+ * "--STS:", the same name and " ENDS--". A carriage return, or a blank in front or behind, belongs to the line, so that a line
+ * with one is neither: whoever is sent texts with carriage returns takes these out first.
+ *
+ * The first BEGINS line of a text decides, whatever it names, and the first matching ENDS line after it. The record is what
+ * stands between the two without its line feeds; nothing else is dropped, so that a carriage return there, or another BEGINS or
+ * ENDS line, is a part of it. What stands before the BEGINS line and behind the ENDS line is passed over. The text may have any
+ * length.
+ *
+ * Reading a block that was written gives the same record, after any text that is empty or ends with a line feed, provided that
+ * no line there is itself a BEGINS line; and whatever stands behind the block.
+ */
+
+/* Writes the block of a record. Answers what obscurlane_read_record answers to the record, then OBSCURLANE_SHORT_OUTPUT for an
+ * output that is shorter than the block: 0 to 10, or 14. The block of a record of n bytes has 30 + 2 * k + n + (n + 63) / 64
+ * bytes, where k is the length of its kind's name; OBSCURLANE_LONGEST_MAIL bytes are always enough. */
+obscurlane_written obscurlane_write_mail(const uint8_t *record, size_t record_len, uint8_t *out, size_t out_len);
+
+/* Writes the record that stands in a text, unfolded; its fields are found by giving it to obscurlane_read_record. Answers
+ * OBSCURLANE_MISSING_BEGINS, then OBSCURLANE_MISSING_ENDS, then what obscurlane_read_record answers to the record, but
+ * OBSCURLANE_UNKNOWN_KIND for a record of another kind than the BEGINS line names, and where it names no kind of record; after
+ * every other number OBSCURLANE_SHORT_OUTPUT for an output of fewer bytes than the record has: 0 to 10, 14, 21, or 22.
+ * OBSCURLANE_TOO_LONG counts the bytes after unfolding. OBSCURLANE_LONGEST_RECORD bytes are always enough. */
+obscurlane_written obscurlane_read_mail(const uint8_t *text, size_t text_len, uint8_t *out, size_t out_len);
 
 /* ---- the newer of two public keys */
 
@@ -532,7 +583,7 @@ bool obscurlane_is_print(const uint8_t *s, size_t s_len);
 
 /* ---- names, in names.c; every answer is a text that stays */
 
-/* A number in words, as "the check differs" for OBSCURLANE_WRONG_CHECK. A number above 20 has words of its own. */
+/* A number in words, as "the check differs" for OBSCURLANE_WRONG_CHECK. A number above 22 has words of its own. */
 const char *obscurlane_reason(uint8_t no);
 
 /* A kind's name, as "VKLOAD.REQ.1"; "none" for OBSCURLANE_KIND_NONE and any other number. */

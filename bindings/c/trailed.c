@@ -122,13 +122,7 @@ static void expect_record(const char *record, size_t len, uint8_t no, uint8_t fi
     expect_refused(line, line_len - 1, OBSCURLANE_MISSING_TRAILER, 0);
 }
 
-/* ---- the worked example, and every kind of record */
-
-static const char *const records[] = {
-    WORKED_KEY_SIGNED,    WORKED_KEY_MODULE,    WORKED_KEY_MAKER,     WORKED_KEY_CENTRE,    WORKED_REQUEST,
-    WORKED_RESPONSE,      WORKED_WRAPPED_1,     WORKED_WRAPPED_2,     APPENDIX_A_RESPONSE,  APPENDIX_A_WRAPPED_1,
-    APPENDIX_A_WRAPPED_2, APPENDIX_A_WRAPPED_3, APPENDIX_A_WRAPPED_4, APPENDIX_A_WRAPPED_5,
-};
+/* ---- the worked example */
 
 #define WORKED_LINE WORKED_KEY_SIGNED WORKED_TRAILER
 
@@ -151,56 +145,10 @@ static void worked_line(void)
     EXPECT(memcmp(out, WORKED_LINE, 576) == 0);
 }
 
-static void every_record(void)
-{
-    for (size_t i = 0; i < COUNT_OF(records); i++) {
-        expect_record(records[i], strlen(records[i]), OBSCURLANE_ACCEPTED, 0);
-    }
-}
-
-/* ---- the order of the numbers */
-
-/* What is wrong with a record, and the number and the field's that it is refused with. */
-static const struct {
-    const char *record, *old, *with;
-    uint8_t no, field;
-} faults[] = {
-    {WORKED_KEY_SIGNED, "PK.ECDH.1|", "PK.ECDH.2|", OBSCURLANE_UNKNOWN_KIND, 0},
-    {WORKED_KEY_SIGNED, "|99991231T115959Z|", "|", OBSCURLANE_WRONG_COUNT, 0},
-    {WORKED_KEY_SIGNED, "|0479", "|0579", OBSCURLANE_WRONG_TEXT, OBSCURLANE_PUBKEY_Q},
-    {WORKED_KEY_SIGNED, "|99991231T", "|99991131T", OBSCURLANE_WRONG_TEXT, OBSCURLANE_PUBKEY_EXPIRY},
-    {WORKED_KEY_SIGNED, "|SMID.1:", "|SMID.2:", OBSCURLANE_WRONG_IDENTITY, OBSCURLANE_PUBKEY_SUBJECT},
-    {WORKED_KEY_SIGNED, "|SMID.1:", "|SMMAN.1:", OBSCURLANE_WRONG_KIND, OBSCURLANE_PUBKEY_SUBJECT},
-    {WORKED_KEY_SIGNED, "|" WORKED_ID_MAKER "|", "||", OBSCURLANE_UNPAIRED, 0},
-    {WORKED_KEY_SIGNED, "|8E36", "|8e36", OBSCURLANE_WRONG_TEXT, OBSCURLANE_PUBKEY_SIGNATURE},
-    {WORKED_REQUEST, "|STS6-001|", "|-STS|", OBSCURLANE_WRONG_TEXT, OBSCURLANE_REQ_FWID},
-    {WORKED_RESPONSE, "|KMCID.1:", "|SMMAN.1:", OBSCURLANE_WRONG_KIND, OBSCURLANE_RESP_ID_KMC},
-    {WORKED_WRAPPED_1, "SGC", "sgc", OBSCURLANE_WRONG_ATTRIBUTES, 0},
-    {WORKED_WRAPPED_1, "|D80D", "|d80d", OBSCURLANE_WRONG_TEXT, OBSCURLANE_KEY_PROTECTED_KEY},
-};
-
-static void refused_records(void)
-{
-    for (size_t i = 0; i < COUNT_OF(faults); i++) {
-        char refused[ROOM];
-        size_t len = write_with(faults[i].record, faults[i].old, faults[i].with, refused);
-        expect_record(refused, len, faults[i].no, faults[i].field);
-    }
-}
-
 static void a_line_is_no_record(const char *record)
 {
     char line[LINE_ROOM];
     expect_record(line, write_line(record, strlen(record), line), OBSCURLANE_MISSING_CHECK, 0);
-}
-
-/* An identity is no record. */
-static void identities(void)
-{
-    static const char *const others[] = {WORKED_ID_MAKER, WORKED_ID_SM, WORKED_ID_KMC};
-    for (size_t i = 0; i < COUNT_OF(others); i++) {
-        expect_record(others[i], strlen(others[i]), OBSCURLANE_UNKNOWN_KIND, 0);
-    }
 }
 
 /* ---- trailers that are none */
@@ -278,7 +226,7 @@ static void characters_of_a_trailer(void)
 /* Another HEX character in every place. */
 static void changed_hashes(void)
 {
-    for (size_t i = 0; i < COUNT_OF(records); i++) {
+    for (size_t i = 0; i < RECORDS; i++) {
         char line[LINE_ROOM];
         size_t len = write_line(records[i], strlen(records[i]), line);
         for (size_t place = len - TRAILER + 1; place < len; place++) {
@@ -294,9 +242,9 @@ static void changed_hashes(void)
 static void hashes_of_other_bytes(void)
 {
     static const char *const ends[] = {"", "\r\n", "\r", "\n\n", "#", "\n#", " \n"};
-    for (size_t i = 0; i < COUNT_OF(records); i++) {
+    for (size_t i = 0; i < RECORDS; i++) {
         char line[LINE_ROOM];
-        const char *record = records[i], *other = records[(i + 1) % COUNT_OF(records)];
+        const char *record = records[i], *other = records[(i + 1) % RECORDS];
         size_t len = strlen(record);
         memcpy(line, record, len);
         for (size_t j = 0; j < COUNT_OF(ends); j++) {
@@ -323,20 +271,6 @@ static void sharps_inside(void)
 }
 
 /* ---- the longest, and one byte more */
-
-/* A wrapped key of so many bytes, all of them permitted. */
-static size_t write_wrapped_key(size_t len, char out[ROOM])
-{
-    const size_t longest_card = 3 + 252 + 1;
-    char cards[ROOM] = "SGC0000123456;";
-    size_t at = strlen(cards), end = at + len - strlen(WORKED_WRAPPED_1);
-    for (int n = 0; at < end; n++) {
-        size_t card = end - at < longest_card ? end - at : longest_card;
-        (void)snprintf(cards + at, sizeof cards - at, "X%02d%*s;", n % 100, (int)card - 4, "");
-        at += card;
-    }
-    return write_with(WORKED_WRAPPED_1, "SGC0000123456;", cards, out);
-}
 
 static void longest(void)
 {
@@ -538,13 +472,10 @@ static void damage_everywhere(void)
 void call_for_trailed_lines(void)
 {
     worked_line();
-    every_record();
-    refused_records();
-    for (size_t i = 0; i < COUNT_OF(records); i++) {
-        expect_refused_before_fields(records[i], expect_record);
+    expect_every_record(expect_record);
+    for (size_t i = 0; i < RECORDS; i++) {
         a_line_is_no_record(records[i]);
     }
-    identities();
     missing_trailers();
     characters_of_a_trailer();
     changed_hashes();

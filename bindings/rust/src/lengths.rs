@@ -1,6 +1,7 @@
 //! Lengths: the longest inputs that are taken, and outputs that are always enough.
 
-/// The header's own numbers, which the build script takes over.
+/// The header's own numbers, which the build script takes over as C writes them.
+#[allow(clippy::manual_div_ceil)]
 mod header {
     include!(concat!(env!("OUT_DIR"), "/lengths.rs"));
 }
@@ -31,3 +32,5 @@ pub const KEY_BYTES: usize = header::KEY_BYTES;
 pub const TRAILER: usize = header::TRAILER;
 /// The longest manufacturer's line that is written or accepted, without its line feed.
 pub const LONGEST_TRAILED: usize = header::LONGEST_TRAILED;
+/// The longest block that is written, a `KEY.1`, with a line feed behind every line.
+pub const LONGEST_MAIL: usize = header::LONGEST_MAIL;

@@ -22,6 +22,7 @@ mod hash;
 mod hmac;
 mod kind;
 mod lengths;
+mod mail;
 mod newer;
 mod record;
 mod refusal;
@@ -45,9 +46,10 @@ pub use hmac::hmac_of;
 pub use kind::Kind;
 pub use lengths::{
     KEY_BYTES, LONGEST_CENTRE_TEXT, LONGEST_FINGERPRINT, LONGEST_IDENT, LONGEST_IDENTITY,
-    LONGEST_MODULE_TEXT, LONGEST_PUBKEY, LONGEST_READ, LONGEST_RECORD, LONGEST_SHARED_INFO,
-    LONGEST_TRAILED, TRAILER, Z_BYTES,
+    LONGEST_MAIL, LONGEST_MODULE_TEXT, LONGEST_PUBKEY, LONGEST_READ, LONGEST_RECORD,
+    LONGEST_SHARED_INFO, LONGEST_TRAILED, TRAILER, Z_BYTES,
 };
+pub use mail::{read_mail, write_mail};
 pub use newer::{newer, NewerRefusal};
 pub use record::{identity_field, record_field, Field, Fields, Record};
 pub use refusal::{Reason, Refusal};

@@ -2,7 +2,8 @@
 
 use crate::show::Text;
 use crate::{
-    sys, Identity, Kind, PublicKey, Refusal, Request, Response, View, WrappedKey, TRAILER,
+    read_mail, sys, Identity, Kind, PublicKey, Refusal, Request, Response, View, WrappedKey,
+    TRAILER,
 };
 use core::fmt;
 use core::hash::{Hash, Hasher};
@@ -112,6 +113,34 @@ impl<'a> Record<'a> {
     pub fn read_trailed(line: &'a [u8]) -> Result<Record<'a>, Refusal> {
         let answer = sys::read_trailed(line);
         Record::of(&line[..line.len().saturating_sub(TRAILER)], answer)
+    }
+
+    /// Reads the record that stands in a text, as [`read_mail`](crate::read_mail) finds it, writes it from the front of `out`, and
+    /// reads it there.
+    ///
+    /// ```
+    /// use obscurlane::{field, Kind, Record, LONGEST_RECORD};
+    ///
+    /// let letter = b"Dear vendor,\n\n--STS:KEY.1 BEGINS--\n\
+    ///     KEY.1|000000000000000000000001|ACT19930101T000000Z;BDT19930101T0\n\
+    ///     00000Z;DKG02;KEN255;KRN1;KTC2;SGC0000123456;|D80D0BA61492E51E2AF\n\
+    ///     E96FC69633DB5BE92932DEAECEA6C|4726\n\
+    ///     --STS:KEY.1 ENDS--\n\nThe centre\n";
+    /// let mut out = [0; LONGEST_RECORD];
+    /// let record = Record::read_mail(letter, &mut out)?;
+    /// assert_eq!(record.kind(), Kind::Key);
+    /// assert_eq!(record.bytes().len(), 162);
+    /// assert_eq!(record.field(field::key::NONCE), Some(&b"000000000000000000000001"[..]));
+    /// # Ok::<(), obscurlane::Refusal>(())
+    /// ```
+    ///
+    /// # Errors
+    ///
+    /// As [`read_mail`](crate::read_mail); `out` is as it was then, every byte.
+    #[inline]
+    pub fn read_mail(text: &[u8], out: &'a mut [u8]) -> Result<Record<'a>, Refusal> {
+        let len = read_mail(text, out)?;
+        Record::read(&out[..len])
     }
 
     #[inline]

@@ -16,10 +16,11 @@ use core::fmt;
 #[repr(u8)]
 #[non_exhaustive]
 pub enum Reason {
-    /// 1: the record or identity to read is longer than 1,024 bytes. Building: or the record would be.
+    /// 1: the record or identity to read is longer than 1,024 bytes, which by mail are counted after unfolding. Building: or
+    /// the record would be.
     TooLong = 1,
     /// 2: what stands before the first mark is no kind that this call reads, or the mark is not its kind's, or there is
-    /// none. Building: the kind name is not in the table.
+    /// none. By mail: or it is not the kind that the BEGINS line names. Building: the kind name is not in the table.
     UnknownKind = 2,
     /// 3: the last four bytes are not HEX(4), or the byte before them is not the kind's mark.
     MissingCheck = 3,
@@ -35,7 +36,7 @@ pub enum Reason {
     Unpaired = 8,
     /// 9: an identity field is of a kind not permitted there; its number comes too.
     WrongKind = 9,
-    /// 10: the lent output is shorter than the record, text, key or line needs.
+    /// 10: the lent output is shorter than the record, text, key, line or block needs.
     ShortOutput = 10,
     /// 11: the last line of a file has bytes and no line feed.
     Unfinished = 11,
@@ -58,6 +59,10 @@ pub enum Reason {
     MissingTrailer = 19,
     /// 20: the SHA-1 differs.
     WrongHash = 20,
+    /// 21: the text has no BEGINS line.
+    MissingBegins = 21,
+    /// 22: no later ENDS line matches the first BEGINS line.
+    MissingEnds = 22,
 }
 
 impl Reason {
@@ -83,6 +88,8 @@ impl Reason {
         Reason::WrongTag,
         Reason::MissingTrailer,
         Reason::WrongHash,
+        Reason::MissingBegins,
+        Reason::MissingEnds,
     ];
 
     /// The number, from 1.
@@ -130,6 +137,8 @@ impl Reason {
                 "no '#' in the forty-first place from the end of the line, or no HEX(40) after it"
             }
             Reason::WrongHash => "the SHA-1 differs",
+            Reason::MissingBegins => "the text has no BEGINS line",
+            Reason::MissingEnds => "no later ENDS line matches the first BEGINS line",
         }
     }
 }

@@ -219,6 +219,19 @@ extern "C" {
         out_len: usize,
     ) -> Written;
 
+    fn obscurlane_write_mail(
+        record: *const u8,
+        record_len: usize,
+        out: *mut u8,
+        out_len: usize,
+    ) -> Written;
+    fn obscurlane_read_mail(
+        text: *const u8,
+        text_len: usize,
+        out: *mut u8,
+        out_len: usize,
+    ) -> Written;
+
     fn obscurlane_newer(
         first: *const u8,
         first_len: usize,
@@ -416,7 +429,7 @@ pub fn text_item(text: &[u8], wanted: usize) -> Item {
     unsafe { obscurlane_text_item(text.as_ptr(), text.len(), wanted) }
 }
 
-// ---- files, manufacturers' files, and the newer of two keys
+// ---- files, manufacturers' files, records by mail, and the newer of two keys
 
 #[inline]
 pub fn line_at(file: &[u8], place: usize) -> Line {
@@ -464,6 +477,18 @@ pub fn count_trailed(file: &[u8]) -> Totals {
 pub fn write_trailed(record: &[u8], out: &mut [u8]) -> Written {
     // SAFETY: slices' pointers and lengths, and `out` overlaps nothing.
     unsafe { obscurlane_write_trailed(record.as_ptr(), record.len(), out.as_mut_ptr(), out.len()) }
+}
+
+#[inline]
+pub fn write_mail(record: &[u8], out: &mut [u8]) -> Written {
+    // SAFETY: slices' pointers and lengths, and `out` overlaps nothing.
+    unsafe { obscurlane_write_mail(record.as_ptr(), record.len(), out.as_mut_ptr(), out.len()) }
+}
+
+#[inline]
+pub fn read_mail(text: &[u8], out: &mut [u8]) -> Written {
+    // SAFETY: slices' pointers and lengths, and `out` overlaps nothing.
+    unsafe { obscurlane_read_mail(text.as_ptr(), text.len(), out.as_mut_ptr(), out.len()) }
 }
 
 #[inline]

@@ -11,13 +11,16 @@ use compare::sample::{self, Exchange, Fault, ListFault, Signed, Subject};
 use compare::{agreement, file, record, text};
 use held::attributes::{same_attribute, same_attributes, same_named};
 use held::confirm::{same_request, same_response};
+use held::mail::{same_block, same_mail};
 use held::reading::{same_identity, same_record};
-use held::trailed::{any_line, same_trailed, same_trailed_at};
+use held::trailed::{any_line, any_record, same_trailed, same_trailed_at};
 use held::{
     expect_share, expected, expected_at, expected_line, line_numbers, numbers, of_refusal, place,
     rounds, same_output, NamedNumbers, Numbers, Seen,
 };
-use obscurlane::{Crc, NewerRefusal, Record, Refusal, KEY_BYTES, LONGEST_RECORD, Z_BYTES};
+use obscurlane::{
+    Crc, NewerRefusal, Record, Refusal, KEY_BYTES, LONGEST_MAIL, LONGEST_RECORD, Z_BYTES,
+};
 
 #[test]
 fn text_types() {
@@ -410,6 +413,21 @@ fn manufacturers_lines() {
     }
     seen.expect((1..=9).chain([14]), 9);
     seen.expect([0, 19, 20], 200);
+}
+
+#[test]
+fn records_by_mail() {
+    let mut random = Random::with_seed(20);
+    let mut seen = Seen::default();
+    for _ in 0..rounds() {
+        let text = sample::mail(&mut random);
+        let room = random.one_of(&[LONGEST_RECORD, LONGEST_RECORD, LONGEST_RECORD, 300, 0]);
+        seen.add(&same_mail(&text, room));
+        let room = random.one_of(&[LONGEST_MAIL, LONGEST_MAIL, 400, 0]);
+        seen.add(&same_block(&any_record(&mut random), room));
+    }
+    seen.expect((0..=10).chain([14, 21, 22]), 9);
+    seen.expect([0, 10, 21, 22], 100);
 }
 
 #[test]

@@ -4,6 +4,7 @@
 mod held;
 
 use compare::kind::{FieldType, Kind};
+use compare::mail::block_of;
 use compare::random::Random;
 use compare::refusal::Refusal as Expected;
 use compare::sample::{self, Exchange, Signed};
@@ -14,6 +15,7 @@ use held::attributes::{same_attribute, same_attributes, same_named};
 use held::confirm::{same_request, same_response};
 use held::fingerprint::same_fingerprint;
 use held::hash::Hash;
+use held::mail::{same_block, same_mail};
 use held::reading::{same_identity, same_record};
 use held::trailed::{same_trailed, same_trailed_at, same_trailed_file, same_written};
 use held::{expected, expected_at, line_numbers, numbers, place, same_output};
@@ -125,6 +127,8 @@ fn readings() {
         assert_eq!(same_response(&[7; 96], &worked("VKLOADREQ"), &bytes), Err((2, (1, 0))));
         assert_eq!(same_trailed(&line_of(&bytes)), Err((1, 0)));
         assert_eq!(same_written(&bytes, 2 * MORE + 2048), Err((1, 0)));
+        assert_eq!(same_mail(&block_of(b"KEY.1", &bytes), 2 * MORE + 2048), Err((1, 0)));
+        assert_eq!(same_block(&bytes, 2 * MORE + 8192), Err((1, 0)));
     }
 }
 
@@ -312,6 +316,44 @@ fn manufacturers_lines() {
     }
     for room in [MORE, MORE + 1, MORE + line.len() - 1, MORE + line.len()] {
         assert_eq!(same_written(&record, room), Ok(line.len()));
+    }
+}
+
+/// Texts with more bytes before a block, behind it and inside it, in one line and in many; texts of guards that are longer; and
+/// outputs whose lengths are short only modulo 65,536.
+#[test]
+fn records_by_mail() {
+    let record = of(Kind::VkloadReq);
+    let (name, needed) = (b"VKLOAD.REQ.1", record.len());
+    let block = block_of(name, &record);
+    let digits = [b'0'; MORE];
+    let feeds = [b'\n'; MORE + 1];
+    for text in [
+        [&digits[..], b"\n", &block].concat(),
+        [&feeds[..], &block].concat(),
+        [&block[..], &digits].concat(),
+        [&block[..], &feeds].concat(),
+        [&block[..30], &feeds, &block[30..]].concat(),
+    ] {
+        assert_eq!(same_mail(&text, 1024), Ok(needed));
+        for length in [MORE - 1, MORE, MORE + 1, MORE + block.len() - 2] {
+            let _ = same_mail(&text[..length], 1024);
+        }
+    }
+    assert_eq!(same_mail(&[&digits[..], &block].concat(), 1024), Err((21, 0)));
+    assert_eq!(same_mail(&[&block[..30], &digits, &block[30..]].concat(), 1024), Err((1, 0)));
+    let [begins, ends] = [compare::mail::begins_line(name), compare::mail::ends_line(name)];
+    assert_eq!(same_mail(&[&begins[..], b"\n", &digits, &ends].concat(), 1024), Err((22, 0)));
+    for longer in longer(name) {
+        assert_eq!(same_mail(&block_of(&longer, &record), 1024), Err((21, 0)));
+    }
+    let more = [[0; MORE].to_vec(), feeds.to_vec(), digits.to_vec()];
+    for text in more {
+        assert_eq!(same_mail(&text, 1024), Err((21, 0)));
+    }
+    for room in [MORE, MORE + 1, MORE + needed - 1, MORE + needed] {
+        assert_eq!(same_mail(&block, room), Ok(needed));
+        assert_eq!(same_block(&record, room), Ok(block.len()));
     }
 }
 

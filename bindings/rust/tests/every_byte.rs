@@ -1,9 +1,11 @@
 //! Every byte value in one place of what is otherwise right, held against `compare/`: in every place of every text type, of an
-//! attribute list, of a key agreement text, of a trailer and of a file, and in the kinds of places that a record has.
+//! attribute list, of a key agreement text, of a trailer, of a file and of a text with a record by mail, and in the kinds of places
+//! that a record has.
 
 mod held;
 
 use compare::kind::{FieldType, Kind};
+use compare::mail::block_of;
 use compare::random::Random;
 use compare::record;
 use compare::sample::{self, Exchange, PublicKey};
@@ -13,10 +15,11 @@ use compare::{agreement, file, text};
 use held::attributes::{same_attributes, same_named};
 use held::confirm::{same_request, same_response};
 use held::fingerprint::same_fingerprint;
+use held::mail::{same_block, same_mail};
 use held::reading::{same_identity, same_record};
 use held::trailed::{same_trailed, same_trailed_at, same_trailed_file, same_written};
 use held::{expected, expected_at, line_numbers, numbers, place, same_output, Seen};
-use obscurlane::LONGEST_RECORD;
+use obscurlane::{LONGEST_MAIL, LONGEST_RECORD};
 
 /// Tries every byte value in one place.
 fn at_place(bytes: &[u8], place: usize, mut tried: impl FnMut(&[u8])) {
@@ -386,6 +389,34 @@ fn manufacturers_files() {
         same_trailed_at(file, line.len() + 1);
     });
     seen.expect([0, 4, 11, 19, 20], 10);
+}
+
+/// In a record by mail, with the check made right again and as it was; and the same record written.
+#[test]
+fn records_by_mail() {
+    let mut seen = Seen::default();
+    for (kind, fields) in fields_of_kinds() {
+        let name = kind.name().as_bytes();
+        for place in places(kind, &fields) {
+            at_place(&sample::of_kind(kind, &fields), place, |changed| {
+                let record = sample::resealed(changed);
+                seen.add(&same_mail(&block_of(name, &record), LONGEST_RECORD));
+                seen.add(&same_mail(&block_of(name, changed), LONGEST_RECORD));
+                seen.add(&same_block(&record, LONGEST_MAIL));
+            });
+        }
+    }
+    seen.expect([0, 2, 3, 4, 5, 6, 7, 14], 10);
+}
+
+/// In every place of a text that has a block and other lines, its guards and line feeds among them.
+#[test]
+fn texts_with_mail() {
+    let block = block_of(b"VKLOAD.RESP.1", &worked("VKLOADRESP"));
+    let text = [&b"Dear vendor,\n\n"[..], &block, b"\nThe centre"].concat();
+    let mut seen = Seen::default();
+    everywhere(&text, |text| seen.add(&same_mail(text, LONGEST_RECORD)));
+    seen.expect([0, 2, 3, 4, 21, 22], 10);
 }
 
 /// Two lines, and every byte value in every place of them, the line feeds among them.

@@ -7,7 +7,8 @@ use compare::random::Random;
 use compare::sample::{self, Exchange, PublicKey};
 use obscurlane::{confirm_request, confirm_response, ConfirmRefusal};
 use obscurlane::{
-    Reason, Record, Refusal, KEY_BYTES, LONGEST_READ, LONGEST_TRAILED, TRAILER, Z_BYTES,
+    Reason, Record, Refusal, KEY_BYTES, LONGEST_MAIL, LONGEST_READ, LONGEST_TRAILED, TRAILER,
+    Z_BYTES,
 };
 
 /// What a call writes with as much room as it takes; one byte less is no room.
@@ -154,6 +155,16 @@ fn keys_and_what_they_come_from() {
     assert_eq!(kek[..], [&keys.kek[..], &[0xA5]].concat());
 }
 
+/// A wrapped key that is as long as a record can be, and one that has a byte more.
+fn longest_and_longer(seed: u64) -> [Vec<u8>; 2] {
+    let (longest, longer) = (obscurlane::LONGEST_RECORD, obscurlane::LONGEST_RECORD + 1);
+    let mut random = Random::with_seed(seed);
+    [longest, longer].map(|length| {
+        let fields = sample::wrapped_key_fields(&mut random, length);
+        sample::of_kind(Kind::WrappedKey, &fields)
+    })
+}
+
 /// The lines of the longest record of each kind, of which a wrapped key is the longest; and of one byte more.
 #[test]
 fn lines_with_a_trailer() {
@@ -165,18 +176,37 @@ fn lines_with_a_trailer() {
         assert_eq!(Record::read_trailed(&line), Record::read(&record), "{kind:?}");
         assert!(line.len() <= LONGEST_TRAILED, "{kind:?}");
     }
-    let (longest, longer) = (obscurlane::LONGEST_RECORD, obscurlane::LONGEST_RECORD + 1);
-    let mut random = Random::with_seed(56);
-    let [longest, longer] = [longest, longer].map(|length| {
-        let fields = sample::wrapped_key_fields(&mut random, length);
-        sample::of_kind(Kind::WrappedKey, &fields)
-    });
+    let [longest, longer] = longest_and_longer(56);
     let line = made(|out| obscurlane::write_trailed(&longest, out));
     assert_eq!(line.len(), LONGEST_TRAILED);
     assert!(Record::read_trailed(&line).is_ok());
     let refusal = Refusal { reason: Reason::TooLong, field: None };
     assert_eq!(Record::read_trailed(&compare::trailed::line_of(&longer)), Err(refusal));
     assert_eq!(obscurlane::write_trailed(&longer, &mut [0; 2 * LONGEST_READ]), Err(refusal));
+}
+
+/// The blocks of the longest record of each kind, of which a wrapped key is the longest; and of one byte more. What is read from
+/// them has room where a record has.
+#[test]
+fn blocks_by_mail() {
+    for kind in Kind::RECORDS {
+        let record = longest_record(kind);
+        let block = made(|out| obscurlane::write_mail(&record, out));
+        assert_eq!(block, compare::mail::block_of(kind.name().as_bytes(), &record), "{kind:?}");
+        let guards = 30 + 2 * kind.name().len();
+        assert_eq!(block.len(), guards + record.len() + record.len().div_ceil(64), "{kind:?}");
+        assert_eq!(made(|out| obscurlane::read_mail(&block, out)), record, "{kind:?}");
+        assert!(block.len() <= LONGEST_MAIL, "{kind:?}");
+    }
+    let [longest, longer] = longest_and_longer(57);
+    let block = made(|out| obscurlane::write_mail(&longest, out));
+    assert_eq!(block.len(), LONGEST_MAIL);
+    let mut out = [0; obscurlane::LONGEST_RECORD];
+    assert_eq!(Record::read_mail(&block, &mut out), Record::read(&longest));
+    let refusal = Refusal { reason: Reason::TooLong, field: None };
+    let block = compare::mail::block_of(b"KEY.1", &longer);
+    assert_eq!(obscurlane::read_mail(&block, &mut [0; 2 * LONGEST_READ]), Err(refusal));
+    assert_eq!(obscurlane::write_mail(&longer, &mut [0; 2 * LONGEST_READ]), Err(refusal));
 }
 
 #[test]

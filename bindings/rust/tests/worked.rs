@@ -261,6 +261,62 @@ fn lines_of_every_value() {
     }
 }
 
+/// The request and two keys as they go by mail: written, and found again in a letter.
+#[test]
+fn the_blocks_that_go_by_mail() {
+    for (name, kind) in
+        [("VKLOADREQ", Kind::Request), ("PUBKEY_KMC", Kind::Ecdh), ("PUBKEY_MAN", Kind::Ecdsa)]
+    {
+        let (record, block) = (worked(name), worked(&format!("MAIL_{name}")));
+        let mut out = [0; obscurlane::LONGEST_MAIL];
+        let len = obscurlane::write_mail(&record, &mut out).expect(name);
+        assert_eq!(out[..len], block, "{name}");
+
+        let letter = [b"Dear vendor,\n\n", &block[..], b"\nThe centre\n"].concat();
+        let mut out = [0; obscurlane::LONGEST_RECORD];
+        for text in [&letter, &block, &block[..block.len() - 1]] {
+            let read = Record::read_mail(text, &mut out).expect(name);
+            assert_eq!((read.kind(), read.bytes()), (kind, &record[..]), "{name}");
+        }
+        let refusal = Record::read_mail(&letter[15..], &mut out).expect_err(name);
+        assert_eq!((refusal.reason, refusal.field), (Reason::MissingBegins, None), "{name}");
+        let front = &block[..block.len() - 2];
+        let refusal = Record::read_mail(front, &mut out).expect_err(name);
+        assert_eq!((refusal.reason, refusal.field), (Reason::MissingEnds, None), "{name}");
+        assert_eq!(out[..record.len()], record, "{name}");
+    }
+    let letter = worked("MAIL_VKLOADREQ");
+    let mut out = [0; obscurlane::LONGEST_RECORD];
+    let read = Record::read_mail(&letter, &mut out).expect("accepted");
+    let View::Request(request) = read.view() else { panic!("no request") };
+    assert_eq!(request.id_sm.bytes, worked("ID_SM"));
+    assert_eq!(request.qe, worked("QE"));
+    assert_eq!(request.mac_tag, worked("MACTAG_SM"));
+}
+
+/// Every record and its block; an identity has none.
+#[test]
+fn blocks_of_every_value() {
+    for name in RECORDS {
+        let record = worked(name);
+        let mut block = [0; obscurlane::LONGEST_MAIL];
+        let len = obscurlane::write_mail(&record, &mut block).expect(name);
+        let mut out = [0; obscurlane::LONGEST_RECORD];
+        assert_eq!(Record::read_mail(&block[..len], &mut out), Record::read(&record), "{name}");
+        let refusal = obscurlane::write_mail(&record, &mut block[..len - 1]).expect_err(name);
+        assert_eq!((refusal.reason, refusal.field), (Reason::ShortOutput, None), "{name}");
+        let room = &mut out[..record.len() - 1];
+        let refusal = obscurlane::read_mail(&block[..len], room).expect_err(name);
+        assert_eq!((refusal.reason, refusal.field), (Reason::ShortOutput, None), "{name}");
+    }
+    for name in IDENTITIES {
+        let mut out = [0; obscurlane::LONGEST_MAIL];
+        let refusal = obscurlane::write_mail(&worked(name), &mut out).expect_err(name);
+        assert_eq!((refusal.reason, refusal.field), (Reason::UnknownKind, None), "{name}");
+        assert_eq!(out, [0; obscurlane::LONGEST_MAIL], "{name}");
+    }
+}
+
 /// What reads other kinds alone.
 #[test]
 fn calls_that_take_no_wrapped_key() {

@@ -1,4 +1,5 @@
-//! The constants of SHA-384 (FIPS 180-4, 4.2.3 and 5.3.4) and of SHA-1 (4.2.1 and 5.3.1), for both programs of plain Rust.
+//! The constants of SHA-384 (FIPS 180-4, 4.2.3 and 5.3.4) and of SHA-1 (4.2.1 and 5.3.1), and what a record by mail has around it,
+//! for both programs of plain Rust.
 
 /// The words before the first block.
 pub const START: [u64; 8] = [
@@ -42,3 +43,10 @@ pub const SHA1_START: [u32; 5] = [0x6745_2301, 0xEFCD_AB89, 0x98BA_DCFE, 0x1032_
 
 /// A word for each twenty rounds of SHA-1.
 pub const SHA1_ROUND_WORDS: [u32; 4] = [0x5A82_7999, 0x6ED9_EBA1, 0x8F1B_BCDC, 0xCA62_C1D6];
+
+/// The characters of a row of mail.
+pub const ROW: usize = 64;
+/// What stands before the name in both guards, and behind it in each.
+pub const GUARD: &[u8] = b"--STS:";
+pub const BEGINS: &[u8] = b" BEGINS--";
+pub const ENDS: &[u8] = b" ENDS--";

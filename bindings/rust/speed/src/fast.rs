@@ -4,6 +4,7 @@
 
 use crate::fast_confirm;
 use crate::fast_hash::{self, Sha384};
+use crate::fast_mail;
 use crate::fast_trailed;
 use crate::kinds::{
     Kind, Type, IDENTITIES, PUBLIC_KEYS, RECORDS, WRONG_IDENTITY, WRONG_KIND, WRONG_TEXT,
@@ -99,7 +100,7 @@ static IN_IDENT: [bool; 256] = {
 const ONES: u64 = u64::from_le_bytes([1; 8]);
 
 /// The first place of a byte, eight bytes at a time.
-fn find(byte: u8, bytes: &[u8]) -> Option<usize> {
+pub fn find(byte: u8, bytes: &[u8]) -> Option<usize> {
     const LOW: u64 = 0x7F * ONES;
     let mut words = bytes.chunks_exact(8);
     let found = words.by_ref().enumerate().find_map(|(index, word)| {
@@ -221,7 +222,7 @@ fn card_named(mut rest: &[u8], wanted: [u8; 3]) -> Option<&[u8]> {
 
 // ---- fields
 
-fn ident_length(rest: &[u8]) -> Option<usize> {
+pub fn ident_length(rest: &[u8]) -> Option<usize> {
     let among = rest.iter().take(LONGEST_IDENT + 1);
     let length = among.take_while(|&&byte| IN_IDENT[usize::from(byte)]).count();
     let is_ident = length <= LONGEST_IDENT && rest.first()?.is_ascii_alphanumeric();
@@ -386,13 +387,13 @@ fn line_by(
 // ---- writing
 
 /// Writes from the front of an output that is long enough.
-struct Writer<'o> {
-    out: &'o mut [u8],
-    at: usize,
+pub struct Writer<'o> {
+    pub out: &'o mut [u8],
+    pub at: usize,
 }
 
 impl Writer<'_> {
-    fn put(&mut self, piece: &[u8]) {
+    pub fn put(&mut self, piece: &[u8]) {
         let end = self.at + piece.len();
         self.out[self.at..end].copy_from_slice(piece);
         self.at = end;
@@ -564,5 +565,13 @@ impl Side for Fast {
 
     fn write_trailed(record: &[u8], out: &mut [u8]) -> Result<usize, Refusal> {
         fast_trailed::write_trailed(record, out)
+    }
+
+    fn write_mail(record: &[u8], out: &mut [u8]) -> Result<usize, Refusal> {
+        fast_mail::write_mail(record, out)
+    }
+
+    fn read_mail(text: &[u8], out: &mut [u8]) -> Result<usize, Refusal> {
+        fast_mail::read_mail(text, out)
     }
 }

@@ -2,6 +2,7 @@
 
 use crate::side::{Pieces, Reads, PRINT_TO_END};
 use compare::kind::Kind;
+use compare::mail::block_of;
 use compare::random::Random;
 use compare::sample::{self, Cards, Exchange, PublicKey, Signed, Subject};
 use compare::trailed::line_of;
@@ -98,6 +99,14 @@ impl Agreed {
     }
 }
 
+/// A letter with the request as mail: five lines stand before it, and two behind.
+fn letter_of(request: &[u8]) -> Vec<u8> {
+    const BEFORE: &[u8] =
+        b"Dear colleagues,\n\nplease load the vending keys of our new module, which is ready\n\
+        since this morning. Its request is below.\n\n";
+    [BEFORE, &block_of(b"VKLOAD.REQ.1", request), b"\nKind regards\n"].concat()
+}
+
 /// Numbers for each sort of input by themselves, so that one that is added leaves the others as they were.
 pub struct Draws {
     records: Random,
@@ -140,6 +149,8 @@ pub struct Inputs {
     pub agreed: Vec<Agreed>,
     /// The printed keys as a manufacturer sends them, each with its trailer and a line feed.
     pub trailed: Vec<u8>,
+    /// A letter for each of the requests, which has it as mail between other lines.
+    pub letters: Vec<Vec<u8>>,
     /// Messages are parts of it, each of which starts a byte behind the one before.
     bytes: Vec<u8>,
 }
@@ -164,7 +175,9 @@ impl Inputs {
             file.extend_from_slice(&sample.record);
             file.push(b'\n');
         }
-        let requests = (0..count).map(|_| sample::record(random, Kind::VkloadReq)).collect();
+        let requests: Vec<Vec<u8>> =
+            (0..count).map(|_| sample::record(random, Kind::VkloadReq)).collect();
+        let letters = requests.iter().map(|request| letter_of(request)).collect();
         let wrapped_keys = (0..count).map(|_| Sample::wrapped_key(wrapped_keys)).collect();
         let printed: Vec<Printed> = (0..count).map(|_| Printed::new(hashed)).collect();
         let mut trailed = Vec::new();
@@ -175,7 +188,7 @@ impl Inputs {
         let worked = Exchange::worked();
         let agreed = (0..count).map(|_| Agreed::new(agreed, &worked)).collect();
         let bytes = hashed.bytes(MESSAGES[2] + count);
-        Inputs { samples, file, requests, wrapped_keys, printed, agreed, trailed, bytes }
+        Inputs { samples, file, requests, wrapped_keys, printed, agreed, trailed, letters, bytes }
     }
 
     pub fn messages(&self, length: usize) -> impl Iterator<Item = &[u8]> {

@@ -118,4 +118,12 @@ impl Side for Library {
     fn write_trailed(record: &[u8], out: &mut [u8]) -> Result<usize, Refusal> {
         obscurlane::write_trailed(record, out).map_err(refusal)
     }
+
+    fn write_mail(record: &[u8], out: &mut [u8]) -> Result<usize, Refusal> {
+        obscurlane::write_mail(record, out).map_err(refusal)
+    }
+
+    fn read_mail(text: &[u8], out: &mut [u8]) -> Result<usize, Refusal> {
+        obscurlane::read_mail(text, out).map_err(refusal)
+    }
 }

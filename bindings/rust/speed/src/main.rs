@@ -9,6 +9,7 @@ mod constants;
 mod fast;
 mod fast_confirm;
 mod fast_hash;
+mod fast_mail;
 mod fast_trailed;
 mod inputs;
 mod kinds;
@@ -16,6 +17,7 @@ mod library;
 mod plain;
 mod plain_confirm;
 mod plain_hash;
+mod plain_mail;
 mod plain_trailed;
 mod same;
 mod side;
@@ -24,7 +26,9 @@ use beside::{serve, Beside, SERVE};
 use fast::Fast;
 use inputs::{messages_among, Draws, Inputs, Sample, MESSAGES, TAGGED};
 use library::Library;
-use obscurlane::{KEY_BYTES, LONGEST_MODULE_TEXT, LONGEST_PUBKEY, TRAILER};
+use obscurlane::{
+    KEY_BYTES, LONGEST_MAIL, LONGEST_MODULE_TEXT, LONGEST_PUBKEY, LONGEST_RECORD, TRAILER,
+};
 use plain::Plain;
 use same::same_answers;
 use side::{Reads, Side, MOST_FIELDS};
@@ -180,6 +184,22 @@ fn writing_with_a_trailer<S: Side>(inputs: &Inputs) {
     }
 }
 
+fn writing_as_mail<S: Side>(inputs: &Inputs) {
+    let mut out = [0; LONGEST_MAIL];
+    for request in &inputs.requests {
+        black_box(S::write_mail(black_box(request), &mut out)).expect("written");
+        black_box(&out);
+    }
+}
+
+fn reading_from_a_letter<S: Side>(inputs: &Inputs) {
+    let mut out = [0; LONGEST_RECORD];
+    for letter in &inputs.letters {
+        black_box(S::read_mail(black_box(letter), &mut out)).expect("found");
+        black_box(&out);
+    }
+}
+
 // ---- the measurement
 
 /// A line of the table: what each side does in a turn, and how often.
@@ -209,7 +229,7 @@ macro_rules! hashing {
     };
 }
 
-const ROWS: [Row; 22] = [
+const ROWS: [Row; 24] = [
     row!("reading", reading),
     row!("reading, all places", reading_all_places),
     row!("seven fields, one reading", seven_fields_one_reading),
@@ -232,6 +252,8 @@ const ROWS: [Row; 22] = [
     Row { times: messages_among(MESSAGES[2], TURN), ..row!("SHA-1, 64 KB", short_hashing) },
     row!("listing with trailers", listing_with_trailers),
     row!("writing with a trailer", writing_with_a_trailer),
+    row!("writing as mail", writing_as_mail),
+    row!("reading from a letter", reading_from_a_letter),
 ];
 
 /// Nanoseconds for a turn.

@@ -9,6 +9,7 @@ use crate::kinds::{
 };
 use crate::plain_confirm;
 use crate::plain_hash::{self, State};
+use crate::plain_mail;
 use crate::plain_trailed;
 use crate::side::{
     Fields, Line, NamedRefusal, Pieces, Reads, Refusal, Side, MISSING_CHECK, MISSING_PART,
@@ -57,7 +58,7 @@ pub fn is_hex(length: usize, text: &[u8]) -> bool {
     text.len() == length && text.iter().all(|&byte| is_hexadecimal(byte))
 }
 
-fn is_ident(text: &[u8]) -> bool {
+pub fn is_ident(text: &[u8]) -> bool {
     match text {
         [first, rest @ ..] => {
             text.len() <= LONGEST_IDENT
@@ -274,13 +275,13 @@ fn line_by(
 // ---- building
 
 /// Writes from the front of an output that is long enough.
-struct Writer<'o> {
-    out: &'o mut [u8],
-    at: usize,
+pub struct Writer<'o> {
+    pub out: &'o mut [u8],
+    pub at: usize,
 }
 
 impl Writer<'_> {
-    fn put(&mut self, piece: &[u8]) {
+    pub fn put(&mut self, piece: &[u8]) {
         let end = self.at + piece.len();
         self.out[self.at..end].copy_from_slice(piece);
         self.at = end;
@@ -524,5 +525,13 @@ impl Side for Plain {
 
     fn write_trailed(record: &[u8], out: &mut [u8]) -> Result<usize, Refusal> {
         plain_trailed::write_trailed(record, out)
+    }
+
+    fn write_mail(record: &[u8], out: &mut [u8]) -> Result<usize, Refusal> {
+        plain_mail::write_mail(record, out)
+    }
+
+    fn read_mail(text: &[u8], out: &mut [u8]) -> Result<usize, Refusal> {
+        plain_mail::read_mail(text, out)
     }
 }

@@ -4,10 +4,11 @@
 use crate::inputs::{Agreed, Inputs, Printed, Sample, MESSAGES, TAGGED};
 use crate::side::{Fields, Line, NamedRefusal, Reads, Refusal, Side};
 use compare::kind::Kind;
+use compare::mail::block_of;
 use compare::random::Random;
 use compare::sample::{self, Exchange, Fault, ListFault, PublicKey};
 use compare::trailed::line_of;
-use obscurlane::{KEY_BYTES, LONGEST_MODULE_TEXT, LONGEST_RECORD, TRAILER, Z_BYTES};
+use obscurlane::{KEY_BYTES, LONGEST_MAIL, LONGEST_MODULE_TEXT, LONGEST_RECORD, TRAILER, Z_BYTES};
 
 /// The places of the fields, not only their bytes.
 fn places((kind, fields): (usize, Fields<'_>)) -> (usize, [Option<(*const u8, usize)>; 7]) {
@@ -228,6 +229,49 @@ fn same_trailed<A: Side, B: Side>(random: &mut Random, record: &[u8]) {
     }
 }
 
+/// The record in a text, whatever the text is, found where there is room.
+fn same_letter<A: Side, B: Side>(text: &[u8]) {
+    for room in [0, 300, LONGEST_RECORD] {
+        let one = with_room(room, |out| A::read_mail(text, out));
+        let other = with_room(room, |out| B::read_mail(text, out));
+        assert!(one == other, "{text:?}: {:?}, {:?}", one.0, other.0);
+    }
+}
+
+/// A record, whatever it is, written as mail, with every sort of room.
+fn same_block<A: Side, B: Side>(record: &[u8]) {
+    let needed = block_of(b"VKLOAD.REQ.1", record).len();
+    for room in [0, needed - 1, needed, LONGEST_MAIL] {
+        let one = with_room(room, |out| A::write_mail(record, out));
+        let other = with_room(room, |out| B::write_mail(record, out));
+        assert!(one == other, "{record:?}: {:?}, {:?}", one.0, other.0);
+    }
+}
+
+/// A letter; damaged; cut anywhere; with other rows; of a request that is refused; and any text. And requests, accepted and
+/// refused, wrapped keys of about as many bytes as are read, and anything, as mail.
+fn same_mail<A: Side, B: Side>(random: &mut Random, request: &[u8], letter: &[u8]) {
+    let mut out = [0; LONGEST_RECORD];
+    assert_eq!(A::read_mail(letter, &mut out), Ok(request.len()));
+    assert_eq!(out[..request.len()], *request);
+    let fault = random.one_of(Fault::of(Kind::VkloadReq));
+    let refused = sample::faulty(random, Kind::VkloadReq, &[fault]);
+    let length = LONGEST_RECORD + random.below(2);
+    let fields = sample::wrapped_key_fields(random, length);
+    let longest = sample::of_kind(Kind::WrappedKey, &fields);
+    let any = sample::anything(random);
+    for record in [request, &refused, &longest, &any] {
+        same_block::<A, B>(record);
+        same_letter::<A, B>(&block_of(b"VKLOAD.REQ.1", record));
+        same_letter::<A, B>(&sample::folded(random, b"KEY.1", record));
+    }
+    same_letter::<A, B>(letter);
+    same_letter::<A, B>(&letter[..random.below(letter.len())]);
+    same_letter::<A, B>(&sample::damaged_anywhere(random, letter, 1));
+    same_letter::<A, B>(&sample::folded(random, b"VKLOAD.REQ.1", request));
+    same_letter::<A, B>(&sample::mail(random));
+}
+
 /// Stops where the two differ.
 pub fn same_answers<A: Side, B: Side>(inputs: &Inputs) {
     let mut random = Random::with_seed(2027);
@@ -265,6 +309,9 @@ pub fn same_answers<A: Side, B: Side>(inputs: &Inputs) {
         same_texts::<A, B>(request, LONGEST_MODULE_TEXT);
         same_texts::<A, B>(request, 200);
         same_texts::<A, B>(&sample::anything(&mut random), LONGEST_MODULE_TEXT);
+    }
+    for (request, letter) in inputs.requests.iter().zip(&inputs.letters) {
+        same_mail::<A, B>(&mut random, request, letter);
     }
     let count = inputs.samples.len();
     assert_eq!(same_file(&inputs.file, A::line_at, B::line_at).0, count);

@@ -19,6 +19,8 @@ pub const OTHER_REQUEST: Refusal = (17, 0);
 pub const WRONG_TAG: Refusal = (18, 0);
 pub const MISSING_TRAILER: Refusal = (19, 0);
 pub const WRONG_HASH: Refusal = (20, 0);
+pub const MISSING_BEGINS: Refusal = (21, 0);
+pub const MISSING_ENDS: Refusal = (22, 0);
 
 /// A refusal, and the record whose own it is: 1 the request, 2 the response, 0 neither.
 pub type NamedRefusal = (u8, Refusal);
@@ -89,4 +91,8 @@ pub trait Side {
     fn trailed_at(file: &[u8], place: usize) -> Option<Line>;
     /// Reads a record, and writes it with its trailer.
     fn write_trailed(record: &[u8], out: &mut [u8]) -> Result<usize, Refusal>;
+    /// Reads a record, and writes its block.
+    fn write_mail(record: &[u8], out: &mut [u8]) -> Result<usize, Refusal>;
+    /// Finds the record in a text, reads it, and writes it.
+    fn read_mail(text: &[u8], out: &mut [u8]) -> Result<usize, Refusal>;
 }

@@ -6,6 +6,7 @@ pub mod attributes;
 pub mod confirm;
 pub mod fingerprint;
 pub mod hash;
+pub mod mail;
 pub mod reading;
 pub mod trailed;
 
@@ -118,7 +119,7 @@ pub fn expected_at(file: &[u8], place: usize) -> Option<LineNumbers> {
 
 /// How often each number was answered, 0 being accepted.
 #[derive(Debug, Default)]
-pub struct Seen([usize; 21]);
+pub struct Seen([usize; 23]);
 
 impl Seen {
     pub fn add<T>(&mut self, answer: &Result<T, Numbers>) {
