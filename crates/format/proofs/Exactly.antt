@@ -194,6 +194,9 @@ permitted-parts : (k : Kind) (fs : List Bytes) → Permitted k fs → cut (mark 
 permitted-parts k fs p = built-parts k fs (record-clean IsIdentity identity-tame k fs (p .fit))
 
 module _ {ks : List Kind} {s : Bytes} {k : Kind} {fs : List Bytes} (b : Built ks s k fs) where
+  pub its-title : title s ≡ name k
+  its-title = ap title (b .built) ∙ built-title k fs .0
+
   pub its-parts : cut (mark k) (body s) ≡ name k ∷ fs
   its-parts = rw (b .built) (permitted-parts k fs (b .permitted))
 

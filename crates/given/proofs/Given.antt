@@ -24,6 +24,12 @@ use Rattle.put.specs.declared.Written.{Written}
 use Rattle.put.proofs.Pieces.{put-whole, put-denied}
 use Rattle.given.specs.Given.{given}
 
+-- what is said and left where these bytes are made
+pub made-said : {m : Made} {v out out′ : Bytes} {r : Written} → m ≡ made v → Writes m out out′ r → (r .no ≡ 0) × (r .len ≡ length v) × (out′ ≡ v ++ drop (length v) out)
+made-said {m} {v} {out} e w =
+    let said : _ ≡ says (made v) = w .said ∙ ap says e in
+    (ap (λ (x : Written). x .no) said, ap (λ (x : Written). x .len) said, w .left ∙ ap (λ (x : Made). leaves x out) e)
+
 module _ (bytes : Kind → List Bytes → Bytes) where
   -- ---- the code's three ways
 
@@ -65,8 +71,7 @@ module _ (bytes : Kind → List Bytes → Bytes) where
         → (r .no ≡ 0) × (r .len ≡ length (bytes k fs)) × (out′ ≡ bytes k fs ++ drop (length (bytes k fs)) out)
     said-whole {k} {fs} e h =
         let m : given bytes (length out) o ≡ made (bytes k fs) = rw (e, le-leb (length (bytes k fs)) (length out) h) in
-        let said : r ≡ says (made (bytes k fs)) = w .said ∙ ap says m in
-        (ap (λ (x : Written). x .no) said, ap (λ (x : Written). x .len) said, w .left ∙ ap (λ (x : Made). leaves x out) m)
+        made-said m w
 
     -- 0 is said of what is accepted and fits, and of nothing else
     pub said-zero : Numbered o → r .no ≡ 0 → (k : Kind) × (fs : List Bytes) × (o ≡ accepted k fs) × (length (bytes k fs) ≤ length out)

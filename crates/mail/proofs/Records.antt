@@ -24,9 +24,9 @@ use Rattle.numbers.specs.Numbers.{unknownKind}
 use Rattle.format.specs.Read.{accepted, refused, kindIn, title, markAfter, lastOr, readOver, readOf, readRecord}
 use Rattle.format.specs.Files.{lineFeed}
 use Rattle.format.proofs.Table.{every-kind, all-among, absent}
-use Rattle.format.proofs.Parts.{last-append, last-any, last-every, record-without, built-title}
+use Rattle.format.proofs.Parts.{last-append, last-any, last-every, record-without}
 use Rattle.format.proofs.Fields.{fields-clean}
-use Rattle.format.proofs.Exactly.{identity-tame, record-exact}
+use Rattle.format.proofs.Exactly.{identity-tame, record-exact, its-title}
 use Rattle.table.specs.Table.{named}
 use Rattle.table.proofs.Names.{named-some, named-among, kindIn-none}
 use Rattle.put.specs.Made.{made}
@@ -83,6 +83,10 @@ pub named-read : (s : Bytes) → readOf (alone (named recordKinds (title s))) s 
 unfolding readRecord readOf readOver
 named-read s = rw (kind-alone (title s) (markAfter s))
 
+-- so a record of the kind that is named is accepted
+pub built-read : {k : Kind} {fs : List Bytes} (s : Bytes) → Built recordKinds s k fs → readOf (alone (named recordKinds (name k))) s ≡ accepted k fs
+built-read {k} {fs} s b = rw (its-title b) at (named-read s) ∙ record-exact s k fs .1 b
+
 -- and else it is of another kind
 pub other-read : (t s : Bytes) → t ≢ title s → length s ≤ longestRecord → readOf (alone (named recordKinds t)) s ≡ refused unknownKind 0
 unfolding readOf readOver
@@ -94,20 +98,13 @@ other-read t s n h = rw (le-leb (length s) longestRecord h, none-in (named recor
 
 -- ---- the promise
 
-module _ (s : Bytes) (k : Kind) (fs : List Bytes) (e : readRecord s ≡ accepted k fs) where
-  its-build : Built recordKinds s k fs
-  its-build = record-exact s k fs .0 e
-
-  its-title : title s ≡ name k
-  its-title = ap title (its-build .built) ∙ built-title k fs .0
-
-  pub block-read : (after : Bytes) (room : ℕ) → readMail (blockOf (name k) s ++ after) room ≡ given (λ j gs. s) room (accepted k fs)
-  unfolding readMail
-  block-read after room =
-      let b = its-build in
-      ap (readFound room)
-      (block-found (name k) s (name-ident k) (rw (b .built) (record-feedless k fs (b .permitted))) (rw (b .built) (record-hyphenless k fs)) after)
-      ∙ ap (given (λ j gs. s) room) (rw its-title at (named-read s) ∙ e)
+pub block-read : {k : Kind} {fs : List Bytes} (s : Bytes) → Built recordKinds s k fs → (after : Bytes) (room : ℕ)
+    → readMail (blockOf (name k) s ++ after) room ≡ given (λ j gs. s) room (accepted k fs)
+unfolding readMail
+block-read {k} {fs} s b after room =
+    ap (readFound room)
+    (block-found (name k) s (name-ident k) (rw (b .built) (record-feedless k fs (b .permitted))) (rw (b .built) (record-hyphenless k fs)) after)
+    ∙ ap (given (λ j gs. s) room) (built-read s b)
 
 -- reading a block that was written gives the same record, after any text that may stand before it, whatever follows
 pub mail-back : (s block before after : Bytes) (wide room : ℕ) → writeMail s wide ≡ made block → PassedOver before → length s ≤ room
@@ -115,4 +112,4 @@ pub mail-back : (s block before after : Bytes) (wide room : ℕ) → writeMail s
 unfolding writeMail
 mail-back s block before after wide room e h l =
     let (k, fs, r, b, fits) = given-made (λ k fs. blockOf (name k) s) wide (readRecord s) block e in
-    rw b (before-passed before (blockOf (name k) s ++ after) room h ∙ block-read s k fs r after room ∙ rw (le-leb (length s) room l))
+    rw b (before-passed before (blockOf (name k) s ++ after) room h ∙ block-read s (record-exact s k fs .0 r) after room ∙ rw (le-leb (length s) room l))

@@ -11,7 +11,7 @@ use lib.Seq.{take-all, drop-drop}
 use Rattle.text.specs.Text.{Bytes, ascii}
 use Rattle.text.proofs.Tests.{by-test, cond-yes, cond-no}
 use Rattle.format.specs.Files.{lineFeed}
-use Rattle.format.proofs.Parts.{joined-append, built-title}
+use Rattle.format.proofs.Parts.{joined-append}
 use Rattle.put.specs.Put.{Puts, Put}
 use Rattle.put.proofs.Pieces.{put-of, put-length, put-as, put-then}
 use Rattle.put.proofs.Underway.{Underway, has-room, go-on}
@@ -21,7 +21,7 @@ use Rattle.numbers.specs.Numbers.{shortOutput}
 use Rattle.format.specs.Kinds.{name, recordKinds}
 use Rattle.format.specs.Build.{joined, Built}
 use Rattle.format.specs.Read.{title, readRecord}
-use Rattle.format.proofs.Exactly.{record-says, built-length}
+use Rattle.format.proofs.Exactly.{record-says, its-title, built-length}
 use Rattle.table.proofs.Names.{name-short}
 use Rattle.reading.specs.Reading.{answerOf}
 use Rattle.reading.specs.declared.Answer.{Answer}
@@ -143,7 +143,7 @@ module _ (s : Bytes) {a : Answer} (own : a ≡ answerOf (readRecord s)) where
     read = taken (Built recordKinds s) (readRecord s) a (record-says s) own z
 
     its-name : t ≡ name (read .kind)
-    its-name = titled ∙ ap title (read .holds .built) ∙ built-title (read .kind) (read .fields) .0
+    its-name = titled ∙ its-title (read .holds)
 
     pub short : (length t ≤ 32) × (length s ≤ 1024)
     short = (

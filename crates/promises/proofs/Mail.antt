@@ -20,20 +20,19 @@ use Rattle.format.specs.Build.{WithoutAll, longestRecord, Built}
 use Rattle.format.specs.Read.{Outcome, accepted, refused, title, readOver, readOf, readRecord}
 use Rattle.format.specs.Files.{lineFeed}
 use Rattle.format.proofs.Table.{All, among-one}
-use Rattle.format.proofs.Parts.{built-title}
 use Rattle.format.proofs.Outcomes.{never, Numbered, honest-map}
-use Rattle.format.proofs.Exactly.{read-exact, record-exact, read-says, record-says, built-length, built-shorter}
+use Rattle.format.proofs.Exactly.{read-exact, record-exact, read-says, record-says, its-title, built-length, built-shorter}
 use Rattle.table.specs.Table.{named}
 use Rattle.table.proofs.Names.{name-short}
-use Rattle.put.specs.Made.{Made, made, says, leaves, Writes}
+use Rattle.put.specs.Made.{made, Writes}
 use Rattle.put.specs.declared.Written.{Written}
 use Rattle.given.specs.Given.{given}
-use Rattle.given.proofs.Given.{said-own, said-short, said-whole, said-zero, refusal-leaves}
+use Rattle.given.proofs.Given.{made-said, said-own, said-short, said-whole, said-zero, refusal-leaves}
 use Rattle.mail.specs.Mail.{linesIn, beginsLine, endsLine, rectypeIn, isBegins, rows, folded, guarded, blockOf, Found, block, missing, closed, opened, alone, readFound, writeMail, readMail}
 use Rattle.mail.proofs.Folding.{Enough, enough, fewer, flat-folded}
 use Rattle.mail.proofs.Guards.{begins-rectype, begins-is}
 use Rattle.mail.proofs.Blocks.{opened-past, closed-rows, rows-found, before-passed}
-use Rattle.mail.proofs.Records.{name-ident, named-read, other-read, block-read, mail-back}
+use Rattle.mail.proofs.Records.{name-ident, named-read, built-read, other-read, block-read, mail-back}
 use Rattle.mail.proofs.Writing.{block-length}
 use Rattle.promises.specs.Refusals.{ofRecords}
 use Rattle.promises.specs.Mail.{FoldedRows, WriteSaid, Unopened, Opened, Unended, Closed, ReadSaid, Mail}
@@ -176,13 +175,6 @@ shape text =
 
 -- ---- reading
 
-its-title : {k : Kind} {fs : List Bytes} {s : Bytes} → Built recordKinds s k fs → title s ≡ name k
-its-title {k} {fs} b = ap title (b .built) ∙ built-title k fs .0
-
--- as the kind that it is
-read-named : {k : Kind} {fs : List Bytes} (s : Bytes) → Built recordKinds s k fs → readOf (alone (named recordKinds (name k))) s ≡ accepted k fs
-read-named {k} {fs} s b = rw (its-title b) at (named-read s) ∙ record-exact s k fs .1 b
-
 -- what is accepted as the kind that t names is a record of that kind
 accepted-named : (t s : Bytes) (k : Kind) (fs : List Bytes) → readOf (alone (named recordKinds t)) s ≡ accepted k fs → Built recordKinds s k fs × (t ≡ name k)
 accepted-named t s k fs e =
@@ -250,7 +242,7 @@ module _ (text out out′ : Bytes) (r : Written) (w : Writes (readMail text (len
 
   when-read : (r .no ≡ 0)
       ↔ ((k : Kind) × (fs : List Bytes) × (rs : List Bytes) × Closed text (name k) rs × Built recordKinds (flatten rs) k fs × (length (flatten rs) ≤ length out))
-  when-read = (λ z. go (shape text) z, λ (k, fs, rs, c, b, fits). said-whole (λ k fs. flatten rs) (its-record (name k) rs c) (read-named (flatten rs) b) fits .0)
+  when-read = (λ z. go (shape text) z, λ (k, fs, rs, c, b, fits). said-whole (λ k fs. flatten rs) (its-record (name k) rs c) (built-read (flatten rs) b) fits .0)
     where
       go : Shape text → r .no ≡ 0
           → (k : Kind) × (fs : List Bytes) × (rs : List Bytes) × Closed text (name k) rs × Built recordKinds (flatten rs) k fs × (length (flatten rs) ≤ length out)
@@ -272,7 +264,7 @@ module _ (text out out′ : Bytes) (r : Written) (w : Writes (readMail text (len
     too-long = λ t rs c h. said-own (λ k fs. flatten rs) (its-record t rs c) tooLong 0 (long-read (alone (named recordKinds t)) (flatten rs) h);
     other = λ t rs c h n. said-own (λ k fs. flatten rs) (its-record t rs c) unknownKind 0 (other-read t (flatten rs) n h);
     own = λ rs c n i e. said-own (λ k fs. flatten rs) (its-record (title (flatten rs)) rs c) n i (named-read (flatten rs) ∙ e);
-    short = λ k fs rs c b. said-short (λ k fs. flatten rs) (its-record (name k) rs c) (read-named (flatten rs) b);
+    short = λ k fs rs c b. said-short (λ k fs. flatten rs) (its-record (name k) rs c) (built-read (flatten rs) b);
     untouched = refusal-leaves (readMail text (length out)) w;
   }
 
@@ -289,20 +281,15 @@ block-of s out out′ r w z = go (said-zero (λ k fs. blockOf (name k) s) {o = r
         let front : take (r .len) out′ ≡ blockOf (name k) s = ap (λ (n : ℕ). take n out′) len ∙ ap (take (length (blockOf (name k) s))) left ∙ take-append-seam (blockOf (name k) s) _ in
         rw (e, le-leb (length (blockOf (name k) s)) (length out) fits) (ap made (sym front))
 
-made-said : {m : Made} {v out out′ : Bytes} {r : Written} → m ≡ made v → Writes m out out′ r → (r .no ≡ 0) × (r .len ≡ length v) × (out′ ≡ v ++ drop (length v) out)
-made-said {m} {v} {out} e w =
-    let said : _ ≡ says (made v) = w .said ∙ ap says e in
-    (ap (λ (x : Written). x .no) said, ap (λ (x : Written). x .len) said, w .left ∙ ap (λ (x : Made). leaves x out) e)
-
 -- rows of any length
 any : (k : Kind) (fs : List Bytes) (s : Bytes) → Built recordKinds s k fs → (rs : List Bytes) → WithoutAll lineFeed rs → Unended (name k) rs → flatten rs ≡ s
     → (after : Bytes) (room : ℕ) → readMail (guarded (name k) rs ++ after) room ≡ readMail (blockOf (name k) s) room
 unfolding readMail
 any k fs s b rs feedless unended e after room =
     let there = rows-found (name k) rs (name-ident k) feedless (unended-rows (name k) rs unended) after in
-    let again : readMail (blockOf (name k) s ++ []) room ≡ given (λ j gs. s) room (accepted k fs) = block-read s k fs (record-exact s k fs .1 b) [] room in
+    let again : readMail (blockOf (name k) s ++ []) room ≡ given (λ j gs. s) room (accepted k fs) = block-read s b [] room in
     ap (readFound room) (there ∙ ap (block (name k)) e)
-    ∙ ap (given (λ j gs. s) room) (read-named s b)
+    ∙ ap (given (λ j gs. s) room) (built-read s b)
     ∙ sym again
     ∙ ap (λ (x : Bytes). readMail x room) (append-nil (blockOf (name k) s))
 

@@ -19,9 +19,8 @@ use Rattle.format.specs.Kinds.{Kind, name, identityFields, identityKinds}
 use Rattle.format.specs.Build.{Fits, FitAll, IsIdentity, Built}
 use Rattle.format.specs.Read.{accepted, title, body, readIdentity}
 use Rattle.format.proofs.Table.{name-inj, identity-row}
-use Rattle.format.proofs.Parts.{built-title}
 use Rattle.format.proofs.Fields.{fit-at}
-use Rattle.format.proofs.Exactly.{identity-exact, its-fields}
+use Rattle.format.proofs.Exactly.{identity-exact, its-title, its-fields}
 use Rattle.frame.specs.Frame.{partOf, IsPart}
 use Rattle.frame.proofs.Parts.{field-part}
 use Rattle.subjects.specs.Subjects.{manufacturer, mid, gnt, alike, identityPart, IsIdentityPart, areAlike}
@@ -33,7 +32,7 @@ module _ (i : Bytes) {k : Kind} {fs : List Bytes} (e : readIdentity i ≡ accept
   built = identity-exact i k fs .0 e
 
   pub identity-title : title i ≡ name k
-  identity-title = ap title (built .built) ∙ built-title k fs .0
+  identity-title = its-title built
 
   pub identity-field : (j : ℕ) → identityPart i (suc j) ≡ getD fs j []
   identity-field j =
