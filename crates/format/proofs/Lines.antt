@@ -25,7 +25,7 @@ pub take-upTo : (c : ℕ) (s : Bytes) → take (length (upTo c s)) s ≡ upTo c 
 take-upTo c [] = refl
 take-upTo c (d ∷ s) = by-test (eqb d c) (λ t. rw (T-true (eqb d c) t)) (λ t. rw (T-false (eqb d c) t, take-upTo c s))
 
-upTo-first : (c : ℕ) (l r : Bytes) → T (without c l) → upTo c r ≡ [] → upTo c (l ++ r) ≡ l
+pub upTo-first : (c : ℕ) (l r : Bytes) → T (without c l) → upTo c r ≡ [] → upTo c (l ++ r) ≡ l
 upTo-first c [] r h e = e
 upTo-first c (d ∷ l) r h e =
     let h′ = and-yes (not (eqb d c)) (without c l) h in

@@ -67,3 +67,15 @@ missingBegins = 21
 
 abbrev pub missingEnds : ℕ
 missingEnds = 22
+
+abbrev pub notCabinet : ℕ
+notCabinet = 23
+
+abbrev pub notLater : ℕ
+notLater = 24
+
+abbrev pub noPlace : ℕ
+noPlace = 25
+
+abbrev pub notThere : ℕ
+notThere = 26

@@ -45,3 +45,11 @@ pub const WRONG_HASH: u8 = 20;
 pub const MISSING_BEGINS: u8 = 21;
 
 pub const MISSING_ENDS: u8 = 22;
+
+pub const NOT_CABINET: u8 = 23;
+
+pub const NOT_LATER: u8 = 24;
+
+pub const NO_PLACE: u8 = 25;
+
+pub const NOT_THERE: u8 = 26;

@@ -1,0 +1,6 @@
+pub mod Places
+pub mod Readings
+pub mod Images
+pub mod Stores
+pub mod Histories
+pub mod Numbers

@@ -1,0 +1,157 @@
+-- What is read from a public key that is accepted: its Subject's names and GNT. Such a record may stand in a place: it is no longer than one, not empty, and has
+-- no zero byte. And a reading that is declined has a number of the reading calls.
+-- Assumes nothing.
+use Prim.Native.Nat.{ℕ, zero, suc, _≤_}
+use mathlib.Core.Path.{_≡_, refl, sym, ap, _∙_}
+use mathlib.Core.Logic.{_≢_, ⊎-elim}
+use mathlib.Core.Bool.{not}
+use mathlib.Core.List.{List, [], _∷_, map}
+use native.Mathlib.Omega.{arith}
+use lib.ListN.{length}
+use lib.Dec.{T, eqb, eqb→eq}
+use mir.Facts.{or-yes}
+use Rattle.text.specs.Text.{Bytes, oneOf, allOf, without, isTimestamp}
+use Rattle.format.specs.Kinds.{Kind, name, mark, fieldsOf, pubkeyKinds, identityKinds}
+use Rattle.format.specs.Build.{recordOf, IsIdentity}
+use Rattle.format.specs.Read.{Outcome, accepted, refused, nobody, readIdentity, readOf}
+use Rattle.format.proofs.Table.{every-kind, absent}
+use Rattle.format.proofs.Parts.{record-length, record-without}
+use Rattle.format.proofs.Fields.{fields-clean}
+use Rattle.format.proofs.Exactly.{identity-tame, identity-says, read-exact, read-says, built-length}
+use Rattle.format.proofs.Outcomes.{Honest}
+use Rattle.format.proofs.Refusals.{Gives, over-given}
+use Rattle.subjects.specs.Subjects.{manufacturer, mid, gnt}
+use Rattle.subjects.specs.Keys.{subject, Key}
+use Rattle.subjects.proofs.Keys.{key}
+use Rattle.subjects.proofs.Subjects.{identity-gnt}
+use Rattle.shelf.specs.Places.{Names, named}
+use Rattle.shelf.specs.Cabinet.{width, Reading, about, declined, askedBy, asks, readBy, reads}
+use Rattle.shelf.proofs.Places.{clash}
+
+-- ---- of an identity
+
+-- i is accepted, and its names are k and its GNT is g
+pub record Asked (i : Bytes) (k : Names) (g : Bytes) : Type 0 where
+  pub who : Kind
+  pub fields : List Bytes
+  pub known : readIdentity i ≡ accepted who fields
+  pub names-so : k ≡ named (name who) (manufacturer fields) (mid fields)
+  pub gnt-so : g ≡ gnt fields
+
+pub asked : (i : Bytes) (k : Names) (g : Bytes) → asks i ≡ about k g → Asked i k g
+unfolding asks
+asked i k g e = go (readIdentity i) refl e
+  where
+    go : (o : Outcome) → readIdentity i ≡ o → askedBy o ≡ about k g → Asked i k g
+    go (accepted who fs) h f =
+        record { who = who; fields = fs; known = h; names-so = cc; gnt-so = cc }
+    go (refused n j) h f = let z : _≡_ {A = ℕ} 0 1 = cc in absurd (omega arith)
+
+pub asks-accepted : (i : Bytes) {who : Kind} {fs : List Bytes} → readIdentity i ≡ accepted who fs → asks i ≡ about (named (name who) (manufacturer fs) (mid fs)) (gnt fs)
+unfolding asks
+asks-accepted i e = rw e
+
+pub asks-refused : (i : Bytes) (n j : ℕ) → readIdentity i ≡ refused n j → asks i ≡ declined n j
+unfolding asks
+asks-refused i n j e = rw e
+
+pub asked-gnt : {i : Bytes} {k : Names} {g : Bytes} → Asked i k g → T (isTimestamp g)
+asked-gnt {i} a = rw (a .gnt-so) (identity-gnt i (a .known))
+
+-- ---- of a public key
+
+-- r is accepted, and its Subject is such an identity
+pub record Held (r : Bytes) (k : Names) (g : Bytes) : Type 0 where
+  pub key : Key r
+  pub subject-so : Asked (subject (key .fields)) k g
+
+pub held-of : (r : Bytes) (k : Names) (g : Bytes) → reads r ≡ about k g → Held r k g
+unfolding reads
+held-of r k g e = go (readOf pubkeyKinds r) refl e
+  where
+    go : (o : Outcome) → readOf pubkeyKinds r ≡ o → readBy o ≡ about k g → Held r k g
+    go (accepted kind fs) h f =
+        let q = key r kind fs h in
+        let i = q .is in
+        let same-fields : fs ≡ q .fields = cc in
+        record { key = q; subject-so = asked (subject (q .fields)) k g (rw same-fields at f) }
+    go (refused n j) h f = let z : _≡_ {A = ℕ} 0 1 = cc in absurd (omega arith)
+
+pub reads-accepted : (r : Bytes) (q : Key r) → reads r ≡ about (named (name (q .who)) (manufacturer (q .names)) (mid (q .names))) (gnt (q .names))
+unfolding reads
+reads-accepted r q = rw (q .is) (asks-accepted (subject (q .fields)) (q .known))
+
+pub reads-refused : (r : Bytes) (n j : ℕ) → readOf pubkeyKinds r ≡ refused n j → reads r ≡ declined n j
+unfolding reads
+reads-refused r n j e = rw e
+
+-- ---- it may stand in a place
+
+zero-absent : (k : Kind) → T (allOf (map (absent 0) (fieldsOf k)))
+zero-absent = every-kind (λ k. allOf (map (absent 0) (fieldsOf k))) tt
+
+mark-no-zero : (k : Kind) → T (not (eqb (mark k) 0))
+mark-no-zero = every-kind (λ k. not (eqb (mark k) 0)) tt
+
+pub record Fitting (r : Bytes) : Type 0 where
+  pub long : length r ≤ width
+  pub some-byte : length r ≢ 0
+  pub no-zero : T (without 0 r)
+
+pub fitting : (r : Bytes) (k : Names) (g : Bytes) → reads r ≡ about k g → Fitting r
+unfolding width
+fitting r k g e =
+    let q = held-of r k g e .key in
+    let b = read-exact pubkeyKinds r (q .kind) (q .fields) .0 (q .is) in
+    record {
+      long = rw (b .built) (built-length (q .kind) (q .fields) (b .permitted));
+      some-byte = λ z. omega (arith, record-length (q .kind) (q .fields), ap length (b .built));
+      no-zero = rw (b .built) (record-without 0 tt (q .kind) (q .fields) (mark-no-zero (q .kind)) (fields-clean IsIdentity identity-tame 0 (fieldsOf (q .kind)) (q .fields) (zero-absent (q .kind)) (b .permitted .fit)));
+    }
+
+-- ---- the numbers
+
+-- those of reading a public key, and an identity
+abbrev pub ownNumbers : List ℕ
+ownNumbers = 1 ∷ 2 ∷ 3 ∷ 4 ∷ 5 ∷ 6 ∷ 7 ∷ 8 ∷ 9 ∷ []
+
+positive : (P : Kind → List Bytes → Type 0) (n i : ℕ) → Honest P (refused n i) → T (oneOf (0 ∷ ownNumbers) n) → T (oneOf ownNumbers n)
+positive P zero i h t = absurd h
+positive P (suc n) i h t = ⊎-elim (λ e. let z = eqb→eq (suc n) 0 e in absurd (omega arith)) (λ u. u) (or-yes (eqb (suc n) 0) (oneOf ownNumbers (suc n)) t)
+
+identity-own : (i : Bytes) (n j : ℕ) → readIdentity i ≡ refused n j → T (oneOf ownNumbers n)
+unfolding readIdentity
+identity-own i n j e =
+    positive _ n j (rw e at (identity-says i))
+    (rw e at (over-given (0 ∷ ownNumbers) tt nobody (tt, tt, tt, tt, tt) identityKinds (tt, (tt, (tt, tt))) i))
+
+record-own : (r : Bytes) (n j : ℕ) → readOf pubkeyKinds r ≡ refused n j → T (oneOf ownNumbers n)
+unfolding readOf
+record-own r n j e =
+    positive _ n j (rw e at (read-says pubkeyKinds r))
+    (rw e at (over-given (0 ∷ ownNumbers) tt readIdentity (tt, tt, tt, tt, tt) pubkeyKinds (tt, (tt, tt)) r))
+
+pub asks-own : (i : Bytes) (n j : ℕ) → asks i ≡ declined n j → (readIdentity i ≡ refused n j) × T (oneOf ownNumbers n)
+unfolding asks
+asks-own i n j e = go (readIdentity i) refl e
+  where
+    go : (o : Outcome) → readIdentity i ≡ o → askedBy o ≡ declined n j → (readIdentity i ≡ refused n j) × T (oneOf ownNumbers n)
+    go (accepted who fs) h f = let z : _≡_ {A = ℕ} 0 1 = cc in absurd (omega arith)
+    go (refused m l) h f = let g : readIdentity i ≡ refused n j = cc in (g, identity-own i n j g)
+
+pub reads-own : (r : Bytes) (n j : ℕ) → reads r ≡ declined n j → (readOf pubkeyKinds r ≡ refused n j) × T (oneOf ownNumbers n)
+unfolding reads
+reads-own r n j e = go (readOf pubkeyKinds r) refl e
+  where
+    go : (o : Outcome) → readOf pubkeyKinds r ≡ o → readBy o ≡ declined n j → (readOf pubkeyKinds r ≡ refused n j) × T (oneOf ownNumbers n)
+    go (accepted k fs) h f =
+        let q = key r k fs h in
+        let i = q .is in
+        let same-fields : fs ≡ q .fields = cc in
+        let g = sym (asks-accepted (subject (q .fields)) (q .known)) ∙ rw same-fields at f in
+        let z : _≡_ {A = ℕ} 0 1 = cc in absurd (omega arith)
+    go (refused m l) h f = let g : readOf pubkeyKinds r ≡ refused n j = cc in (g, record-own r n j g)
+
+-- a number of the cabinet's own is none of them, and 0 neither
+pub not-own : (n m : ℕ) → T (oneOf ownNumbers n) → T (not (oneOf ownNumbers m)) → n ≢ m
+not-own n m t u e = clash (oneOf ownNumbers m) (rw e at t) u
