@@ -1,0 +1,322 @@
+-- The calls: from what the code found, what they answer and leave.
+-- Assumes nothing.
+use Prim.Native.Nat.{ℕ, zero, suc, _+_, _-_, _*_, _≤_, _<_}
+use mathlib.Core.Path.{_≡_, refl, sym, ap, ap₂, _∙_, subst}
+use mathlib.Core.Logic.{_≢_}
+use mathlib.Core.Bool.{Bool, true, false, cond}
+use mathlib.Core.Option.{Option, none, some}
+use mathlib.Core.List.{List, [], _∷_, _++_}
+use native.Mathlib.Omega.{arith}
+use lib.ListN.{length, take, drop, getD, length-take, length-drop}
+use lib.Dec.{T, eqb}
+use denote.Ref.{RefT, ptr, now}
+use mir.Facts.{yes-eqb}
+use borrow.Author.Tests.{eq-eqb, ne-eqb}
+use Rattle.text.specs.Text.{Bytes}
+use Rattle.text.specs.Later.{later}
+use Rattle.text.specs.Part.{Part}
+use Rattle.numbers.specs.Numbers.{notCabinet, notLater, noPlace, notThere}
+use Rattle.format.specs.Kinds.{name, identityKinds, pubkeyKinds}
+use Rattle.format.specs.Build.{Built}
+use Rattle.format.specs.Read.{Outcome, accepted, refused, readIdentity, readOf}
+use Rattle.format.specs.Files.{upTo}
+use Rattle.format.proofs.Exactly.{identity-says, read-says}
+use Rattle.format.proofs.Outcomes.{Honest}
+use Rattle.reading.specs.Reading.{answerOf}
+use Rattle.reading.specs.declared.Answer.{Answer}
+use Rattle.places.specs.Places.{fieldAt}
+use Rattle.fields.specs.declared.Place.{Place}
+use Rattle.frame.specs.Frame.{nextMark}
+use Rattle.subjects.specs.Subjects.{manufacturer, mid, gnt}
+use Rattle.subjects.specs.Keys.{subject}
+use Rattle.subjects.proofs.Keys.{key, its-field}
+use Rattle.shelf.specs.Places as shelf-places
+use Rattle.shelf.specs.Places.{Names, named, Held, free, held, isFree, holds, contents, lookup, lowest, missing}
+use Rattle.shelf.specs.Cabinet.{nothing, places, width, about, declined, asks, reads, zeros, encode, shelf, entry, Result, leaving, makeCabinet, putKey, removeKey, Finding, findKey, countIn, countKeys, checkCabinet}
+use Rattle.shelf.proofs.Places.{lookup-lowest, lowest-passes, lowest-most, missing-none, free-lowest, no-free-lowest}
+use Rattle.shelf.proofs.Readings.{Asked, asked, asks-accepted, asks-refused, reads-accepted, reads-refused, held-of, fitting}
+use Rattle.shelf.proofs.Images.{Good, text-back, shelf-some}
+use Rattle.shelf.proofs.Stores.{storedAt, found-part, put-23, put-own, put-later, put-not-later, put-first, put-full, remove-23, remove-own, remove-some, remove-none, find-23, find-own, find-some, find-none}
+use Rattle.cabinet.specs.declared.Filed.{Filed}
+use Rattle.cabinet.specs.declared.Counted.{Counted}
+use Rattle.cabinet.specs.Cabinet.{Files, checked, counted, FindSaid, FindPart}
+use Rattle.cabinet.specs.Steps.{isSome, partAt, withPart, namesIn, isLaterThan, firstFrom, hasNames, isFreeAt, occupiedOf, Sized, PlaceIn, Writing}
+use Rattle.cabinet.proofs.Names.{namesText, Clean, clean, names-taken, held-later}
+use Rattle.cabinet.proofs.Bridge.{missing-lowest}
+use Rattle.cabinet.proofs.Decoding.{text-end}
+use Rattle.cabinet.proofs.Cabinets.{places-are, width-is, Read, lowest-names, lowest-free, occupied-so, none-there, some-there}
+
+files-of : (x : Result) {n i : ℕ} {out : Bytes} {r : Filed} → x ≡ record { no = n; field = i; bytes = out } → r ≡ record { no = n; field = i } → Files x out r
+files-of x e f = record { said = f ∙ sym (ap (λ (y : Result). record { no = y .no; field = y .field }) e); left = sym (ap (λ (y : Result). y .bytes) e) }
+
+-- ---- making one
+
+module _ (s : Bytes) where
+  pub make-short : {r : Filed} → (length s ≡ 65536 → ⊥) → r ≡ record { no = 23; field = 0 } → Files (makeCabinet s) s r
+  unfolding makeCabinet places width
+  make-short n f = files-of (makeCabinet s) (rw (ne-eqb (length s) 65536 n)) f
+
+  pub make-done : {r : Filed} {out : Bytes} → length s ≡ 65536 → out ≡ zeros (length s - 0) → r ≡ record { no = 0; field = 0 } → Files (makeCabinet s) out r
+  unfolding makeCabinet places width
+  make-done {r} {out} l e f =
+      let n : length s - 0 ≡ 65536 = omega arith in
+      files-of (makeCabinet s) (rw (eq-eqb (length s) 65536 l) (ap (λ (x : Bytes). record { no = 0; field = 0; bytes = x }) (sym (e ∙ ap zeros n)))) f
+
+  -- ---- asking
+
+  pub check-23 : {r : Filed} → false ≡ isSome (shelf s) → r ≡ record { no = 23; field = 0 } → r ≡ checked s
+  unfolding checkCabinet countKeys
+  check-23 e f = f ∙ ap (λ (o : Option (List shelf-places.Place)). record { no = countIn o .no; field = 0 }) (sym (none-there s e))
+
+  pub check-0 : {r : Filed} → true ≡ isSome (shelf s) → r ≡ record { no = 0; field = 0 } → r ≡ checked s
+  unfolding checkCabinet countKeys
+  check-0 e f = f ∙ ap (λ (o : Option (List shelf-places.Place)). record { no = countIn o .no; field = 0 }) (sym (some-there s e .1))
+
+  pub count-23 : false ≡ isSome (shelf s) → record { no = 23; count = 0 } ≡ counted s
+  unfolding countKeys
+  count-23 e = sym (rw (none-there s e))
+
+  pub count-0 : {n : ℕ} → true ≡ isSome (shelf s) → n ≡ occupiedOf s 64 0 → record { no = 0; count = n } ≡ counted s
+  unfolding countKeys
+  count-0 e f = let (ps, q, R) = some-there s e in sym (rw (q, f, occupied-so R))
+
+-- ---- a place that was looked for
+
+pub known-identity : (i : Bytes) {a : Answer} → a ≡ answerOf (readIdentity i) → a .no ≡ 0 → (k : Names) × (g : Bytes) × Asked i k g
+known-identity i {a} e z = go (readIdentity i) refl (ap (λ (x : Answer). x .no) (sym e) ∙ z) (identity-says i)
+  where
+    go : (o : Outcome) → readIdentity i ≡ o → answerOf o .no ≡ 0 → Honest (Built identityKinds i) o → (k : Names) × (g : Bytes) × Asked i k g
+    go (accepted who fs) h n w = (_, _, asked i _ _ (asks-accepted i h))
+    go (refused zero j) h n w = absurd w
+    go (refused (suc m) j) h n w = absurd (omega arith)
+
+asks-so : {i : Bytes} {k : Names} {g : Bytes} → Asked i k g → asks i ≡ about k g
+asks-so {i} a = asks-accepted i (a .known) ∙ sym (ap₂ about (a .names-so) (a .gnt-so))
+
+refused-identity : (i : Bytes) {a : Answer} → a ≡ answerOf (readIdentity i) → (a .no ≡ 0 → ⊥) → asks i ≡ declined (a .no) (a .field)
+refused-identity i {a} e z = go (readIdentity i) refl e
+  where
+    go : (o : Outcome) → readIdentity i ≡ o → a ≡ answerOf o → asks i ≡ declined (a .no) (a .field)
+    go (accepted who fs) h f = absurd (z (ap (λ (x : Answer). x .no) f))
+    go (refused m j) h f = asks-refused i m j h ∙ sym (ap₂ declined (ap (λ (x : Answer). x .no) f) (ap (λ (x : Answer). x .field) f))
+
+-- in the cabinet s, by the names of the identity i
+pub record Looked (s i : Bytes) (k : Names) (g : Bytes) (at : ℕ) : Type 0 where
+  pub ps : List shelf-places.Place
+  pub there : shelf s ≡ some ps
+  pub read : Read s ps
+  pub asker : Asked i k g
+  pub at-so : at ≡ lowest (holds k) ps
+
+looked : (s i : Bytes) {k : Names} {g : Bytes} → Asked i k g → true ≡ isSome (shelf s) → {v : Bytes} → v ≡ namesIn i → {at : ℕ} → at ≡ firstFrom (hasNames s v) 0 → Looked s i k g at
+looked s i {k} {g} a e {v} n {at} f =
+    let (ps, q, R) = some-there s e in
+    record {
+      ps = ps;
+      there = q;
+      read = R;
+      asker = a;
+      at-so = f ∙ ap (λ (x : Bytes). firstFrom (hasNames s x) 0) (n ∙ names-taken a) ∙ lowest-names R k (clean a);
+    }
+
+module _ {s i : Bytes} {k : Names} {g : Bytes} {at : ℕ} (L : Looked s i k g at) where
+  within : (at ≡ 64 → ⊥) → at < 64
+  within n = omega (arith, lowest-most (holds k) (L .ps), L .at-so, L .read .number, at-least)
+    where
+      at-least : at ≢ 64
+      at-least = n
+
+  nothing-there : at ≡ 64 → lookup k (L .ps) ≡ none
+  nothing-there e =
+      missing-none (lookup k (L .ps))
+      (rw (missing-lowest k (L .ps)) (yes-eqb (sym (L .at-so) ∙ e ∙ sym (L .read .number))))
+
+  -- the record there
+  pub record There : Type 0 where
+    pub h : Held
+    pub found : lookup k (L .ps) ≡ some h
+    pub good : reads (h .text) ≡ about (h .names) (h .gnt)
+    pub bytes : encode (held h) ≡ partAt s at
+    pub low : lowest (holds k) (L .ps) < length (L .ps)
+
+  something-there : at < 64 → There
+  something-there l = go (getD (L .ps) at free) refl
+    where
+      low : lowest (holds k) (L .ps) < length (L .ps)
+      low = omega (arith, L .at-so, L .read .number)
+
+      go : (p : shelf-places.Place) → getD (L .ps) at free ≡ p → There
+      go free e = absurd (rw (ap (λ (j : ℕ). getD (L .ps) j free) (sym (L .at-so)) ∙ e) at (lowest-passes (holds k) (L .ps) low))
+      go (held h) e =
+          let (b, w) = L .read .at at l in
+          record {
+            h = h;
+            found = lookup-lowest k (L .ps) ∙ ap (λ (j : ℕ). contents (getD (L .ps) j free)) (sym (L .at-so)) ∙ ap contents e;
+            good = subst Good e w;
+            bytes = ap encode (sym e) ∙ b;
+            low = low;
+          }
+
+stored-so : (s : Bytes) (at : ℕ) (k : Names) (g r : Bytes) → storedAt s at (entry k g r) ≡ withPart s at (r ++ zeros (1024 - length r))
+unfolding encode width
+stored-so s at k g r = refl
+
+emptied-so : (s : Bytes) (at : ℕ) → storedAt s at free ≡ withPart s at (zeros 1024)
+unfolding encode width
+emptied-so s at = refl
+
+-- ---- remove and find
+
+found-none : {x : Finding} {s : Bytes} {n j : ℕ} {r : Place} → x ≡ nothing n j → r ≡ record { no = n; field = j; start = 0; len = 0 } → FindSaid x s r
+found-none e f = rw (e, f) (record { said = refl; inside = omega arith; bytes = refl })
+
+module _ (s i : Bytes) where
+  pub removes-23 : {r : Filed} → false ≡ isSome (shelf s) → r ≡ record { no = 23; field = 0 } → Files (removeKey s i) s r
+  removes-23 e f = files-of (removeKey s i) (remove-23 s i (none-there s e)) f
+
+  pub finds-23 : {r : Place} → false ≡ isSome (shelf s) → r ≡ record { no = 23; field = 0; start = 0; len = 0 } → FindSaid (findKey s i) s r
+  finds-23 e f = found-none (find-23 s i (none-there s e)) f
+
+  module _ (e : true ≡ isSome (shelf s)) {a : Answer} (ans : a ≡ answerOf (readIdentity i)) where
+    pub removes-own : {r : Filed} → (a .no ≡ 0 → ⊥) → r ≡ record { no = a .no; field = a .field } → Files (removeKey s i) s r
+    removes-own z f = let (ps, q, R) = some-there s e in files-of (removeKey s i) (remove-own s ps q i (a .no) (a .field) (refused-identity i ans z)) f
+
+    pub finds-own : {r : Place} → (a .no ≡ 0 → ⊥) → r ≡ record { no = a .no; field = a .field; start = 0; len = 0 } → FindSaid (findKey s i) s r
+    finds-own z f = let (ps, q, R) = some-there s e in found-none (find-own s ps q i (a .no) (a .field) (refused-identity i ans z)) f
+
+    module _ (z : a .no ≡ 0) {v : Bytes} (n : v ≡ namesIn i) {at : ℕ} (l : at ≡ firstFrom (hasNames s v) 0) where
+      abbrev L : Looked s i (known-identity i ans z .0) (known-identity i ans z .1) at
+      L = looked s i (known-identity i ans z .2) e n l
+
+      pub found-within : (at ≡ 64 → ⊥) → at < 64
+      found-within = within L
+
+      pub removes-26 : {r : Filed} → at ≡ 64 → r ≡ record { no = 26; field = 0 } → Files (removeKey s i) s r
+      removes-26 m f = files-of (removeKey s i) (remove-none s (L .ps) (L .there) i _ _ (asks-so (L .asker)) (nothing-there L m)) f
+
+      pub removes-done : {r : Filed} {out : Bytes} → (at ≡ 64 → ⊥) → out ≡ withPart s at (zeros (1024 - 0)) → r ≡ record { no = 0; field = 0 } → Files (removeKey s i) out r
+      removes-done m o f =
+          let t = something-there L (within L m) in
+          files-of (removeKey s i)
+          (remove-some s (L .ps) (L .there) i _ _ (asks-so (L .asker)) (t .h) (t .found) (t .low)
+          ∙ ap (λ (x : Bytes). record { no = 0; field = 0; bytes = x }) (ap (λ (j : ℕ). storedAt s j free) (sym (L .at-so)) ∙ emptied-so s at ∙ sym o)) f
+
+      pub finds-26 : {r : Place} → at ≡ 64 → r ≡ record { no = 26; field = 0; start = 0; len = 0 } → FindSaid (findKey s i) s r
+      finds-26 m f = found-none (find-none s (L .ps) (L .there) i _ _ (asks-so (L .asker)) (nothing-there L m)) f
+
+      pub finds-done : {m : ℕ} {p : Bytes} → (at ≡ 64 → ⊥) → p ≡ partAt s at → m ≡ nextMark 0 p 0
+          → FindSaid (findKey s i) s (record { no = 0; field = 0; start = at * 1024; len = m })
+      unfolding width
+      finds-done {m} {p} o b q =
+          let l′ = within L o in
+          let t = something-there L l′ in
+          let size : m ≡ length (t .h .text) = q ∙ text-end p ∙ ap (λ (x : Bytes). length (upTo 0 x)) (b ∙ sym (t .bytes)) ∙ ap length (text-back (t .h) (t .good)) in
+          let w = shelf-some s (L .ps) (L .there) in
+          let part : take (length (t .h .text)) (drop (at * 1024) s) ≡ t .h .text =
+          ap₂ (λ (j : ℕ) (x : Bytes). take (length (t .h .text)) (drop (j * 1024) x)) (L .at-so) (sym (w .0)) ∙ found-part _ (L .ps) (t .h) (w .1 .good) (t .found) in
+          rw (find-some s (L .ps) (L .there) i _ _ (asks-so (L .asker)) (t .h) (t .found), ← (L .at-so))
+          (record {
+            said = rw size;
+            inside = omega (arith, L .read .long, size, fitting (t .h .text) (t .h .names) (t .h .gnt) (t .good) .long);
+            bytes = rw size part;
+          })
+
+-- the part that the code takes at a place that was answered so
+pub handed : (x : Finding) {s r : RefT Bytes} {p : Place} → FindSaid x (now s) p → Part s (p .start) (take (p .start + p .len - p .start) (drop (p .start) (now s))) r → FindPart x s r (p .no) (p .field)
+handed x {s} {r} {p} w q =
+    let n : p .start + p .len - p .start ≡ p .len = omega arith in
+    record {
+      its-part = record {
+        stands = q .stands ∙ ap (λ (y : Place). (ptr s .0, y .start + ptr s .1)) (w .said);
+        holds = q .holds ∙ ap (λ (m : ℕ). take m (drop (p .start) (now s))) n ∙ w .bytes;
+      };
+      its-no = ap (λ (y : Place). y .no) (w .said);
+      its-field = ap (λ (y : Place). y .field) (w .said);
+    }
+
+-- ---- put
+
+-- an accepted record, and its Subject as the code takes it
+known-key : (r : Bytes) {a : Answer} → a ≡ answerOf (readOf pubkeyKinds r) → a .no ≡ 0 → {j : Bytes} → j ≡ fieldAt r (a .starts) (a .lens) 1
+    → (k : Names) × (g : Bytes) × (reads r ≡ about k g) × Asked j k g
+known-key r {a} e z {j} f = go (readOf pubkeyKinds r) refl (ap (λ (x : Answer). x .no) (sym e) ∙ z) (read-says pubkeyKinds r)
+  where
+    go : (o : Outcome) → readOf pubkeyKinds r ≡ o → answerOf o .no ≡ 0 → Honest (Built pubkeyKinds r) o → (k : Names) × (g : Bytes) × (reads r ≡ about k g) × Asked j k g
+    go (accepted kind fs) h n w =
+        let q = key r kind fs h in
+        let s : subject (q .fields) ≡ j = sym (f ∙ its-field r q a e 0) in
+        let k : Names = named (name (q .who)) (manufacturer (q .names)) (mid (q .names)) in
+        (k, gnt (q .names), reads-accepted r q, subst (λ (x : Bytes). Asked x k (gnt (q .names))) s (asked (subject (q .fields)) k (gnt (q .names)) (asks-accepted (subject (q .fields)) (q .known))))
+    go (refused zero l) h n w = absurd w
+    go (refused (suc m) l) h n w = absurd (omega arith)
+
+refused-key : (r : Bytes) {a : Answer} → a ≡ answerOf (readOf pubkeyKinds r) → (a .no ≡ 0 → ⊥) → reads r ≡ declined (a .no) (a .field)
+refused-key r {a} e z = go (readOf pubkeyKinds r) refl e
+  where
+    go : (o : Outcome) → readOf pubkeyKinds r ≡ o → a ≡ answerOf o → reads r ≡ declined (a .no) (a .field)
+    go (accepted k fs) h f = absurd (z (ap (λ (x : Answer). x .no) f))
+    go (refused m j) h f = reads-refused r m j h ∙ sym (ap₂ declined (ap (λ (x : Answer). x .no) f) (ap (λ (x : Answer). x .field) f))
+
+module _ (s r : Bytes) where
+  pub puts-23 : {x : Filed} → false ≡ isSome (shelf s) → x ≡ record { no = 23; field = 0 } → Files (putKey s r) s x
+  puts-23 e f = files-of (putKey s r) (put-23 s r (none-there s e)) f
+
+  module _ (e : true ≡ isSome (shelf s)) {a : Answer} (ans : a ≡ answerOf (readOf pubkeyKinds r)) where
+    pub puts-own : {x : Filed} → (a .no ≡ 0 → ⊥) → x ≡ record { no = a .no; field = a .field } → Files (putKey s r) s x
+    puts-own z f = let (ps, q, R) = some-there s e in files-of (putKey s r) (put-own s ps q r (a .no) (a .field) (refused-key r ans z)) f
+
+    module _ (z : a .no ≡ 0) {j : Bytes} (sub : j ≡ fieldAt r (a .starts) (a .lens) 1) where
+      pub puts-short : length r ≤ 1024
+      unfolding width
+      puts-short = let (k, g, b, o) = known-key r ans z sub in fitting r k g b .long
+
+      module _ {v : Bytes} (n : v ≡ namesIn j) {at : ℕ} (l : at ≡ firstFrom (hasNames s v) 0) where
+        abbrev K : (k : Names) × (g : Bytes) × (reads r ≡ about k g) × Asked j k g
+        K = known-key r ans z sub
+
+        abbrev M : Looked s j (K .0) (K .1) at
+        M = looked s j (K .3) e n l
+
+        later-so : (m : at < 64) {p : Bytes} {b : Bool} → p ≡ partAt s at → b ≡ isLaterThan j p → b ≡ later (K .1) (something-there M m .h .gnt)
+        later-so m b q =
+            let t = something-there M m in
+            q ∙ ap (isLaterThan j) (b ∙ sym (t .bytes)) ∙ held-later (t .h) (t .good) (K .3)
+
+        pub puts-24 : {x : Filed} {p : Bytes} {b : Bool} → at < 64 → p ≡ partAt s at → b ≡ isLaterThan j p → b ≡ false → x ≡ record { no = 24; field = 0 } → Files (putKey s r) s x
+        puts-24 m d q w f =
+            let t = something-there M m in
+            files-of (putKey s r) (put-not-later s (M .ps) (M .there) r (K .0) (K .1) (K .2) (t .h) (t .found) (sym (later-so m d q) ∙ w)) f
+
+        pub puts-again : {x : Filed} {p out : Bytes} {b : Bool} → at < 64 → p ≡ partAt s at → b ≡ isLaterThan j p → b ≡ true
+            → out ≡ withPart s at (r ++ zeros (1024 - length r)) → x ≡ record { no = 0; field = 0 } → Files (putKey s r) out x
+        puts-again m d q w o f =
+            let t = something-there M m in
+            files-of (putKey s r)
+            (put-later s (M .ps) (M .there) r (K .0) (K .1) (K .2) (t .h) (t .found) (sym (later-so m d q) ∙ w) (t .low)
+            ∙ ap (λ (y : Bytes). record { no = 0; field = 0; bytes = y })
+            (ap (λ (i : ℕ). storedAt s i (entry (K .0) (K .1) r)) (sym (M .at-so)) ∙ stored-so s at (K .0) (K .1) r ∙ sym o)) f
+
+        module _ (m : 64 ≤ at) {to : ℕ} (w : to ≡ firstFrom (isFreeAt s) 0) where
+          absent : lookup (K .0) (M .ps) ≡ none
+          absent = nothing-there M (omega (arith, lowest-most (holds (K .0)) (M .ps), M .at-so, M .read .number))
+
+          to-so : to ≡ lowest isFree (M .ps)
+          to-so = w ∙ lowest-free (M .read)
+
+          pub puts-25 : {x : Filed} → to ≡ 64 → x ≡ record { no = 25; field = 0 } → Files (putKey s r) s x
+          puts-25 q f = files-of (putKey s r) (put-full s (M .ps) (M .there) r (K .0) (K .1) (K .2) absent (omega (arith, to-so, M .read .number))) f
+
+          pub to-within : (to ≡ 64 → ⊥) → to < 64
+          to-within q = let q′ : to ≢ 64 = q in omega (arith, to-so, lowest-most isFree (M .ps), M .read .number)
+
+          pub puts-first : {x : Filed} {out : Bytes} → (to ≡ 64 → ⊥) → out ≡ withPart s to (r ++ zeros (1024 - length r)) → x ≡ record { no = 0; field = 0 } → Files (putKey s r) out x
+          puts-first q o f =
+              files-of (putKey s r)
+              (put-first s (M .ps) (M .there) r (K .0) (K .1) (K .2) absent (omega (arith, to-so, to-within q, M .read .number))
+              ∙ ap (λ (y : Bytes). record { no = 0; field = 0; bytes = y })
+              (ap (λ (i : ℕ). storedAt s i (entry (K .0) (K .1) r)) (sym to-so) ∙ stored-so s to (K .0) (K .1) r ∙ sym o)) f
+
+-- ---- what the functions need
+
+pub its-size : (s : Bytes) → true ≡ isSome (shelf s) → length s ≡ 65536
+its-size s e = some-there s e .2 .long

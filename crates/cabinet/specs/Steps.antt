@@ -1,0 +1,101 @@
+-- What the private functions of the crate answer, by the bytes of the places. No clause of a document stands here.
+-- Assumes nothing.
+use Prim.Native.Nat.{ℕ, zero, suc, _+_, _-_, _*_, _≤_, _<_}
+use Prim.Native.Char.{code}
+use mathlib.Core.Path.{_≡_}
+use mathlib.Core.Bool.{Bool, true, false, not, cond}
+use mathlib.Core.Option.{Option, none, some}
+use mathlib.Core.List.{List, [], _++_}
+use lib.ListN.{length, take, drop, getD}
+use lib.Dec.{T, leb, eqb}
+use Rattle.text.specs.Text.{Bytes, same, after}
+use Rattle.frame.specs.Frame.{partOf, partStart}
+use Rattle.subjects.specs.Subjects.{identityPart}
+use Rattle.shelf.specs.Places.{Place}
+use Rattle.shelf.specs.Cabinet.{decode}
+
+-- ---- one place
+
+abbrev pub isZero : ℕ → Bool
+isZero c = eqb c 0
+
+abbrev pub isPlace : Option Place → Bool
+isPlace none = false
+isPlace (some p) = true
+
+abbrev pub isSome : Option (List Place) → Bool
+isSome none = false
+isSome (some ps) = true
+
+-- place i
+abbrev pub partAt : Bytes → ℕ → Bytes
+partAt s i = take 1024 (drop (i * 1024) s)
+
+-- the bytes s with v in place i
+abbrev pub withPart : Bytes → ℕ → Bytes → Bytes
+withPart s i v = (take (i * 1024) s ++ v) ++ drop (i * 1024 + 1024) s
+
+-- ---- the names
+
+-- what stands in an identity before its third field; nothing, where its bytes have not so many marks
+unfoldable pub namesIn : Bytes → Bytes
+namesIn s = cond (leb (partStart (code ":") s 3) (length s)) (take (partStart (code ":") s 3) s) []
+
+-- the first field of a record, of any bytes
+unfoldable pub subjectAt : Bytes → Bytes
+subjectAt s = partOf (code "|") s 1
+
+-- what stands there begins with v
+unfoldable pub startsSo : Bytes → Bytes → Bool
+startsSo s v = same (take (length v) (drop (partStart (code "|") s 1) s)) v
+
+-- the third field of the identity i is after that of the identity in the place s
+unfoldable pub isLaterThan : Bytes → Bytes → Bool
+isLaterThan i s = after (identityPart i 3) (identityPart (subjectAt s) 3)
+
+-- ---- all places
+
+-- the lowest number from i on, of n, that passes the test; i + n where none does
+unfoldable pub first : (ℕ → Bool) → ℕ → ℕ → ℕ
+first t zero i = i
+first t (suc n) i = cond (t i) i (first t n (suc i))
+
+-- of the places from i on
+abbrev pub firstFrom : (ℕ → Bool) → ℕ → ℕ
+firstFrom t i = first t (64 - i) i
+
+-- every place passes the test
+abbrev pub allPass : (ℕ → Bool) → Bool
+allPass t = eqb (firstFrom (λ i. not (t i)) 0) 64
+
+abbrev pub hasNames : Bytes → Bytes → ℕ → Bool
+hasNames s v i = startsSo (partAt s i) v
+
+abbrev pub isPlaceAt : Bytes → ℕ → Bool
+isPlaceAt s i = isPlace (decode (partAt s i))
+
+abbrev pub isFreeAt : Bytes → ℕ → Bool
+isFreeAt s i = isZero (getD s (i * 1024) 0)
+
+-- no later place begins with the names of place i
+unfoldable pub aloneAt : Bytes → ℕ → Bool
+aloneAt s i = cond (isFreeAt s i) true (eqb (firstFrom (hasNames s (namesIn (subjectAt (partAt s i)))) (i + 1)) 64)
+
+-- how many of n places from i on are occupied
+unfoldable pub occupiedOf : Bytes → ℕ → ℕ → ℕ
+occupiedOf s zero i = 0
+occupiedOf s (suc n) i = cond (isFreeAt s i) 0 1 + occupiedOf s n (suc i)
+
+-- ---- what the functions need
+
+pub record Sized (s : Bytes) : Type 0 where
+  pub long : length s ≡ 65536
+
+pub record PlaceIn (s : Bytes) (i : ℕ) : Type 0 where
+  pub long : length s ≡ 65536
+  pub place : i < 64
+
+pub record Writing (s : Bytes) (i : ℕ) (text : Bytes) : Type 0 where
+  pub long : length s ≡ 65536
+  pub place : i < 64
+  pub short : length text ≤ 1024

@@ -1,0 +1,415 @@
+// The centre's key cabinet: document 02, E8. 64 places of 1,024 bytes in 65,536 lent bytes; each is all zeros, or an accepted public key and zeros after it,
+// and no two records share Subject kind, Manufacturer and MID. Every call takes any bytes and asks first whether they are a cabinet; none has a `requires`.
+// Two accepted public keys share the three names exactly where their Subjects begin alike, up to the third ':', so names are compared where they stand.
+ghost use mathlib.Core.Path.{_≡_};
+ghost use mathlib.Core.List.{_++_};
+ghost use Prim.Native.Nat.{_+_, _-_, _≤_, _<_};
+ghost use lib.ListN.{length, getD};
+ghost use Rattle.text.specs.Text.{every};
+ghost use Rattle.places.specs.Places.{fieldAt};
+ghost use Rattle.format.specs.Kinds.{pubkeyKinds};
+ghost use Rattle.format.specs.Read.{readOf};
+ghost use Rattle.reading.specs.Reading.{answerOf};
+ghost use Rattle.shelf.specs.Cabinet.{zeros, decode, shelf, makeCabinet, putKey, removeKey, findKey};
+ghost use Rattle.cabinet.specs.Cabinet.{Files, counted, checked, FindSaid, FindPart};
+ghost use Rattle.cabinet.specs.Steps.{isZero, isPlace, isSome, partAt, withPart, namesIn, subjectAt, startsSo, isLaterThan, firstFrom, allPass, hasNames, isPlaceAt, isFreeAt, aloneAt, occupiedOf, Sized, PlaceIn, Writing};
+
+pub const PLACES: usize = 64;
+
+// The bytes of a place, and of them all.
+pub const WIDTH: usize = 1024;
+
+pub const SIZE: usize = 65536;
+
+// What a call answers that changes a cabinet, or asks whether it is one: the number, and the field's number, 0 where none is named.
+#[repr(C)]
+pub struct Filed {
+    pub no: u8,
+    pub field: u8,
+}
+
+// What is answered to how many places are occupied: the number, and how many, 0 with a refusal.
+#[repr(C)]
+pub struct Counted {
+    pub no: u8,
+    pub count: usize,
+}
+
+fn file(no: u8, field: u8) -> Filed
+    ensures { λ r. ⌜ r ≡ record { no = no; field = field } ⌝ }
+{
+    Filed { no, field }
+}
+
+// ---- one place
+
+fn are_zeros(s: &[u8]) -> bool
+    ensures { λ r. ⌜ r ≡ every isZero (now (s .entry)) ⌝ }
+{
+    let mut i = 0;
+    while i < s.len() {
+        if s[i] != 0 {
+            return false;
+        }
+        i += 1;
+    }
+    true
+}
+
+// Reads public keys alone: the rows from ECDSA to before REQ.
+fn read_key(record: &[u8]) -> reading::Answer
+    ensures { λ r. ⌜ r ≡ answerOf (readOf pubkeyKinds (now («record» .entry))) ⌝ }
+{
+    reading::read_of(table::ECDSA, table::REQ, record)
+}
+
+// Whether the bytes are all zeros, or a public key and zeros after it: the record is what stands before the first zero.
+fn is_place(place: &[u8]) -> bool
+    requires { ⌜ length (now place) ≡ 1024 ⌝ }
+    ensures { λ r. ⌜ r ≡ isPlace (decode (now (place .entry))) ⌝ }
+{
+    let len = frame::next_mark(0, place, 0);
+    if !are_zeros(&place[len..]) {
+        return false;
+    }
+    if len == 0 {
+        return true;
+    }
+    read_key(&place[0..len]).no == numbers::ACCEPTED
+}
+
+// Place i of a cabinet, from 0.
+fn place_at<'a>(cabinet: &'a [u8], i: usize) -> &'a [u8]
+    requires { ⌜ PlaceIn (now cabinet) i ⌝ }
+    ensures { λ r. ⌜ now r ≡ partAt (now (cabinet .entry)) i ⌝ }
+{
+    let start = i * WIDTH;
+    let end = start + WIDTH;
+    &cabinet[start..end]
+}
+
+// ---- the names
+
+// What stands in an identity before its GNT: its kind's name, Manufacturer and MID, each followed by ':'. Nothing, of bytes without so many marks.
+fn names_in<'a>(identity: &'a [u8]) -> &'a [u8]
+    ensures { λ r. ⌜ now r ≡ namesIn (now (identity .entry)) ⌝ }
+{
+    let end = frame::part_start(b':', identity, table::IDENTITY_GNT);
+    if identity.len() < end {
+        return &identity[0..0];
+    }
+    &identity[0..end]
+}
+
+// The Subject of the record in a place.
+fn subject_in<'a>(place: &'a [u8]) -> &'a [u8]
+    ensures { λ r. ⌜ now r ≡ subjectAt (now (place .entry)) ⌝ }
+{
+    frame::part(b'|', place, table::PUBKEY_SUBJECT)
+}
+
+// The Subject of the record in a place begins with these names.
+fn has_names(place: &[u8], names: &[u8]) -> bool
+    ensures { λ r. ⌜ r ≡ startsSo (now (place .entry)) (now (names .entry)) ⌝ }
+{
+    let start = frame::part_start(b'|', place, table::PUBKEY_SUBJECT);
+    if place.len() < start {
+        return names.len() == 0;
+    }
+    if place.len() - start < names.len() {
+        return false;
+    }
+    let end = start + names.len();
+    text::are_same(&place[start..end], names)
+}
+
+// ---- all places
+
+// The lowest place at or after `from` whose record has these names, or PLACES.
+fn place_of(cabinet: &[u8], from: usize, names: &[u8]) -> usize
+    requires { ⌜ Sized (now cabinet) × (from ≤ 64) ⌝ }
+    ensures { λ r. ⌜ r ≡ firstFrom (hasNames (now (cabinet .entry)) (now (names .entry))) from ⌝ }
+{
+    let mut i = from;
+    while i < PLACES {
+        if has_names(place_at(cabinet, i), names) {
+            return i;
+        }
+        i += 1;
+    }
+    i
+}
+
+// Whether every place is all zeros or holds a record.
+fn are_places(cabinet: &[u8]) -> bool
+    requires { ⌜ Sized (now cabinet) ⌝ }
+    ensures { λ r. ⌜ r ≡ allPass (isPlaceAt (now (cabinet .entry))) ⌝ }
+{
+    let mut i = 0;
+    while i < PLACES {
+        if !is_place(place_at(cabinet, i)) {
+            return false;
+        }
+        i += 1;
+    }
+    true
+}
+
+// Whether no later place shares the names of place i.
+fn is_alone(cabinet: &[u8], i: usize) -> bool
+    requires { ⌜ PlaceIn (now cabinet) i ⌝ }
+    ensures { λ r. ⌜ r ≡ aloneAt (now (cabinet .entry)) i ⌝ }
+{
+    let place = place_at(cabinet, i);
+    if place[0] == 0 {
+        return true;
+    }
+    place_of(cabinet, i + 1, names_in(subject_in(place))) == PLACES
+}
+
+// Whether no two places share their names.
+fn are_distinct(cabinet: &[u8]) -> bool
+    requires { ⌜ Sized (now cabinet) ⌝ }
+    ensures { λ r. ⌜ r ≡ allPass (aloneAt (now (cabinet .entry))) ⌝ }
+{
+    let mut i = 0;
+    while i < PLACES {
+        if !is_alone(cabinet, i) {
+            return false;
+        }
+        i += 1;
+    }
+    true
+}
+
+fn is_cabinet(cabinet: &[u8]) -> bool
+    ensures { λ r. ⌜ r ≡ isSome (shelf (now (cabinet .entry))) ⌝ }
+{
+    if cabinet.len() != SIZE {
+        return false;
+    }
+    if !are_places(cabinet) {
+        return false;
+    }
+    are_distinct(cabinet)
+}
+
+// The lowest free place, or PLACES.
+fn free_at(cabinet: &[u8]) -> usize
+    requires { ⌜ Sized (now cabinet) ⌝ }
+    ensures { λ r. ⌜ r ≡ firstFrom (isFreeAt (now (cabinet .entry))) 0 ⌝ }
+{
+    let mut i = 0;
+    while i < PLACES {
+        if cabinet[i * WIDTH] == 0 {
+            return i;
+        }
+        i += 1;
+    }
+    i
+}
+
+// How many places are occupied.
+fn occupied_in(cabinet: &[u8]) -> usize
+    requires { ⌜ Sized (now cabinet) ⌝ }
+    ensures { λ r. ⌜ r ≡ occupiedOf (now (cabinet .entry)) 64 0 ⌝ }
+{
+    let mut count = 0;
+    let mut i = 0;
+    while i < PLACES {
+        if cabinet[i * WIDTH] != 0 {
+            count += 1;
+        }
+        i += 1;
+    }
+    count
+}
+
+// ---- writing
+
+// Byte j of the text, and zeros after it.
+fn byte_of(text: &[u8], j: usize) -> u8
+    ensures { λ r. ⌜ r ≡ getD (now (text .entry)) j 0 ⌝ }
+{
+    if j < text.len() {
+        return text[j];
+    }
+    0
+}
+
+// The text, and zeros after it, in the lent bytes.
+fn fill(out: &mut [u8], text: &[u8])
+    requires { ⌜ length (now text) ≤ length (now out) ⌝ }
+    ensures { λ r. ⌜ now (out .exit) ≡ now (text .entry) ++ zeros (length (now (out .entry)) - length (now (text .entry))) ⌝ }
+{
+    let mut j = 0;
+    while j < out.len() {
+        out[j] = byte_of(text, j);
+        j += 1;
+    }
+}
+
+// The text, and zeros after it, in place i.
+fn write_place(cabinet: &mut [u8], i: usize, text: &[u8])
+    requires { ⌜ Writing (now cabinet) i (now text) ⌝ }
+    ensures { λ r. ⌜ now (cabinet .exit) ≡ withPart (now (cabinet .entry)) i (now (text .entry) ++ zeros (1024 - length (now (text .entry)))) ⌝ }
+{
+    let start = i * WIDTH;
+    let end = start + WIDTH;
+    fill(&mut cabinet[start..end], text);
+}
+
+// ---- the calls
+
+// Makes the lent bytes an empty cabinet: 23 where they are not SIZE.
+pub fn make_cabinet(cabinet: &mut [u8]) -> Filed
+    ensures { λ r. ⌜ Files (makeCabinet (now (cabinet .entry))) (now (cabinet .exit)) r ⌝ }
+{
+    if cabinet.len() != SIZE {
+        return file(numbers::NOT_CABINET, 0);
+    }
+    let none = [0u8; 1];
+    fill(cabinet, &none[0..0]);
+    file(numbers::ACCEPTED, 0)
+}
+
+// 0 where the bytes are a cabinet, and 23 where they are not.
+pub fn check_cabinet(cabinet: &[u8]) -> Filed
+    ensures { λ r. ⌜ r ≡ checked (now (cabinet .entry)) ⌝ }
+{
+    if !is_cabinet(cabinet) {
+        return file(numbers::NOT_CABINET, 0);
+    }
+    file(numbers::ACCEPTED, 0)
+}
+
+// How many places are occupied.
+pub fn count_keys(cabinet: &[u8]) -> Counted
+    ensures { λ r. ⌜ r ≡ counted (now (cabinet .entry)) ⌝ }
+{
+    if !is_cabinet(cabinet) {
+        return Counted {
+            no: numbers::NOT_CABINET,
+            count: 0,
+        };
+    }
+    Counted {
+        no: numbers::ACCEPTED,
+        count: occupied_in(cabinet),
+    }
+}
+
+// The GNT of this Subject is later than that of the record in a place.
+fn is_later_than(subject: &[u8], place: &[u8]) -> bool
+    ensures { λ r. ⌜ r ≡ isLaterThan (now (subject .entry)) (now (place .entry)) ⌝ }
+{
+    text::is_later(
+        subjects::field_in(subject, table::IDENTITY_GNT),
+        subjects::field_in(subject_in(place), table::IDENTITY_GNT),
+    )
+}
+
+// The Subject of a record that was answered so.
+fn subject_of<'a>(record: &'a [u8], answer: reading::Answer) -> &'a [u8]
+    ensures { λ r. ⌜ now r ≡ fieldAt (now («record» .entry)) (answer .starts) (answer .lens) 1 ⌝ }
+{
+    let starts = answer.starts;
+    let lens = answer.lens;
+    places::field_at(record, &starts, &lens, table::PUBKEY_SUBJECT)
+}
+
+// Puts a public key in. It replaces the one with the same Subject kind, Manufacturer and MID, in its place, and else takes the lowest free place. 23 before
+// all; the record's own numbers (another kind answers 2); 24 where its GNT is not later than that of the one it is to replace; 25 where no place is free.
+pub fn put_key(cabinet: &mut [u8], record: &[u8]) -> Filed
+    ensures { λ r. ⌜ Files (putKey (now (cabinet .entry)) (now («record» .entry))) (now (cabinet .exit)) r ⌝ }
+{
+    if !is_cabinet(cabinet) {
+        return file(numbers::NOT_CABINET, 0);
+    }
+    let answer = read_key(record);
+    if answer.no != numbers::ACCEPTED {
+        return file(answer.no, answer.field);
+    }
+    let subject = subject_of(record, answer);
+    let its = place_of(cabinet, 0, names_in(subject));
+    if its < PLACES {
+        if !is_later_than(subject, place_at(cabinet, its)) {
+            return file(numbers::NOT_LATER, 0);
+        }
+        write_place(cabinet, its, record);
+        return file(numbers::ACCEPTED, 0);
+    }
+    let free = free_at(cabinet);
+    if free == PLACES {
+        return file(numbers::NO_PLACE, 0);
+    }
+    write_place(cabinet, free, record);
+    file(numbers::ACCEPTED, 0)
+}
+
+// Takes the public key of this identity's kind, Manufacturer and MID out: its place is all zeros afterwards. 23 before all; the identity's own numbers; 26 where
+// there is none.
+pub fn remove_key(cabinet: &mut [u8], identity: &[u8]) -> Filed
+    ensures { λ r. ⌜ Files (removeKey (now (cabinet .entry)) (now (identity .entry))) (now (cabinet .exit)) r ⌝ }
+{
+    if !is_cabinet(cabinet) {
+        return file(numbers::NOT_CABINET, 0);
+    }
+    let answer = reading::read_identity(identity);
+    if answer.no != numbers::ACCEPTED {
+        return file(answer.no, answer.field);
+    }
+    let its = place_of(cabinet, 0, names_in(identity));
+    if its == PLACES {
+        return file(numbers::NOT_THERE, 0);
+    }
+    write_place(cabinet, its, &identity[0..0]);
+    file(numbers::ACCEPTED, 0)
+}
+
+fn find_none(no: u8, field: u8) -> fields::Place
+    ensures { λ r. ⌜ r ≡ record { no = no; field = field; start = 0; len = 0 } ⌝ }
+{
+    fields::Place {
+        no,
+        field,
+        start: 0,
+        len: 0,
+    }
+}
+
+// Where the public key of this identity's kind, Manufacturer and MID stands in the cabinet's bytes, with the numbers of `remove_key`; start and length are 0 with
+// a refusal.
+pub fn key_place(cabinet: &[u8], identity: &[u8]) -> fields::Place
+    ensures { λ r. ⌜ FindSaid (findKey (now (cabinet .entry)) (now (identity .entry))) (now (cabinet .entry)) r ⌝ }
+{
+    if !is_cabinet(cabinet) {
+        return find_none(numbers::NOT_CABINET, 0);
+    }
+    let answer = reading::read_identity(identity);
+    if answer.no != numbers::ACCEPTED {
+        return find_none(answer.no, answer.field);
+    }
+    let its = place_of(cabinet, 0, names_in(identity));
+    if its == PLACES {
+        return find_none(numbers::NOT_THERE, 0);
+    }
+    fields::Place {
+        no: numbers::ACCEPTED,
+        field: 0,
+        start: its * WIDTH,
+        len: frame::next_mark(0, place_at(cabinet, its), 0),
+    }
+}
+
+// The record itself, a part of the cabinet's bytes; with a refusal an empty part at their front.
+pub fn find_key<'a>(cabinet: &'a [u8], identity: &[u8], no: &mut u8, field: &mut u8) -> &'a [u8]
+    ensures { λ r. ⌜ FindPart (findKey (now (cabinet .entry)) (now (identity .entry))) (cabinet .entry) r (now (no .exit)) (now (field .exit)) ⌝ }
+{
+    let place = key_place(cabinet, identity);
+    *no = place.no;
+    *field = place.field;
+    let start = place.start;
+    let end = start + place.len;
+    &cabinet[start..end]
+}
