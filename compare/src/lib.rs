@@ -4,8 +4,9 @@
 //! checking and building them, the attributes of a wrapped key, the three key agreement texts of a
 //! load request, the walk over a file of records and its list, the choice of the newer of two public
 //! keys, SHA-384, the Fingerprint of a public key, HMAC-SHA-384-192, the keys and confirmation tags
-//! of a load request and its response, SHA-1, manufacturers' record files, and records by mail. What it
-//! takes inside is its own: only the library's calls for users and its lister are answered.
+//! of a load request and its response, SHA-1, manufacturers' record files, records by mail, and the
+//! centre's key cabinet. What it takes inside is its own: only the library's calls for users and its
+//! lister are answered.
 //!
 //! It shares no line with the library that it is held against, and it is written for plain
 //! reading rather than for proof: slices, iterators, `Result`. Two implementations that come from
@@ -31,6 +32,7 @@
 //! | [`sha1`] | SHA-1 |
 //! | [`trailed`] | manufacturers' record files, whose lines have a trailer |
 //! | [`mail`] | one record by mail, between its guards |
+//! | [`cabinet`] | the centre's key cabinet |
 //! | [`random`] | the numbers that inputs are drawn by |
 //! | [`sample`] | inputs: permitted records, faults, damage |
 //! | [`worked`] | the worked values of the documents |
@@ -41,6 +43,7 @@ mod padding;
 pub mod agreement;
 pub mod attributes;
 pub mod build;
+pub mod cabinet;
 pub mod confirm;
 pub mod crc;
 pub mod file;

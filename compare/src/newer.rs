@@ -4,12 +4,24 @@ use crate::kind::Kind;
 use crate::record::{read, read_identity};
 use crate::refusal::Refusal;
 
-/// What the chooser looks at in the Subject of a public key.
-struct Subject<'a> {
+/// What the chooser and the cabinet look at in the Subject of a public key.
+#[derive(Debug)]
+pub(crate) struct Subject<'a> {
     /// Kind, Manufacturer and MID.
-    entity: (Kind, &'a [u8], &'a [u8]),
+    pub(crate) entity: (Kind, &'a [u8], &'a [u8]),
     /// The order of these texts is the order of the times.
-    gnt: &'a [u8],
+    pub(crate) gnt: &'a [u8],
+}
+
+impl Subject<'_> {
+    /// The same of an identity.
+    pub(crate) fn of(identity: &[u8]) -> Result<Subject<'_>, Refusal> {
+        let identity = read_identity(identity)?;
+        let [manufacturer, mid, gnt, _fingerprint] = identity.fields[..] else {
+            unreachable!("an accepted identity has four fields");
+        };
+        Ok(Subject { entity: (identity.kind, manufacturer, mid), gnt })
+    }
 }
 
 /// Which of two public keys.
@@ -22,7 +34,7 @@ pub struct Choice {
 
 /// Of two public keys the one whose Subject has the later GNT, the first when equal.
 pub fn choose(first: &[u8], second: &[u8]) -> Choice {
-    let (answer, which) = match (subject(first), subject(second)) {
+    let (answer, which) = match (subject_of_key(first), subject_of_key(second)) {
         (Err(refusal), _) => (Err(refusal), 1),
         (_, Err(refusal)) => (Err(refusal), 2),
         (Ok(one), Ok(other)) if one.entity != other.entity => (Err(Refusal::OtherSubject), 0),
@@ -38,11 +50,7 @@ pub fn newer<'a>(first: &'a [u8], second: &'a [u8]) -> Result<&'a [u8], Refusal>
 }
 
 /// The Subject of a public key.
-fn subject(public_key: &[u8]) -> Result<Subject<'_>, Refusal> {
+pub(crate) fn subject_of_key(public_key: &[u8]) -> Result<Subject<'_>, Refusal> {
     let key = read(public_key, &Kind::PUBLIC_KEYS)?;
-    let identity = read_identity(key.fields[0]).expect("an accepted key has an accepted Subject");
-    let [manufacturer, mid, gnt, _fingerprint] = identity.fields[..] else {
-        unreachable!("an accepted identity has four fields");
-    };
-    Ok(Subject { entity: (identity.kind, manufacturer, mid), gnt })
+    Ok(Subject::of(key.fields[0]).expect("an accepted key has an accepted Subject"))
 }

@@ -47,6 +47,14 @@ pub enum Refusal {
     NoBegins,
     /// 22: no ENDS line of the name in the first BEGINS line stands behind it.
     NoEnds,
+    /// 23: the lent bytes are no cabinet, and to make one they are not 65,536.
+    NoCabinet,
+    /// 24: the record's GNT is not later than that of the record it would replace.
+    NotLater,
+    /// 25: no place is free.
+    NoPlace,
+    /// 26: the cabinet has no record to find or to remove.
+    NotThere,
 }
 
 impl Refusal {
@@ -75,6 +83,10 @@ impl Refusal {
             Refusal::HashDiffers => 20,
             Refusal::NoBegins => 21,
             Refusal::NoEnds => 22,
+            Refusal::NoCabinet => 23,
+            Refusal::NotLater => 24,
+            Refusal::NoPlace => 25,
+            Refusal::NotThere => 26,
         }
     }
 

@@ -1,0 +1,195 @@
+//! Request E8: the centre's key cabinet, 64 places of 1,024 bytes in 65,536 lent bytes.
+//!
+//! A place is all zeros, or holds an accepted public key and zeros behind it. No two records share the
+//! kind, Manufacturer and MID of their Subjects. All other bytes are no cabinet.
+
+use crate::kind::Kind;
+use crate::newer::{subject_of_key, Subject};
+use crate::refusal::Refusal;
+
+/// How many places there are.
+pub const PLACES: usize = 64;
+/// The bytes of a place.
+pub const WIDTH: usize = 1024;
+/// The bytes of a cabinet.
+pub const SIZE: usize = PLACES * WIDTH;
+
+/// What an occupied place holds: the record, and what is read from its Subject.
+#[derive(Clone, Debug, PartialEq, Eq)]
+struct Held {
+    /// Kind, Manufacturer and MID.
+    entity: (Kind, Vec<u8>, Vec<u8>),
+    gnt: Vec<u8>,
+    record: Vec<u8>,
+}
+
+impl Held {
+    fn of(record: &[u8]) -> Result<Held, Refusal> {
+        let Subject { entity: (kind, manufacturer, mid), gnt } = subject_of_key(record)?;
+        let entity = (kind, manufacturer.to_vec(), mid.to_vec());
+        Ok(Held { entity, gnt: gnt.to_vec(), record: record.to_vec() })
+    }
+
+    fn is_of(&self, (kind, manufacturer, mid): (Kind, &[u8], &[u8])) -> bool {
+        self.entity.0 == kind && self.entity.1 == manufacturer && self.entity.2 == mid
+    }
+}
+
+/// A cabinet by its places.
+#[derive(Clone, Debug, PartialEq, Eq)]
+pub struct Cabinet {
+    places: Vec<Option<Held>>,
+}
+
+impl Cabinet {
+    pub fn empty() -> Cabinet {
+        Cabinet { places: vec![None; PLACES] }
+    }
+
+    /// The cabinet that these bytes are.
+    pub fn read(bytes: &[u8]) -> Result<Cabinet, Refusal> {
+        if bytes.len() != SIZE {
+            return Err(Refusal::NoCabinet);
+        }
+        let places: Option<Vec<_>> = bytes.chunks(WIDTH).map(read_place).collect();
+        let cabinet = Cabinet { places: places.ok_or(Refusal::NoCabinet)? };
+        let entities: Vec<_> = cabinet.places.iter().flatten().map(|held| &held.entity).collect();
+        let is_first = |index: usize| !entities[..index].contains(&entities[index]);
+        if (0..entities.len()).all(is_first) {
+            Ok(cabinet)
+        } else {
+            Err(Refusal::NoCabinet)
+        }
+    }
+
+    /// The bytes of this cabinet.
+    pub fn bytes(&self) -> Vec<u8> {
+        let place = |held: &Option<Held>| {
+            let mut bytes = held.as_ref().map_or(Vec::new(), |held| held.record.clone());
+            bytes.resize(WIDTH, 0);
+            bytes
+        };
+        self.places.iter().flat_map(place).collect()
+    }
+
+    /// How many places are occupied.
+    pub fn count(&self) -> usize {
+        self.places.iter().flatten().count()
+    }
+
+    /// Puts a public key in: over the one of the same entity, which must have an earlier GNT, and else
+    /// into the lowest free place.
+    pub fn put(&mut self, record: &[u8]) -> Result<(), Refusal> {
+        let new = Held::of(record)?;
+        let place = match self.place_of(subject_of_key(record)?.entity) {
+            Some(place) if self.places[place].as_ref().is_some_and(|old| new.gnt <= old.gnt) => {
+                return Err(Refusal::NotLater);
+            }
+            Some(place) => place,
+            None => self.places.iter().position(Option::is_none).ok_or(Refusal::NoPlace)?,
+        };
+        self.places[place] = Some(new);
+        Ok(())
+    }
+
+    /// Takes out the key of the entity that this identity names.
+    pub fn remove(&mut self, identity: &[u8]) -> Result<(), Refusal> {
+        let place = self.find(identity)?;
+        self.places[place] = None;
+        Ok(())
+    }
+
+    /// The place of the key of the entity that this identity names.
+    pub fn find(&self, identity: &[u8]) -> Result<usize, Refusal> {
+        self.place_of(Subject::of(identity)?.entity).ok_or(Refusal::NotThere)
+    }
+
+    fn place_of(&self, entity: (Kind, &[u8], &[u8])) -> Option<usize> {
+        self.places.iter().position(|place| place.as_ref().is_some_and(|held| held.is_of(entity)))
+    }
+}
+
+/// What a place holds, and none where its bytes may not stand in one. The record is what stands before the
+/// first zero.
+fn read_place(bytes: &[u8]) -> Option<Option<Held>> {
+    let end = bytes.iter().position(|&byte| byte == 0).unwrap_or(bytes.len());
+    let (record, rest) = bytes.split_at(end);
+    match rest.iter().all(|&byte| byte == 0) {
+        false => None,
+        true if record.is_empty() => Some(None),
+        true => Held::of(record).ok().map(Some),
+    }
+}
+
+/// Makes the lent bytes an empty cabinet.
+pub fn make(lent: &mut [u8]) -> Result<(), Refusal> {
+    if lent.len() != SIZE {
+        return Err(Refusal::NoCabinet);
+    }
+    lent.copy_from_slice(&Cabinet::empty().bytes());
+    Ok(())
+}
+
+/// Whether the lent bytes are a cabinet.
+pub fn check(lent: &[u8]) -> Result<(), Refusal> {
+    Cabinet::read(lent).map(|_| ())
+}
+
+/// How many places are occupied.
+pub fn count(lent: &[u8]) -> Result<usize, Refusal> {
+    Ok(Cabinet::read(lent)?.count())
+}
+
+/// Puts a public key in. A refusal leaves the lent bytes as they were.
+pub fn put(lent: &mut [u8], record: &[u8]) -> Result<(), Refusal> {
+    let mut cabinet = Cabinet::read(lent)?;
+    cabinet.put(record)?;
+    lent.copy_from_slice(&cabinet.bytes());
+    Ok(())
+}
+
+/// Takes the key of an entity out. A refusal leaves the lent bytes as they were.
+pub fn remove(lent: &mut [u8], identity: &[u8]) -> Result<(), Refusal> {
+    let mut cabinet = Cabinet::read(lent)?;
+    cabinet.remove(identity)?;
+    lent.copy_from_slice(&cabinet.bytes());
+    Ok(())
+}
+
+/// The record of an entity, a part of the lent bytes.
+pub fn find<'a>(lent: &'a [u8], identity: &[u8]) -> Result<&'a [u8], Refusal> {
+    let cabinet = Cabinet::read(lent)?;
+    let place = cabinet.find(identity)?;
+    let length = cabinet.places[place].as_ref().map_or(0, |held| held.record.len());
+    Ok(&lent[place * WIDTH..][..length])
+}
+
+#[cfg(test)]
+mod tests {
+    use super::*;
+    use crate::worked::worked;
+
+    #[test]
+    fn a_place_is_all_zeros_or_a_public_key_and_zeros() {
+        let key = worked("PUBKEY_SM");
+        let place = |bytes: &[u8]| {
+            let mut place = bytes.to_vec();
+            place.resize(WIDTH, 0);
+            read_place(&place)
+        };
+        assert_eq!(place(b""), Some(None));
+        let held = place(&key).flatten().expect("a key");
+        assert_eq!((held.record, held.gnt), (key.clone(), b"20180120T090000Z".to_vec()));
+        assert_eq!(held.entity, (Kind::Smid, b"Prism".to_vec(), b"06000001".to_vec()));
+        for other in [
+            [&key[..], b"\0\x01"].concat(),
+            [&key[..], b"\n"].concat(),
+            [b"\0", &key[..]].concat(),
+            key[1..].to_vec(),
+            worked("VKLOADREQ"),
+            worked("ID_SM"),
+        ] {
+            assert_eq!(place(&other), None);
+        }
+    }
+}

@@ -1,0 +1,283 @@
+//! The implementation held against request E8: what is a cabinet, where a key is put, and where numbers 23 to
+//! 26 stand.
+
+use compare::cabinet::{check, count, find, make, put, remove, PLACES, SIZE, WIDTH};
+use compare::kind::Kind;
+use compare::random::Random;
+use compare::refusal::Refusal;
+use compare::sample::{self, Fault, PublicKey, Signed, Subject};
+use compare::worked::{worked, IDENTITIES, RECORDS};
+use std::collections::BTreeMap;
+
+/// An empty cabinet.
+fn empty() -> Vec<u8> {
+    let mut lent = vec![0xA5; SIZE];
+    assert_eq!(make(&mut lent), Ok(()));
+    lent
+}
+
+/// A cabinet with these bytes at the start of places.
+fn image(places: &[(usize, &[u8])]) -> Vec<u8> {
+    let mut lent = empty();
+    for (place, bytes) in places {
+        lent[place * WIDTH..][..bytes.len()].copy_from_slice(bytes);
+    }
+    lent
+}
+
+/// A key of Subject number so many, with this GNT.
+fn key(random: &mut Random, subject: usize, gnt: &str) -> Vec<u8> {
+    let (manufacturer, mid) = (b"Prism".to_vec(), format!("{subject:08}").into_bytes());
+    let kind = Kind::IDENTITIES[subject % 3];
+    let subject = Subject { kind, manufacturer, mid, gnt: gnt.into() };
+    PublicKey::of(random, subject, Signed::No).record()
+}
+
+/// An identity of the Subject of a key, with another GNT and Fingerprint.
+fn identity(record: &[u8]) -> Vec<u8> {
+    let subject = PublicKey::of_record(record).subject;
+    let gnt = b"19930101T000000Z".to_vec();
+    Subject { gnt, ..subject }.identity(b"0123456789ABCDEF".to_vec())
+}
+
+/// The call answers so, and leaves the lent bytes as they were.
+fn refuses(lent: &[u8], no: Refusal, call: impl FnOnce(&mut [u8]) -> Result<(), Refusal>) {
+    let mut after = lent.to_vec();
+    assert_eq!(call(&mut after), Err(no));
+    assert!(after == lent, "a refused call leaves the bytes");
+}
+
+#[test]
+fn the_keys_of_document_003_are_put_found_and_removed() {
+    let mut lent = empty();
+    let names = [("PUBKEY_KMC", "ID_KMC"), ("PUBKEY_MAN", "ID_MAN"), ("PUBKEY_SM_NOSIG", "ID_SM")];
+    for (place, (record, identity)) in names.into_iter().enumerate() {
+        let (record, identity) = (worked(record), worked(identity));
+        assert_eq!(find(&lent, &identity), Err(Refusal::NotThere));
+        assert_eq!(put(&mut lent, &record), Ok(()));
+        assert_eq!(find(&lent, &identity), Ok(&record[..]));
+        assert_eq!(lent[place * WIDTH..][..record.len()], record);
+        assert_eq!(count(&lent), Ok(place + 1));
+    }
+    // The signed key of the module has the GNT of the one without a signature.
+    refuses(&lent, Refusal::NotLater, |lent| put(lent, &worked("PUBKEY_SM")));
+    let [centre, manufacturer, module] = names.map(|(record, _)| worked(record));
+    assert!(lent == image(&[(0, &centre), (1, &manufacturer), (2, &module)]));
+    assert_eq!(remove(&mut lent, &worked("ID_KMC")), Ok(()));
+    assert_eq!(remove(&mut lent, &worked("ID_SM")), Ok(()));
+    assert_eq!(put(&mut lent, &worked("PUBKEY_SM")), Ok(()));
+    assert!(lent == image(&[(0, &worked("PUBKEY_SM")), (1, &manufacturer)]));
+    for name in RECORDS.iter().filter(|name| !name.starts_with("PUBKEY")) {
+        refuses(&lent, Refusal::UnknownKind, |lent| put(lent, &worked(name)));
+    }
+    for name in IDENTITIES {
+        refuses(&lent, Refusal::UnknownKind, |lent| put(lent, &worked(name)));
+    }
+}
+
+#[test]
+fn a_cabinet_has_65_536_bytes() {
+    assert_eq!((PLACES, WIDTH, SIZE), (64, 1024, 65_536));
+    for length in [0, 1, 1024, 65_535, 65_537, 131_072] {
+        let lent = vec![0; length];
+        let (record, identity) = (worked("PUBKEY_SM"), worked("ID_SM"));
+        refuses(&lent, Refusal::NoCabinet, make);
+        refuses(&lent, Refusal::NoCabinet, |lent| put(lent, &record));
+        refuses(&lent, Refusal::NoCabinet, |lent| put(lent, b"x"));
+        refuses(&lent, Refusal::NoCabinet, |lent| remove(lent, &identity));
+        assert_eq!(check(&lent), Err(Refusal::NoCabinet));
+        assert_eq!(count(&lent), Err(Refusal::NoCabinet));
+        assert_eq!(find(&lent, b"x"), Err(Refusal::NoCabinet));
+    }
+    let made = empty();
+    assert!(made.iter().all(|&byte| byte == 0));
+    assert_eq!((check(&made), count(&made)), (Ok(()), Ok(0)));
+}
+
+#[test]
+fn the_65th_subject_has_no_place() {
+    let mut random = Random::with_seed(1);
+    let mut lent = empty();
+    let keys: Vec<_> =
+        (0..=PLACES).map(|subject| key(&mut random, subject, "20180101T000000Z")).collect();
+    for (place, key) in keys[..PLACES].iter().enumerate() {
+        assert_eq!(put(&mut lent, key), Ok(()));
+        assert_eq!(count(&lent), Ok(place + 1));
+    }
+    refuses(&lent, Refusal::NoPlace, |lent| put(lent, &keys[PLACES]));
+    // 24 before 25, and the record's own before both.
+    refuses(&lent, Refusal::NotLater, |lent| put(lent, &keys[5]));
+    refuses(&lent, Refusal::UnknownKind, |lent| put(lent, b"PK.ECDH.2|"));
+    let mut wrong = keys[PLACES].clone();
+    *wrong.last_mut().unwrap() ^= 1;
+    assert!(matches!(put(&mut lent, &wrong), Err(Refusal::CheckDiffers | Refusal::NoCheck)));
+    // A later key takes the place of its Subject though none is free.
+    let later = key(&mut random, 40, "20180101T000001Z");
+    assert_eq!(put(&mut lent, &later), Ok(()));
+    assert_eq!(lent[40 * WIDTH..][..later.len()], later);
+    assert_eq!(find(&lent, &identity(&later)), Ok(&later[..]));
+    // A place that was given up is used again, the lowest first.
+    for place in [50, 7] {
+        assert_eq!(remove(&mut lent, &identity(&keys[place])), Ok(()));
+        assert!(lent[place * WIDTH..][..WIDTH].iter().all(|&byte| byte == 0));
+    }
+    assert_eq!(put(&mut lent, &keys[PLACES]), Ok(()));
+    assert_eq!(lent[7 * WIDTH..][..keys[PLACES].len()], keys[PLACES]);
+    assert_eq!(count(&lent), Ok(63));
+}
+
+#[test]
+fn a_replacement_is_later() {
+    let mut random = Random::with_seed(2);
+    let old = key(&mut random, 0, "20180110T120000Z");
+    for (gnt, is_later) in [
+        ("20180110T120000Z", false),
+        ("20180110T115959Z", false),
+        ("20171231T235959Z", false),
+        ("00010101T000000Z", false),
+        ("20180110T120001Z", true),
+        ("20180111T000000Z", true),
+        ("99991231T235959Z", true),
+    ] {
+        let new = key(&mut random, 0, gnt);
+        let mut lent = image(&[(9, &old)]);
+        if is_later {
+            assert_eq!(put(&mut lent, &new), Ok(()));
+            assert!(lent == image(&[(9, &new)]));
+        } else {
+            refuses(&lent, Refusal::NotLater, |lent| put(lent, &new));
+        }
+        // After a removal it is a first put, whatever its GNT.
+        let mut lent = image(&[(9, &old)]);
+        assert_eq!(remove(&mut lent, &identity(&old)), Ok(()));
+        assert_eq!(put(&mut lent, &new), Ok(()));
+        assert!(lent == image(&[(0, &new)]));
+    }
+}
+
+#[test]
+fn other_memory_is_no_cabinet() {
+    let mut random = Random::with_seed(3);
+    let [one, other] = [1, 2].map(|subject| key(&mut random, subject, "20180101T000000Z"));
+    let later = key(&mut random, 1, "20190101T000000Z");
+    let behind = [&one[..], b"\0x"].concat();
+    let mut full = one.clone();
+    full.resize(WIDTH, 0xFF);
+    let images: Vec<Vec<u8>> = vec![
+        image(&[(3, b"x")]),
+        image(&[(3, &behind)]),
+        image(&[(3, &full)]),
+        image(&[(3, &[b"\0", &one[..]].concat())]),
+        image(&[(3, &one[..one.len() - 1])]),
+        image(&[(3, &[&one[..], b"\n"].concat())]),
+        image(&[(0, &one), (1, &one)]),
+        image(&[(63, &one), (0, &later)]),
+        image(&[(1, &one), (2, &other), (3, &later)]),
+        vec![0xFF; SIZE],
+    ];
+    let kinds = ["VKLOADREQ", "VKLOADRESP", "KEY1_1", "ID_SM"].map(worked);
+    for lent in images.into_iter().chain(kinds.map(|record| image(&[(63, &record)]))) {
+        assert_eq!(check(&lent), Err(Refusal::NoCabinet));
+        assert_eq!(count(&lent), Err(Refusal::NoCabinet));
+        assert_eq!(find(&lent, &identity(&one)), Err(Refusal::NoCabinet));
+        refuses(&lent, Refusal::NoCabinet, |lent| put(lent, &other));
+        refuses(&lent, Refusal::NoCabinet, |lent| remove(lent, &identity(&one)));
+        let mut lent = lent;
+        assert_eq!((make(&mut lent), lent == empty()), (Ok(()), true));
+    }
+    for lent in [image(&[(0, &one), (63, &other)]), image(&[(63, &later), (62, &other)])] {
+        assert_eq!((check(&lent), count(&lent)), (Ok(()), Ok(2)));
+    }
+}
+
+#[test]
+fn an_identity_names_by_kind_manufacturer_and_mid() {
+    let key = worked("PUBKEY_SM");
+    let lent = image(&[(30, &key)]);
+    let subject = PublicKey::of_record(&key).subject;
+    let find_as = |subject: Subject| {
+        let identity = subject.identity(b"0000000000000000".to_vec());
+        find(&lent, &identity).map(<[u8]>::len)
+    };
+    for gnt in ["00010101T000000Z", "20180120T090000Z", "99991231T235959Z"] {
+        assert_eq!(find_as(Subject { gnt: gnt.into(), ..subject.clone() }), Ok(key.len()));
+    }
+    for kind in [Kind::Smman, Kind::Kmcid] {
+        assert_eq!(find_as(Subject { kind, ..subject.clone() }), Err(Refusal::NotThere));
+    }
+    for (manufacturer, mid) in
+        [("prism", "06000001"), ("Prism", "0600000"), ("Prism0", "6000001"), ("Prism", "060000010")]
+    {
+        let (manufacturer, mid) = (manufacturer.into(), mid.into());
+        let other = Subject { manufacturer, mid, ..subject.clone() };
+        assert_eq!(find_as(other), Err(Refusal::NotThere));
+    }
+}
+
+/// The identity's own refusals are before 26, the record's own before all but 23.
+#[test]
+fn own_refusals_come_first() {
+    let mut random = Random::with_seed(4);
+    let lent = empty();
+    for kind in Kind::IDENTITIES {
+        for &fault in Fault::of(kind) {
+            let bad = sample::faulty(&mut random, kind, &[fault]);
+            let no = compare::record::read_identity(&bad).expect_err("a fault");
+            refuses(&lent, no, |lent| remove(lent, &bad));
+            assert_eq!(find(&lent, &bad), Err(no));
+        }
+    }
+    for kind in Kind::PUBLIC_KEYS {
+        for &fault in Fault::of(kind) {
+            let bad = sample::faulty(&mut random, kind, &[fault]);
+            let no = compare::record::read_record(&bad).expect_err("a fault");
+            refuses(&lent, no, |lent| put(lent, &bad));
+        }
+    }
+}
+
+#[test]
+fn the_longest_key_fits() {
+    let mut random = Random::with_seed(5);
+    for kind in Kind::PUBLIC_KEYS {
+        let longest = sample::longest_record(&mut random, kind);
+        assert_eq!(longest.len(), kind.longest());
+        assert!(longest.len() < WIDTH);
+        let mut lent = empty();
+        assert_eq!(put(&mut lent, &longest), Ok(()));
+        assert_eq!(find(&lent, &identity(&longest)), Ok(&longest[..]));
+    }
+}
+
+/// The request's words: after any calls the occupied places number the accepted first puts less the accepted
+/// removals, and find gives the last accepted put that was not removed.
+#[test]
+fn a_history_holds_what_the_request_says() {
+    let mut random = Random::with_seed(6);
+    let times = ["20180101T000000Z", "20180101T000001Z", "20180102T000000Z"];
+    let keys: Vec<[Vec<u8>; 3]> =
+        (0..80).map(|subject| times.map(|gnt| key(&mut random, subject, gnt))).collect();
+    let mut lent = empty();
+    let mut kept: BTreeMap<usize, usize> = BTreeMap::new();
+    for _ in 0..2000 {
+        let (subject, time) = (random.below(keys.len()), random.below(3));
+        let named = identity(&keys[subject][0]);
+        if random.once_in(4) {
+            let answer = remove(&mut lent, &named);
+            assert_eq!(answer, kept.remove(&subject).map(|_| ()).ok_or(Refusal::NotThere));
+        } else {
+            let expected = match kept.get(&subject) {
+                Some(&old) if time <= old => Err(Refusal::NotLater),
+                None if kept.len() == PLACES => Err(Refusal::NoPlace),
+                _ => Ok(()),
+            };
+            assert_eq!(put(&mut lent, &keys[subject][time]), expected);
+            if expected.is_ok() {
+                kept.insert(subject, time);
+            }
+        }
+        assert_eq!(count(&lent), Ok(kept.len()));
+        let found = kept.get(&subject).map(|&time| &keys[subject][time][..]);
+        assert_eq!(find(&lent, &named), found.ok_or(Refusal::NotThere));
+    }
+}
