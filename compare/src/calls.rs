@@ -105,6 +105,14 @@ calls! {
     };
     WriteMail "write_mail " |case| case.built(|output| mail::write(&case.a, output));
     ReadMail "read_mail " |case| case.built(|output| mail::read(&case.a, output));
+    MakeCabinet "make_cabinet" Case::filed;
+    CheckCabinet "check_cabinet" Case::filed;
+    CountKeys "count_keys" Case::filed;
+    PutKey "put_key" Case::filed;
+    RemoveKey "remove_key" Case::filed;
+    KeyPlace "key_place" Case::filed;
+    FindKey "find_key" Case::filed;
+    Filing "make_cabinet,check_cabinet,count_keys,put_key,remove_key,key_place,find_key" Case::history;
 }
 
 impl Op {

@@ -7,7 +7,7 @@ use std::collections::{BTreeSet, HashMap};
 /// The call, n, and where label, a, b and c each begin and end.
 const HEAD_LENGTH: usize = 1 + 8 + 4 * 2 * 4;
 
-/// From this length on a string is looked for where its first or its last bytes, so many, were first
+/// From this length on a string is looked for where its first or its last bytes, so many, were first and last
 /// written: a record stands in files, and what is left of it around a place stands in the record.
 const WINDOW: usize = 24;
 
@@ -51,8 +51,8 @@ fn strings_of<'a>(case: &'a Case, label: &'a str) -> [&'a [u8]; 4] {
 struct Strings<'a> {
     bytes: Vec<u8>,
     places: HashMap<&'a [u8], usize>,
-    /// Where so many bytes were first written.
-    windows: HashMap<[u8; WINDOW], usize>,
+    /// Where so many bytes were first and last written.
+    windows: HashMap<[u8; WINDOW], [usize; 2]>,
 }
 
 impl<'a> Strings<'a> {
@@ -71,11 +71,10 @@ impl<'a> Strings<'a> {
         if string.len() >= LONG {
             return self.bytes.windows(string.len()).rposition(|part| part == string);
         }
-        let first = self.windows.get(string.first_chunk()?);
-        let last = self.windows.get(string.last_chunk()?);
-        let ending = last.and_then(|place| (place + WINDOW).checked_sub(string.len()));
-        let mut places = first.copied().into_iter().chain(ending);
-        places.find(|&place| self.bytes[place..].starts_with(string))
+        let first = self.windows.get(string.first_chunk()?).into_iter().flatten().copied();
+        let last = self.windows.get(string.last_chunk()?).into_iter().flatten();
+        let ending = last.filter_map(|place| (place + WINDOW).checked_sub(string.len()));
+        first.chain(ending).find(|&place| self.bytes[place..].starts_with(string))
     }
 
     fn append(&mut self, string: &[u8]) -> usize {
@@ -83,7 +82,7 @@ impl<'a> Strings<'a> {
         self.bytes.extend_from_slice(string);
         for (place, window) in (start..).zip(string.windows(WINDOW)) {
             let window = window.try_into().expect("a window's bytes");
-            self.windows.entry(window).or_insert(place);
+            self.windows.entry(window).or_insert([place; 2])[1] = place;
         }
         start
     }

@@ -84,13 +84,21 @@ impl Case {
         let mut numbers = Vec::new();
         let mut last = None;
         for byte in 0..=255 {
-            let said = self.with(byte).answer().brief();
+            let said = self.with(byte).answer_alone().brief();
             if last != Some(said) {
                 numbers.extend([byte.into(), said]);
             }
             last = Some(said);
         }
         self.values(&numbers)
+    }
+
+    /// The answer for one byte value: a cabinet has the text in its place n.
+    fn answer_alone(&self) -> Answer {
+        match self.op {
+            Op::CheckCabinet => self.filed_place(),
+            _ => self.answer(),
+        }
     }
 
     /// The case of one byte value.
@@ -107,7 +115,7 @@ impl Case {
     }
 
     /// The call's label, a text if it has one, and numbers.
-    fn said(&self, text: &[u8], numbers: &[u64], number: Option<u8>) -> Answer {
+    pub fn said(&self, text: &[u8], numbers: &[u64], number: Option<u8>) -> Answer {
         let written: String = numbers.iter().map(|number| format!(" {number}")).collect();
         let line = [self.label().as_bytes(), text, written.as_bytes()].concat();
         Answer { line, numbers: numbers.to_vec(), number }
@@ -250,7 +258,7 @@ fn row(kind: Option<Kind>) -> u64 {
 }
 
 /// Bytes by their length and their check.
-fn digest(bytes: &[u8]) -> [u64; 2] {
+pub fn digest(bytes: &[u8]) -> [u64; 2] {
     [bytes.len() as u64, crc16(bytes).into()]
 }
 
@@ -264,7 +272,7 @@ fn lendable(room: u64, longest: usize) -> Vec<u8> {
 }
 
 /// The longest output that `crates/cases` lends.
-const LONGEST_OUTPUT: usize = 66_560;
+pub const LONGEST_OUTPUT: usize = 66_560;
 
 /// The longest that it lends for a key.
 const LONGEST_KEY_OUTPUT: usize = 1024;
@@ -278,6 +286,7 @@ pub fn lent_before() -> [u8; 1024] {
 #[cfg(test)]
 mod tests {
     use super::*;
+    use crate::steps::{Part, Step};
     use compare::sha1::sha1;
     use compare::sha384::sha384;
     use compare::text::{base16_decode, check_text};
@@ -311,6 +320,14 @@ mod tests {
         assert_eq!(Op::WriteTrailed.number(), 44);
         assert_eq!(Op::WriteMail.number(), 45);
         assert_eq!(Op::ReadMail.number(), 46);
+        assert_eq!(Op::MakeCabinet.number(), 47);
+        assert_eq!(Op::CheckCabinet.number(), 48);
+        assert_eq!(Op::CountKeys.number(), 49);
+        assert_eq!(Op::PutKey.number(), 50);
+        assert_eq!(Op::RemoveKey.number(), 51);
+        assert_eq!(Op::KeyPlace.number(), 52);
+        assert_eq!(Op::FindKey.number(), 53);
+        assert_eq!(Op::Filing.number(), 54);
     }
 
     #[test]
@@ -502,6 +519,61 @@ mod tests {
         assert_eq!(line(Op::ReadMail, 0, [&record, no, no]), "read_mail  21 0 0 65535");
         assert_eq!(line(Op::ReadMail, 0, [&block[..494], no, no]), "read_mail  10 0 0 65535");
         assert_eq!(line(Op::ReadMail, 0, [&block[..493], no, no]), "read_mail  22 0 0 65535");
+    }
+
+    /// The check is that of all lent bytes; the steps stand in c and take their parts from a.
+    #[test]
+    fn a_cabinet_is_made_by_steps() {
+        let (key, identity) = (worked("PUBKEY_KMC"), worked("ID_KMC"));
+        let whole = Part { start: 0, end: key.len() };
+        let image = [&key[..], &vec![0; 65_536 - key.len()]].concat();
+        let (length, empty, with_key) = (key.len(), crc16(&[0; 65_536]), crc16(&image));
+        let put = Step::Call(Op::PutKey, whole).bytes();
+        let no: &[u8] = &[];
+        for (op, n, parts, said) in [
+            (Op::MakeCabinet, 65_536, [&key, no, &put], format!("make_cabinet 0 0 {empty}")),
+            (Op::MakeCabinet, 2, [no; 3], format!("make_cabinet 23 0 {}", crc16(&[0; 2]))),
+            (Op::CheckCabinet, 0, [no; 3], "check_cabinet 23 0 65535".to_owned()),
+            (Op::CountKeys, 65_536, [&key, no, &put], format!("count_keys 0 1 {with_key}")),
+            (Op::PutKey, 65_536, [no, &key, no], format!("put_key 0 0 {with_key}")),
+            (Op::PutKey, 65_536, [&key, &key, &put], format!("put_key 24 0 {with_key}")),
+            (Op::RemoveKey, 65_536, [&key, &identity, &put], format!("remove_key 0 0 {empty}")),
+            (Op::RemoveKey, 65_536, [no, &identity, no], format!("remove_key 26 0 {empty}")),
+        ] {
+            assert_eq!(line(op, n, parts), said);
+        }
+        let write = Step::Write(whole, 63 * 1024).bytes();
+        let image = [&vec![0; 63 * 1024], &key[..], &vec![0; 1024 - length]].concat();
+        let check = crc16(&image);
+        let place = line(Op::KeyPlace, 65_536, [&key, &identity, &write]);
+        assert_eq!(place, format!("key_place 0 0 64512 {length} {check}"));
+        let found = line(Op::FindKey, 65_536, [&key, &identity, &write]);
+        assert_eq!(found, format!("find_key 0 0 {length} {} {check}", crc16(&key)));
+    }
+
+    /// The answers of all steps, and the check behind four of them and at the end.
+    #[test]
+    fn a_history_has_the_answer_of_each_step() {
+        let (key, identity) = (worked("PUBKEY_KMC"), worked("ID_KMC"));
+        let text = [&key[..], &identity].concat();
+        let record = Part { start: 0, end: key.len() };
+        let named = Part { start: key.len(), end: text.len() };
+        let nothing = Part { start: 0, end: 0 };
+        let steps = [
+            Step::Call(Op::PutKey, record),
+            Step::Call(Op::PutKey, record),
+            Step::Call(Op::KeyPlace, named),
+            Step::Call(Op::CountKeys, nothing),
+            Step::Call(Op::RemoveKey, named),
+            Step::Call(Op::FindKey, named),
+        ];
+        let steps = steps.map(Step::bytes).concat();
+        let said = line(Op::Filing, 0, [&text, b"", &steps]);
+        let image = [&key[..], &vec![0; 65_536 - key.len()]].concat();
+        let [with_key, empty] = [&image[..], &[0; 65_536]].map(crc16);
+        let numbers = format!("0 0 24 0 0 0 0 {} 0 1 {with_key}", key.len());
+        let label = Op::Filing.call().name();
+        assert_eq!(said, format!("{label} {numbers} 0 0 26 0 0 65535 {empty}"));
     }
 
     #[test]

@@ -7,6 +7,7 @@ mod calls;
 mod case_file;
 mod cases;
 mod plan;
+mod steps;
 
 use calls::{Op, CALLS};
 use case_file::case_file;
@@ -15,8 +16,8 @@ use std::process::ExitCode;
 
 /// How often each call and each number must occur at least.
 const LEAST: usize = 20;
-/// The numbers given back: 0 to 22.
-const NUMBERS: usize = 23;
+/// The numbers given back: 0 to 26.
+const NUMBERS: usize = 27;
 /// What `crates/cases` has room for.
 const LONGEST_CASE_FILE: usize = 3_145_728;
 
@@ -115,7 +116,9 @@ mod tests {
         let mut for_users = calls_for_users();
         let mut with_cases: Vec<String> = CALLS.iter().flat_map(names).collect();
         for_users.sort();
+        // A history makes calls that have cases of their own.
         with_cases.sort();
+        with_cases.dedup();
         assert_eq!(with_cases, for_users);
     }
 
@@ -129,7 +132,11 @@ mod tests {
     #[test]
     fn every_call_is_given_more_bytes_than_a_number_of_two_bytes_can_say() {
         for (call, cases) in by_call(&plan::all()) {
-            let longest = cases.iter().map(|case| case.a.len().max(case.b.len())).max();
+            // The calls of a cabinet are lent n bytes.
+            let lent =
+                |case: &Case| if steps::CALLS.contains(&case.op) { case.n as usize } else { 0 };
+            let of_all = cases.iter().map(|case| case.a.len().max(case.b.len()).max(lent(case)));
+            let longest = of_all.max();
             assert!(longest > Some(usize::from(u16::MAX)), "{call}");
         }
     }
@@ -138,7 +145,8 @@ mod tests {
     fn every_text_type_and_reading_call_is_given_every_byte_value() {
         for (call, cases) in by_call(&plan::all()) {
             let is_swept = |start| call.starts_with(start);
-            if ["is_", "read_", "attribute_place", "check_fingerprint"].into_iter().any(is_swept) {
+            let swept = ["is_", "read_", "attribute_place", "check_fingerprint", "check_cabinet"];
+            if swept.into_iter().any(is_swept) {
                 assert!(cases.iter().any(|case| case.form == Form::EveryByte), "{call}");
             }
         }

@@ -5,6 +5,7 @@ mod agreement;
 mod alphabets;
 mod attributes;
 mod building;
+mod cabinets;
 mod confirmations;
 mod dates;
 mod fields;
@@ -12,12 +13,14 @@ mod files;
 mod fingerprints;
 mod guards;
 mod hashes;
+mod histories;
 mod hmacs;
 mod lists;
 mod long;
 mod mail;
 mod newer;
 mod places;
+mod pool;
 mod reading;
 mod sha1;
 mod trailed_files;
@@ -64,6 +67,8 @@ pub fn all() -> Vec<Case> {
         trailed_files::add,
         mail::add,
         guards::add,
+        cabinets::add,
+        histories::add,
     ];
     let mut plan = Plan { cases: Vec::new(), random: Random::with_seed(0) };
     for (seed, add) in (1..).zip(groups) {

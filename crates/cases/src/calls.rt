@@ -75,7 +75,7 @@ fn print_attribute<'a>(op: usize, n: usize, a: &'a [u8], b: &[u8]) {
     say::number(crc16::crc_of(part) as usize);
 }
 
-fn print_place(at: fields::Place) {
+pub(crate) fn print_place(at: fields::Place) {
     say::outcome(at.no, at.field, at.start);
     say::number(at.len);
 }

@@ -3,6 +3,7 @@
 // of both files.
 mod calls;
 mod confirmations;
+mod filing;
 mod hashes;
 mod input;
 mod outputs;
@@ -33,6 +34,8 @@ fn run_case(file: &[u8], head: &[u8]) {
         24..=27 | 35 | 44..=46 => outputs::write(op, a, b, c, n, input::cut(file, 0, 1024)),
         37 => confirmations::print_request(a, b, c, n, input::cut(file, 0, 1024)),
         38 => confirmations::print_response(a, b, c),
+        47..=53 => filing::file(op, a, b, c, n),
+        54 => filing::go(a, c),
         64..=127 => sweeps::sweep(op % 64, n, a, b, c),
         _ => calls::run(op, n, a, b),
     }

@@ -4,8 +4,9 @@ use crate::say;
 ghost use mathlib.Core.Path.{_≡_};
 ghost use lib.ListN.{length};
 
-// Room for the longest output that is lent, which has more bytes than a number of two bytes can say.
-fn zeros() -> [u8; 66560]
+// Room for the longest output that is lent, which has more bytes than a number of two bytes can say, and more than a key
+// cabinet.
+pub(crate) fn zeros() -> [u8; 66560]
     ensures { λ r. ⌜ 66560 ≡ length r ⌝ }
 {
     [0; 66560]

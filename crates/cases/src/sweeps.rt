@@ -1,5 +1,6 @@
 // Calls that are made for every byte value in one place of a text, by their numbers in the case file.
 use crate::calls;
+use crate::filing;
 use crate::input;
 use crate::say;
 
@@ -42,6 +43,10 @@ fn answer(op: usize, n: usize, a: &[u8]) -> usize {
         41 => pair_of(trailed::read_trailed(a)),
         43 => pair_of_totals(trailed::count_trailed(a)),
         46 => pair_of_mail(n, a),
+        48 => {
+            let said = filing::check_place(n, a);
+            pair(said.no, said.field)
+        }
         _ => calls::test(op, n, a) as usize,
     }
 }

@@ -1,0 +1,246 @@
+//! What the steps of cabinets take: records and identities of many Subjects, and what is none, one behind the
+//! other in one text. So the case file has each of them once.
+
+use super::Plan;
+use crate::calls::Op;
+use crate::steps::{Part, Step};
+use compare::cabinet::{PLACES, SIZE, WIDTH};
+use compare::kind::Kind;
+use compare::random::Random;
+use compare::sample::{self, Fault, PublicKey, Signed, Subject};
+use compare::text::PRINT_DIGITS;
+use compare::worked::worked;
+
+/// How many Subjects there are.
+pub(super) const SUBJECTS: usize = 80;
+
+/// Times before, at and after that of the first record of a Subject.
+const TIMES: [[&str; 3]; 4] = [
+    ["20171231T235959Z", "20180101T000000Z", "20180101T000001Z"],
+    ["20180110T115959Z", "20180110T120000Z", "20180111T120000Z"],
+    ["19991231T235959Z", "20000101T000000Z", "20000201T000000Z"],
+    ["00010101T000000Z", "50000615T123456Z", "99991231T235959Z"],
+];
+
+/// The keys of one Subject, and an identity that names it, with another GNT and Fingerprint.
+pub(super) struct Keys {
+    pub(super) first: Part,
+    pub(super) later: Part,
+    /// An earlier key and another of the same time; every sixth Subject has them.
+    pub(super) not_later: Vec<Part>,
+    pub(super) identity: Part,
+}
+
+pub(super) struct Pool {
+    pub(super) text: Vec<u8>,
+    pub(super) keys: Vec<Keys>,
+    /// Those of document 003: of the centre, the manufacturer and the module, which has two.
+    pub(super) worked: [Part; 4],
+    /// The longest key of each kind.
+    pub(super) longest: [Part; 2],
+    pub(super) no_keys: Vec<Part>,
+    pub(super) no_identities: Vec<Part>,
+    /// A place full of bytes FF.
+    pub(super) ones: Part,
+    /// A place of zeros.
+    pub(super) zeros: Part,
+}
+
+impl Pool {
+    /// The same every time.
+    pub(super) fn new() -> Pool {
+        let mut random = Random::with_seed(8);
+        let subjects = subjects(&mut random);
+        let mut text = Text::default();
+        let first: Vec<Part> =
+            subjects.iter().map(|subject| text.add(short_key(&mut random, subject))).collect();
+        let mut keys = Vec::new();
+        for (index, (subject, first)) in subjects.into_iter().zip(first).enumerate() {
+            let [before, at, after] = TIMES[index % TIMES.len()]
+                .map(|gnt| Subject { gnt: gnt.into(), ..subject.clone() });
+            let later = text.add(short_key(&mut random, &after));
+            let others = if index % 6 == 0 { vec![before, at] } else { Vec::new() };
+            let not_later =
+                others.iter().map(|other| text.add(short_key(&mut random, other))).collect();
+            let gnt = sample::timestamp(&mut random);
+            let print = sample::hex(&mut random, PRINT_DIGITS);
+            let identity = text.add(Subject { gnt, ..subject }.identity(print));
+            keys.push(Keys { first, later, not_later, identity });
+        }
+        let worked = ["PUBKEY_KMC", "PUBKEY_MAN", "PUBKEY_SM_NOSIG", "PUBKEY_SM"]
+            .map(|name| text.add(worked(name)));
+        let longest =
+            Kind::PUBLIC_KEYS.map(|kind| text.add(sample::longest_record(&mut random, kind)));
+        let no_keys = no_keys(&mut random).into_iter().map(|bytes| text.add(bytes)).collect();
+        let no_identities =
+            no_identities(&mut random).into_iter().map(|bytes| text.add(bytes)).collect();
+        let [ones, zeros] = [0xFF, 0].map(|byte| text.add(vec![byte; WIDTH]));
+        let text = text.0;
+        Pool { text, keys, worked, longest, no_keys, no_identities, ones, zeros }
+    }
+
+    pub(super) fn bytes(&self, part: Part) -> &[u8] {
+        &self.text[part.start..part.end]
+    }
+
+    /// The first record of a Subject.
+    pub(super) fn record(&self, subject: usize) -> &[u8] {
+        self.bytes(self.keys[subject].first)
+    }
+
+    /// An identity that names a Subject.
+    pub(super) fn identity(&self, subject: usize) -> &[u8] {
+        self.bytes(self.keys[subject].identity)
+    }
+
+    /// Steps that write the first records of these Subjects, each into its place.
+    pub(super) fn shelf(&self, places: impl IntoIterator<Item = (usize, usize)>) -> Vec<Step> {
+        let write = |(subject, place): (usize, usize)| write(self.keys[subject].first, place);
+        places.into_iter().map(write).collect()
+    }
+
+    /// So many Subjects in the lowest places, by writing.
+    pub(super) fn lowest(&self, count: usize) -> Vec<Step> {
+        self.shelf((0..count).zip(0..))
+    }
+
+    pub(super) fn full(&self) -> Vec<Step> {
+        self.lowest(PLACES)
+    }
+}
+
+/// The step that writes a part to the start of a place.
+pub(super) fn write(part: Part, place: usize) -> Step {
+    Step::Write(part, place * WIDTH)
+}
+
+impl Plan {
+    /// A call on the cabinet that these steps make.
+    pub(super) fn file(&mut self, pool: &Pool, op: Op, steps: &[Step], b: &[u8]) {
+        self.file_in(SIZE, pool, op, steps, b);
+    }
+
+    /// The same, with so many bytes lent.
+    pub(super) fn file_in(&mut self, room: usize, pool: &Pool, op: Op, steps: &[Step], b: &[u8]) {
+        let end = steps.iter().map(|step| step.part().end).max().unwrap_or(0);
+        let c = steps.iter().flat_map(|step| step.bytes()).collect();
+        self.case(op, room as u64, pool.text[..end].to_vec(), b.to_vec(), c);
+    }
+
+    /// Every call but the making one on what these steps made: the put of a record, and the others of an
+    /// identity.
+    pub(super) fn file_all(
+        &mut self,
+        pool: &Pool,
+        room: usize,
+        steps: &[Step],
+        [record, identity]: [&[u8]; 2],
+    ) {
+        for op in [Op::CheckCabinet, Op::CountKeys] {
+            self.file_in(room, pool, op, steps, b"");
+        }
+        self.file_in(room, pool, Op::PutKey, steps, record);
+        for op in [Op::RemoveKey, Op::KeyPlace, Op::FindKey] {
+            self.file_in(room, pool, op, steps, identity);
+        }
+    }
+}
+
+/// Parts one behind the other, each in a line.
+#[derive(Default)]
+struct Text(Vec<u8>);
+
+impl Text {
+    fn add(&mut self, bytes: Vec<u8>) -> Part {
+        let start = self.0.len();
+        self.0.extend(bytes);
+        let end = self.0.len();
+        self.0.push(b'\n');
+        Part { start, end }
+    }
+}
+
+/// A key of this Subject; now and then it is signed.
+fn short_key(random: &mut Random, subject: &Subject) -> Vec<u8> {
+    let signed = if random.once_in(16) { Signed::Yes } else { Signed::No };
+    PublicKey::of(random, subject.clone(), signed).record()
+}
+
+/// Subjects of which no two share kind, Manufacturer and MID: some differ in one character, some are cut in
+/// another place, and some are of another kind.
+fn subjects(random: &mut Random) -> Vec<Subject> {
+    let names = |kind, manufacturer: &str, mid: &str| (kind, manufacturer.into(), mid.into());
+    let mut all = vec![(Kind::Smid, sample::ident(random, 32), sample::ident(random, 32))];
+    for character in "ABCZabcz0189-_.,".chars() {
+        all.push(names(Kind::Smid, "Prism", &format!("0600000{character}")));
+    }
+    for character in "AZaz19".chars() {
+        all.push(names(Kind::Smid, "Prism", &format!("{character}6000001")));
+        all.push(names(Kind::Smid, &format!("Pri{character}m"), "06000001"));
+    }
+    for (manufacturer, mid) in
+        [("A", "BC"), ("AB", "C"), ("ABC", "C"), ("A", "B"), ("A", "BCD"), ("a", "bc"), ("BC", "A")]
+    {
+        all.extend(Kind::IDENTITIES.map(|kind| names(kind, manufacturer, mid)));
+    }
+    while all.len() < SUBJECTS {
+        let Subject { kind, manufacturer, mid, .. } = Subject::any(random);
+        let other = (kind, manufacturer, mid);
+        if !all.contains(&other) {
+            all.push(other);
+        }
+    }
+    // The first stays, because all cases have the text from its start.
+    for index in (2..all.len()).rev() {
+        all.swap(index, random.between(1, index));
+    }
+    let with_time = |((kind, manufacturer, mid), index): (_, usize)| {
+        let gnt = TIMES[index % TIMES.len()][1].into();
+        Subject { kind, manufacturer, mid, gnt }
+    };
+    all.into_iter().zip(0..).map(with_time).collect()
+}
+
+/// What is no public key: one with each fault, records of other kinds, an identity, and few bytes.
+fn no_keys(random: &mut Random) -> Vec<Vec<u8>> {
+    let mut all = Vec::new();
+    for kind in Kind::PUBLIC_KEYS {
+        let faults = Fault::of(kind).iter();
+        all.extend(faults.map(|&fault| sample::faulty(random, kind, &[fault])));
+    }
+    all.extend(["VKLOADREQ", "VKLOADRESP", "KEY1_1", "ID_SM"].map(worked));
+    all.extend(["", "PK.ECDH.1|", "PK.ECDSA.1|0000", "x"].map(|text| text.as_bytes().to_vec()));
+    all
+}
+
+/// What is no identity: one with each fault, a public key, and few bytes.
+fn no_identities(random: &mut Random) -> Vec<Vec<u8>> {
+    let mut all = Vec::new();
+    for kind in Kind::IDENTITIES {
+        let faults = Fault::of(kind).iter();
+        all.extend(faults.map(|&fault| sample::faulty(random, kind, &[fault])));
+    }
+    all.push(worked("PUBKEY_SM"));
+    all.extend(["", "SMID.1:", "SMID.1:0000", "x"].map(|text| text.as_bytes().to_vec()));
+    all
+}
+
+#[cfg(test)]
+mod tests {
+    use super::*;
+    use compare::cabinet::Cabinet;
+
+    /// Each key fills a place of its own as far as there are places, and each identity finds it.
+    #[test]
+    fn no_two_subjects_of_the_pool_are_one() {
+        let pool = Pool::new();
+        assert_eq!(pool.keys.len(), SUBJECTS);
+        for start in [0, SUBJECTS - PLACES] {
+            let mut cabinet = Cabinet::empty();
+            for (place, subject) in (start..start + PLACES).enumerate() {
+                assert_eq!(cabinet.put(pool.record(subject)), Ok(()), "{subject}");
+                assert_eq!(cabinet.find(pool.identity(subject)), Ok(place), "{subject}");
+            }
+        }
+    }
+}
