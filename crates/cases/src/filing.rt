@@ -57,11 +57,14 @@ fn part_of<'a>(a: &'a [u8], step: &[u8]) -> &'a [u8] {
 fn prepare_by(lent: &mut [u8], a: &[u8], step: &[u8]) {
     let op = input::number(step, 0, 1);
     let part = part_of(a, step);
-    if op == 0 {
-        put::put(lent, input::number(step, 7, 9), part);
-        return;
+    match op {
+        0 => {
+            put::put(lent, input::number(step, 7, 9), part);
+        }
+        _ => {
+            change(op, lent, part);
+        }
     }
-    change(op, lent, part);
 }
 
 fn prepare(lent: &mut [u8], a: &[u8], c: &[u8]) {
