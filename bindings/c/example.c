@@ -1,11 +1,12 @@
 /* Reads the load request of the worked example once, prints its fields by their names, makes its three texts and says whether
  * its tag is right; then prints the attributes of its second wrapped key, and the Fingerprint of the centre's public key; reads
- * and writes the line of a manufacturer's file, the module's signed key with its trailer; and reads the request out of a
- * letter, and writes it as it goes by mail. */
+ * and writes the line of a manufacturer's file, the module's signed key with its trailer; reads the request out of a letter, and
+ * writes it as it goes by mail; and keeps the keys in a cabinet, where it finds the one of the request's module. */
 #include "obscurlane.h"
 #include "worked.h"
 
 #include <stdio.h>
+#include <string.h>
 
 static const char request[] = WORKED_REQUEST;
 static const size_t request_len = sizeof request - 1;
@@ -88,6 +89,26 @@ static void print_mail(void)
     }
 }
 
+/* The keys are put in, and the module's is found by the identity in the request, whose GNT and Fingerprint do not matter. */
+static void print_cabinet(const uint8_t *identity, size_t identity_len)
+{
+    static const char *const keys[] = {WORKED_KEY_CENTRE, WORKED_KEY_MAKER, WORKED_KEY_SIGNED, WORKED_KEY_MODULE};
+    static uint8_t cabinet[OBSCURLANE_CABINET_SIZE];
+    (void)obscurlane_make_cabinet(cabinet, sizeof cabinet);
+    printf("cabinet\n");
+    for (size_t i = 0; i < sizeof keys / sizeof keys[0]; i++) {
+        obscurlane_filed said = obscurlane_put_key(cabinet, sizeof cabinet, (const uint8_t *)keys[i], strlen(keys[i]));
+        printf("  put     %s\n", obscurlane_reason(said.no));
+    }
+    obscurlane_place place = obscurlane_find_key(cabinet, sizeof cabinet, identity, identity_len);
+    if (place.no == OBSCURLANE_ACCEPTED) {
+        printf("  found   %.*s..\n", 40, (const char *)cabinet + place.start);
+    }
+    obscurlane_filed said = obscurlane_remove_key(cabinet, sizeof cabinet, identity, identity_len);
+    printf("  remove  %s, %zu keys are left\n", obscurlane_reason(said.no),
+           obscurlane_count_keys(cabinet, sizeof cabinet).count);
+}
+
 int main(void)
 {
     const uint8_t *bytes = (const uint8_t *)request;
@@ -113,5 +134,7 @@ int main(void)
     print_fingerprint();
     print_line();
     print_mail();
+    const size_t id_sm = OBSCURLANE_REQ_ID_SM - 1;
+    print_cabinet(bytes + said.starts[id_sm], said.lens[id_sm]);
     return 0;
 }

@@ -1,5 +1,5 @@
 /* What the files of the test of every function share: every.c, samples.c, wrapped.c, hashes.c, confirmations.c, sha1.c,
- * trailed.c, mail.c and parts.c. */
+ * trailed.c, mail.c, cabinet.c and parts.c. */
 #ifndef EXPECT_H
 #define EXPECT_H
 
@@ -77,6 +77,9 @@ void call_for_trailed_lines(void);
 
 /* Calls the functions for records by mail. */
 void call_for_mail(void);
+
+/* Calls the functions for the centre's key cabinet. */
+void call_for_cabinets(void);
 
 /* Calls the functions for the check, the text types and files, and those for names. */
 void call_parts(void);

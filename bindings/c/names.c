@@ -27,6 +27,10 @@ static const char *const reasons[] = {
     [OBSCURLANE_WRONG_HASH] = "the SHA-1 differs",
     [OBSCURLANE_MISSING_BEGINS] = "the text has no BEGINS line",
     [OBSCURLANE_MISSING_ENDS] = "no later ENDS line matches the first BEGINS line",
+    [OBSCURLANE_NOT_CABINET] = "the bytes are no cabinet",
+    [OBSCURLANE_NOT_LATER] = "the GNT is not later than that of the key in the cabinet",
+    [OBSCURLANE_NO_PLACE] = "no place of the cabinet is free",
+    [OBSCURLANE_NOT_THERE] = "the cabinet has no key of this kind, Manufacturer and MID",
 };
 
 struct kind {

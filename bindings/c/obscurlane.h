@@ -1,7 +1,8 @@
 /*
  * Obscurlane: reading, checking and building the identity, public key, load request, load response and wrapped key records
- * of STS 600-4-2, files of them, plain and manufacturers', one of them by mail, the texts that a key agreement hashes, the tags
- * that confirm it, SHA-384 with the Fingerprints that are made by it, and SHA-1, which is in a manufacturer's line.
+ * of STS 600-4-2, files of them, plain and manufacturers', one of them by mail, the centre's cabinet of public keys, the texts
+ * that a key agreement hashes, the tags that confirm it, SHA-384 with the Fingerprints that are made by it, and SHA-1, which is
+ * in a manufacturer's line.
  *
  * Link with libexports.a, which `bindings/archive` proves, compiles for the machine that it runs on and puts into
  * target/staticlib/; or with the one that `bindings/archive module` puts into target/module/target/staticlib/, which has the
@@ -27,7 +28,7 @@
  * - Starts and lengths are places in the bytes that were given: nothing is copied. With a refusal they are all 0, and every
  *   kind is OBSCURLANE_KIND_NONE. (A line of a file has its place whatever its answer.)
  * - With a refusal an output is as it was, every byte. Where a text, record, line, block or key is written, it stands at the
- *   front, and the bytes past its length are as they were.
+ *   front, and the bytes past its length are as they were. (A cabinet is written in its places.)
  * - Fields, attributes and items are counted from 1, so field n of an answer is its starts[n - 1] and lens[n - 1]. Starts and
  *   places are counted from 0.
  *
@@ -41,9 +42,9 @@
 #include <stddef.h>
 #include <stdint.h>
 
-#define OBSCURLANE_VERSION "0.8.0"
+#define OBSCURLANE_VERSION "0.9.0"
 #define OBSCURLANE_VERSION_MAJOR 0
-#define OBSCURLANE_VERSION_MINOR 8
+#define OBSCURLANE_VERSION_MINOR 9
 #define OBSCURLANE_VERSION_PATCH 0
 
 #ifdef __cplusplus
@@ -101,7 +102,15 @@ enum {
     /* The text has no BEGINS line. */
     OBSCURLANE_MISSING_BEGINS = 21,
     /* No later ENDS line matches the first BEGINS line. */
-    OBSCURLANE_MISSING_ENDS = 22
+    OBSCURLANE_MISSING_ENDS = 22,
+    /* The lent bytes are no cabinet. Making one: they are of another length. */
+    OBSCURLANE_NOT_CABINET = 23,
+    /* The GNT of the key to put is not later than that of the key in the cabinet that it would replace. */
+    OBSCURLANE_NOT_LATER = 24,
+    /* No place of the cabinet is free: 64 other Subjects are present. */
+    OBSCURLANE_NO_PLACE = 25,
+    /* The cabinet has no key of the identity's kind, Manufacturer and MID, to find or to remove. */
+    OBSCURLANE_NOT_THERE = 26
 };
 
 /*
@@ -215,7 +224,11 @@ enum {
     /* The longest block that is written, a KEY.1: its BEGINS line and its ENDS line, in both of which 5 bytes are the name, and
      * between them the record in rows of 64; with a line feed behind every line. */
     OBSCURLANE_LONGEST_MAIL = 6 + 5 + 9 + 1 + OBSCURLANE_LONGEST_RECORD + (OBSCURLANE_LONGEST_RECORD + 63) / 64 +
-                              6 + 5 + 7 + 1
+                              6 + 5 + 7 + 1,
+    /* The places of a cabinet, the bytes of each, and the bytes of them all, which are the only length that a cabinet has. */
+    OBSCURLANE_CABINET_PLACES = 64,
+    OBSCURLANE_CABINET_WIDTH = 1024,
+    OBSCURLANE_CABINET_SIZE = 65536
 };
 
 /* ---- reading */
@@ -237,7 +250,7 @@ obscurlane_answer obscurlane_read_identity(const uint8_t *identity, size_t ident
 /* Reads a record: PK.ECDSA.1, PK.ECDH.1, VKLOAD.REQ.1, VKLOAD.RESP.1 or KEY.1. Answers 0 to 9, or 14. */
 obscurlane_answer obscurlane_read_record(const uint8_t *record, size_t record_len);
 
-/* Where one field or attribute stands. start and len are 0 with a refusal. */
+/* Where one field, attribute or key in a cabinet stands. start and len are 0 with a refusal. */
 typedef struct {
     uint8_t no;
     uint8_t field;
@@ -417,6 +430,63 @@ typedef struct {
  * OBSCURLANE_NOT_ALIKE. */
 obscurlane_choice obscurlane_newer(const uint8_t *first, size_t first_len, const uint8_t *second, size_t second_len);
 
+/*
+ * ---- the centre's key cabinet: up to 64 public keys in OBSCURLANE_CABINET_SIZE bytes, which the program lends to every call
+ *
+ * A cabinet has OBSCURLANE_CABINET_PLACES places of OBSCURLANE_CABINET_WIDTH bytes, one behind the other. A place is free, and
+ * then all zeros; or it starts with a public key, PK.ECDSA.1 or PK.ECDH.1, that obscurlane_read_record accepts, and has zeros
+ * after it. No two of the records share Subject kind, Manufacturer and MID. By these three a key is found, replaced and taken
+ * out; GNT and Fingerprint of its Subject are no part of them.
+ *
+ * These bytes are all that there is of a cabinet: a program may store them in a file, copy and compare them. All other memory
+ * is no cabinet. Every call but the one that makes it asks first whether the bytes are one, whoever wrote them, and so reads
+ * every record in it again; where they are none it answers OBSCURLANE_NOT_CABINET, before all else. A call that refuses leaves
+ * all OBSCURLANE_CABINET_SIZE bytes as they were; one that changes a place leaves all others.
+ *
+ * After any calls since obscurlane_make_cabinet, where nothing else has written the bytes, they are a cabinet. Its occupied
+ * places number the accepted first puts less the accepted removals, and obscurlane_find_key gives the last record of these
+ * three names that was put in and not removed.
+ */
+
+/* What is answered by a call that changes a cabinet, or asks whether it is one. */
+typedef struct {
+    uint8_t no;
+    uint8_t field;
+} obscurlane_filed;
+
+/* How many places of a cabinet are occupied. count is 0 with a refusal. */
+typedef struct {
+    uint8_t no;
+    size_t count;
+} obscurlane_counted;
+
+/* Makes the lent bytes an empty cabinet, whatever they were: all zeros. Answers OBSCURLANE_NOT_CABINET where they are not
+ * OBSCURLANE_CABINET_SIZE: 0, or 23. */
+obscurlane_filed obscurlane_make_cabinet(uint8_t *cabinet, size_t cabinet_len);
+
+/* Whether the bytes are a cabinet: 0, or 23. */
+obscurlane_filed obscurlane_check_cabinet(const uint8_t *cabinet, size_t cabinet_len);
+
+/* How many keys a cabinet has. Answers 0, or 23. */
+obscurlane_counted obscurlane_count_keys(const uint8_t *cabinet, size_t cabinet_len);
+
+/* Puts a public key in. Where the cabinet has one of the same Subject kind, Manufacturer and MID, it is replaced in its place;
+ * else the lowest free place is taken. Answers OBSCURLANE_NOT_CABINET; then what obscurlane_read_record answers to the record,
+ * but OBSCURLANE_UNKNOWN_KIND for a record of another kind; then OBSCURLANE_NOT_LATER where the GNT of its Subject is earlier
+ * than that of the record to replace, or equal; then OBSCURLANE_NO_PLACE where there is none to replace and no place is free:
+ * 0 to 9, or 23 to 25. A full cabinet takes replacements. */
+obscurlane_filed obscurlane_put_key(uint8_t *cabinet, size_t cabinet_len, const uint8_t *record, size_t record_len);
+
+/* Takes out the public key of this identity's kind, Manufacturer and MID: its place is all zeros afterwards, and is used again.
+ * The identity must be accepted; its GNT and Fingerprint are ignored. Answers OBSCURLANE_NOT_CABINET, then what
+ * obscurlane_read_identity answers to the identity, then OBSCURLANE_NOT_THERE: 0 to 6, 23, or 26. */
+obscurlane_filed obscurlane_remove_key(uint8_t *cabinet, size_t cabinet_len, const uint8_t *identity, size_t identity_len);
+
+/* Where the public key of this identity's kind, Manufacturer and MID stands in the cabinet's bytes, with the numbers of
+ * obscurlane_remove_key. The record is the place's `len` bytes from `start` on, a part of the cabinet that holds until the next
+ * call that changes it. */
+obscurlane_place obscurlane_find_key(const uint8_t *cabinet, size_t cabinet_len, const uint8_t *identity, size_t identity_len);
+
 /* ---- the Fingerprint in the Subject of a public key */
 
 /* What a check says. */
@@ -583,7 +653,7 @@ bool obscurlane_is_print(const uint8_t *s, size_t s_len);
 
 /* ---- names, in names.c; every answer is a text that stays */
 
-/* A number in words, as "the check differs" for OBSCURLANE_WRONG_CHECK. A number above 22 has words of its own. */
+/* A number in words, as "the check differs" for OBSCURLANE_WRONG_CHECK. A number above 26 has words of its own. */
 const char *obscurlane_reason(uint8_t no);
 
 /* A kind's name, as "VKLOAD.REQ.1"; "none" for OBSCURLANE_KIND_NONE and any other number. */

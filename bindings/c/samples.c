@@ -1,4 +1,4 @@
-/* A part of every.c: the records that trailed.c and mail.c take, accepted and refused. */
+/* A part of every.c: the records that trailed.c, mail.c and cabinet.c take, accepted and refused. */
 #include "expect.h"
 #include "worked.h"
 

@@ -1,0 +1,707 @@
+/* A part of every.c: the centre's key cabinet. */
+#include "expect.h"
+#include "worked.h"
+
+#include <stdio.h>
+#include <stdlib.h>
+#include <string.h>
+
+enum {
+    PLACES = OBSCURLANE_CABINET_PLACES,
+    WIDTH = OBSCURLANE_CABINET_WIDTH,
+    SIZE = OBSCURLANE_CABINET_SIZE,
+    EDGE = 16, /* so many bytes stand before what is lent, and behind it */
+    MOST = 2 * SIZE
+};
+
+/* ---- keys and identities, by their parts */
+
+/* Whose key it is. */
+struct subject {
+    size_t kind; /* the identity's */
+    const char *maker, *mid;
+};
+
+struct text {
+    char bytes[ROOM];
+    size_t len;
+};
+
+#define PRINT "320C265FDC769D3E"
+#define GNT "20180120T090000Z"
+#define EARLIER "20180120T085959Z"
+#define LATER "20180120T090001Z"
+
+static struct text identity_of(struct subject of, const char *gnt, const char *print)
+{
+    struct text made;
+    int len = snprintf(made.bytes, sizeof made.bytes, "%s:%s:%s:%s:%s:0000", obscurlane_kind_name(of.kind), of.maker, of.mid, gnt,
+                       print);
+    made.len = (size_t)len;
+    seal(made.bytes, made.len);
+    return made;
+}
+
+/* A public key of this Subject; its Q is of this digit, so that keys of one Subject differ. */
+static struct text key_of(struct subject of, const char *gnt, char digit, bool is_signed)
+{
+    char digits[192 + 1];
+    memset(digits, digit, sizeof digits - 1);
+    digits[sizeof digits - 1] = '\0';
+    struct text subject = identity_of(of, gnt, PRINT), made;
+    const char *kind = of.kind == OBSCURLANE_KIND_SMMAN ? "PK.ECDSA.1" : "PK.ECDH.1";
+    int len = snprintf(made.bytes, sizeof made.bytes, "%s|%s|04%s|99991231T115959Z|%s|%s|0000", kind, subject.bytes, digits,
+                       is_signed ? WORKED_ID_MAKER : "", is_signed ? digits : "");
+    made.len = (size_t)len;
+    seal(made.bytes, made.len);
+    return made;
+}
+
+static struct text as_text(const char *bytes)
+{
+    struct text made;
+    made.len = strlen(bytes);
+    memcpy(made.bytes, bytes, made.len + 1);
+    return made;
+}
+
+/* ---- a plain cabinet, to hold the library's against: what is in each place, and its bytes */
+
+struct held {
+    bool is_there;
+    struct subject of;
+    char gnt[16 + 1];
+    struct text record;
+};
+
+struct model {
+    struct held places[PLACES];
+};
+
+static bool is_same(struct subject a, struct subject b)
+{
+    return a.kind == b.kind && strcmp(a.maker, b.maker) == 0 && strcmp(a.mid, b.mid) == 0;
+}
+
+/* The place of this Subject's key, or PLACES. */
+static size_t place_of(const struct model *model, struct subject of)
+{
+    size_t place = 0;
+    while (place < PLACES && !(model->places[place].is_there && is_same(model->places[place].of, of))) {
+        place++;
+    }
+    return place;
+}
+
+static size_t free_place(const struct model *model)
+{
+    size_t place = 0;
+    while (place < PLACES && model->places[place].is_there) {
+        place++;
+    }
+    return place;
+}
+
+static size_t count_of(const struct model *model)
+{
+    size_t count = 0;
+    for (size_t i = 0; i < PLACES; i++) {
+        count += model->places[i].is_there;
+    }
+    return count;
+}
+
+static uint8_t put_there(struct model *model, struct subject of, const char *gnt, const struct text *record)
+{
+    size_t place = place_of(model, of);
+    if (place < PLACES && strcmp(gnt, model->places[place].gnt) <= 0) {
+        return OBSCURLANE_NOT_LATER;
+    }
+    place = place < PLACES ? place : free_place(model);
+    if (place == PLACES) {
+        return OBSCURLANE_NO_PLACE;
+    }
+    struct held *held = &model->places[place];
+    held->is_there = true;
+    held->of = of;
+    memcpy(held->gnt, gnt, sizeof held->gnt);
+    held->record = *record;
+    return OBSCURLANE_ACCEPTED;
+}
+
+static uint8_t remove_there(struct model *model, struct subject of)
+{
+    size_t place = place_of(model, of);
+    if (place == PLACES) {
+        return OBSCURLANE_NOT_THERE;
+    }
+    model->places[place].is_there = false;
+    return OBSCURLANE_ACCEPTED;
+}
+
+static void write_image(const struct model *model, uint8_t image[SIZE])
+{
+    memset(image, 0, SIZE);
+    for (size_t i = 0; i < PLACES; i++) {
+        if (model->places[i].is_there) {
+            memcpy(image + i * WIDTH, model->places[i].record.bytes, model->places[i].record.len);
+        }
+    }
+}
+
+/* ---- the library's cabinet, with bytes around it that no call may touch; and the model beside it */
+
+static uint8_t lent[EDGE + MOST + EDGE];
+static uint8_t *const cabinet = lent + EDGE;
+static struct model beside;
+
+static void expect_model(void)
+{
+    static uint8_t image[SIZE];
+    write_image(&beside, image);
+    EXPECT(memcmp(cabinet, image, SIZE) == 0);
+    EXPECT(untouched(lent, 0, EDGE) && untouched(lent, EDGE + SIZE, sizeof lent));
+    obscurlane_filed said = obscurlane_check_cabinet(cabinet, SIZE);
+    EXPECT(said.no == OBSCURLANE_ACCEPTED && said.field == 0);
+    obscurlane_counted counted = obscurlane_count_keys(cabinet, SIZE);
+    EXPECT(counted.no == OBSCURLANE_ACCEPTED && counted.count == count_of(&beside));
+}
+
+/* Empty, whatever the bytes were. */
+static void begin(uint8_t before)
+{
+    memset(lent, UNTOUCHED, sizeof lent);
+    memset(cabinet, before, SIZE);
+    memset(&beside, 0, sizeof beside);
+    obscurlane_filed said = obscurlane_make_cabinet(cabinet, SIZE);
+    EXPECT(said.no == OBSCURLANE_ACCEPTED && said.field == 0);
+    EXPECT(are_zeros(cabinet, 0, SIZE));
+}
+
+/* The number alone, and that the cabinet is that of the model. */
+static void expect_put(struct subject of, const char *gnt, const struct text *record, uint8_t no)
+{
+    EXPECT(put_there(&beside, of, gnt, record) == no);
+    obscurlane_filed said = obscurlane_put_key(cabinet, SIZE, (const uint8_t *)record->bytes, record->len);
+    EXPECT(said.no == no && said.field == 0);
+    expect_model();
+}
+
+static void put(struct subject of, const char *gnt, char digit, uint8_t no)
+{
+    struct text record = key_of(of, gnt, digit, digit == '1');
+    expect_put(of, gnt, &record, no);
+}
+
+/* What find and remove answer to bytes that are refused. */
+static void expect_refused_identity(const char *identity, size_t len, uint8_t no, uint8_t field)
+{
+    const uint8_t *bytes = (const uint8_t *)identity;
+    obscurlane_place place = obscurlane_find_key(cabinet, SIZE, bytes, len);
+    EXPECT(place.no == no && place.field == field && place.start == 0 && place.len == 0);
+    obscurlane_filed said = obscurlane_remove_key(cabinet, SIZE, bytes, len);
+    EXPECT(said.no == no && said.field == field);
+    expect_model();
+}
+
+/* This identity finds what the model has of its Subject. */
+static void find_by(struct subject of, const struct text *identity)
+{
+    size_t place = place_of(&beside, of);
+    if (place == PLACES) {
+        expect_refused_identity(identity->bytes, identity->len, OBSCURLANE_NOT_THERE, 0);
+        return;
+    }
+    const struct text *record = &beside.places[place].record;
+    obscurlane_place found = obscurlane_find_key(cabinet, SIZE, (const uint8_t *)identity->bytes, identity->len);
+    EXPECT(found.no == OBSCURLANE_ACCEPTED && found.field == 0);
+    EXPECT(found.start == place * WIDTH && found.len == record->len);
+    EXPECT(memcmp(cabinet + found.start, record->bytes, record->len) == 0);
+}
+
+static void find(struct subject of)
+{
+    struct text identity = identity_of(of, GNT, PRINT);
+    find_by(of, &identity);
+}
+
+static void take_out(struct subject of, uint8_t no)
+{
+    struct text identity = identity_of(of, "19930101T000000Z", "0000000000000000");
+    EXPECT(remove_there(&beside, of) == no);
+    obscurlane_filed said = obscurlane_remove_key(cabinet, SIZE, (const uint8_t *)identity.bytes, identity.len);
+    EXPECT(said.no == no && said.field == 0);
+    expect_model();
+    find(of);
+}
+
+/* ---- the worked example's keys */
+
+static const struct subject worked_module = {OBSCURLANE_KIND_SMID, "Prism", "06000001"};
+static const struct subject worked_centre = {OBSCURLANE_KIND_KMCID, "sts-KeyAgreement-1.2", "TEST1"};
+static const struct subject worked_maker = {OBSCURLANE_KIND_SMMAN, "Prism", "A"};
+
+static void worked_keys(void)
+{
+    static const struct {
+        const struct subject *of;
+        const char *gnt, *record, *identity;
+    } keys[] = {
+        {&worked_module, "20180120T090000Z", WORKED_KEY_MODULE, WORKED_ID_SM},
+        {&worked_centre, "20180110T120000Z", WORKED_KEY_CENTRE, WORKED_ID_KMC},
+        {&worked_maker, "20180115T140000Z", WORKED_KEY_MAKER, WORKED_ID_MAKER},
+    };
+    begin(0xFF);
+    for (size_t i = 0; i < COUNT_OF(keys); i++) {
+        struct text record = as_text(keys[i].record), identity = as_text(keys[i].identity);
+        find_by(*keys[i].of, &identity);
+        expect_put(*keys[i].of, keys[i].gnt, &record, OBSCURLANE_ACCEPTED);
+        expect_put(*keys[i].of, keys[i].gnt, &record, OBSCURLANE_NOT_LATER);
+        find_by(*keys[i].of, &identity);
+    }
+    /* The module's key with its maker's signature has the same GNT: the other goes out first. */
+    struct text record = as_text(WORKED_KEY_SIGNED), identity = as_text(WORKED_ID_SM);
+    expect_put(worked_module, GNT, &record, OBSCURLANE_NOT_LATER);
+    take_out(worked_module, OBSCURLANE_ACCEPTED);
+    take_out(worked_module, OBSCURLANE_NOT_THERE);
+    expect_put(worked_module, GNT, &record, OBSCURLANE_ACCEPTED);
+    find_by(worked_module, &identity);
+    EXPECT(obscurlane_find_key(cabinet, SIZE, BYTES(WORKED_ID_SM)).start == 0);
+    EXPECT(obscurlane_count_keys(cabinet, SIZE).count == 3);
+}
+
+/* ---- all places */
+
+enum { SUBJECTS = PLACES + 16 };
+
+static const char *mid_of(size_t n)
+{
+    static char mids[SUBJECTS][9];
+    (void)snprintf(mids[n], sizeof mids[n], "%08u", (unsigned)n);
+    return mids[n];
+}
+
+/* Subjects of every kind, which differ in the kind alone or in MID. */
+static struct subject nth(size_t n)
+{
+    return (struct subject){n % 3, "Prism", mid_of(n / 3)};
+}
+
+static void fill(void)
+{
+    begin(0);
+    for (size_t n = 0; n < PLACES; n++) {
+        put(nth(n), GNT, n % 2 == 0 ? '0' : '1', OBSCURLANE_ACCEPTED);
+        EXPECT(place_of(&beside, nth(n)) == n);
+    }
+}
+
+static void full(void)
+{
+    fill();
+    EXPECT(obscurlane_count_keys(cabinet, SIZE).count == PLACES);
+    /* Another Subject has no place, whatever its GNT. */
+    for (size_t n = PLACES; n < PLACES + 3; n++) {
+        put(nth(n), EARLIER, '2', OBSCURLANE_NO_PLACE);
+        put(nth(n), LATER, '2', OBSCURLANE_NO_PLACE);
+    }
+    /* One that is there is replaced in its place, by a later GNT alone. */
+    for (size_t n = 0; n < PLACES; n += 7) {
+        put(nth(n), EARLIER, '3', OBSCURLANE_NOT_LATER);
+        put(nth(n), GNT, '3', OBSCURLANE_NOT_LATER);
+        put(nth(n), LATER, '3', OBSCURLANE_ACCEPTED);
+        put(nth(n), LATER, '4', OBSCURLANE_NOT_LATER);
+        put(nth(n), GNT, '4', OBSCURLANE_NOT_LATER);
+        EXPECT(place_of(&beside, nth(n)) == n);
+        find(nth(n));
+    }
+    /* Each is found where it stands. */
+    for (size_t n = 0; n < PLACES + 3; n++) {
+        find(nth(n));
+    }
+    /* A place given up is used again, the lowest first; an earlier GNT is no hindrance to a first put. */
+    take_out(nth(40), OBSCURLANE_ACCEPTED);
+    take_out(nth(9), OBSCURLANE_ACCEPTED);
+    put(nth(PLACES), EARLIER, '5', OBSCURLANE_ACCEPTED);
+    EXPECT(place_of(&beside, nth(PLACES)) == 9);
+    put(nth(9), EARLIER, '5', OBSCURLANE_ACCEPTED);
+    EXPECT(place_of(&beside, nth(9)) == 40);
+    put(nth(40), LATER, '5', OBSCURLANE_NO_PLACE);
+    take_out(nth(PLACES), OBSCURLANE_ACCEPTED);
+    put(nth(40), LATER, '5', OBSCURLANE_ACCEPTED);
+    /* All of them out, and in again the other way round. */
+    for (size_t n = 0; n < PLACES; n++) {
+        take_out(nth(n * 27 % PLACES), OBSCURLANE_ACCEPTED);
+    }
+    EXPECT(are_zeros(cabinet, 0, SIZE));
+    for (size_t n = PLACES; n-- > 0;) {
+        put(nth(n), EARLIER, '6', OBSCURLANE_ACCEPTED);
+        EXPECT(place_of(&beside, nth(n)) == PLACES - 1 - n);
+    }
+    put(nth(PLACES), LATER, '6', OBSCURLANE_NO_PLACE);
+}
+
+/* ---- records and identities that are refused, or of others */
+
+static bool are_present; /* whether the cabinet has the keys of the samples; else it is full without them */
+
+/* The record's own numbers come before 24 and 25; a record that is no public key is 2, after its length. */
+static void expect_putting(const char *record, size_t len, uint8_t no, uint8_t field)
+{
+    bool is_key = (len >= 11 && memcmp(record, "PK.ECDSA.1|", 11) == 0) || (len >= 10 && memcmp(record, "PK.ECDH.1|", 10) == 0);
+    if (len <= OBSCURLANE_LONGEST_READ && !is_key) {
+        no = OBSCURLANE_UNKNOWN_KIND;
+        field = 0;
+    } else if (no == OBSCURLANE_ACCEPTED) {
+        no = are_present ? OBSCURLANE_NOT_LATER : OBSCURLANE_NO_PLACE;
+    }
+    obscurlane_filed said = obscurlane_put_key(cabinet, SIZE, (const uint8_t *)record, len);
+    EXPECT(said.no == no && said.field == field);
+    expect_model();
+}
+
+static void refused_records(void)
+{
+    fill();
+    are_present = false;
+    expect_every_record(expect_putting);
+    /* And where the cabinet has the key of that Subject, with no earlier GNT. */
+    begin(0);
+    are_present = true;
+    struct text module = as_text(WORKED_KEY_SIGNED), centre = as_text(WORKED_KEY_CENTRE), maker = as_text(WORKED_KEY_MAKER);
+    expect_put(worked_module, "20180120T090000Z", &module, OBSCURLANE_ACCEPTED);
+    expect_put(worked_centre, "20180110T120000Z", &centre, OBSCURLANE_ACCEPTED);
+    expect_put(worked_maker, "20180115T140000Z", &maker, OBSCURLANE_ACCEPTED);
+    expect_every_record(expect_putting);
+}
+
+/* An identity's own numbers come before 26, and it must be accepted also where its three names are there. */
+static void refused_identities(void)
+{
+    static const struct {
+        const char *old, *with;
+        uint8_t no, field;
+    } faults[] = {
+        {"SMID.1:", "SMID.2:", OBSCURLANE_UNKNOWN_KIND, 0},
+        {"SMID.1:", "SMID.1|", OBSCURLANE_UNKNOWN_KIND, 0},
+        {":06000001:", ":", OBSCURLANE_WRONG_COUNT, 0},
+        {":06000001:", ":06000001:06000001:", OBSCURLANE_WRONG_COUNT, 0},
+        {":Prism:", "::", OBSCURLANE_WRONG_TEXT, OBSCURLANE_IDENTITY_MANUFACTURER},
+        {":06000001:", ":-6000001:", OBSCURLANE_WRONG_TEXT, OBSCURLANE_IDENTITY_MID},
+        {":2018", ":0000", OBSCURLANE_WRONG_TEXT, OBSCURLANE_IDENTITY_GNT},
+        {":20180120T", ":20180231T", OBSCURLANE_WRONG_TEXT, OBSCURLANE_IDENTITY_GNT},
+        {":320C", ":320c", OBSCURLANE_WRONG_TEXT, OBSCURLANE_IDENTITY_FINGERPRINT},
+    };
+    struct text record = as_text(WORKED_KEY_SIGNED);
+    for (int is_there = 0; is_there <= 1; is_there++) {
+        begin(0);
+        if (is_there == 1) {
+            expect_put(worked_module, GNT, &record, OBSCURLANE_ACCEPTED);
+        }
+        expect_refused_before_fields(WORKED_ID_SM, expect_refused_identity);
+        for (size_t i = 0; i < COUNT_OF(faults); i++) {
+            char identity[ROOM];
+            size_t len = write_with(WORKED_ID_SM, faults[i].old, faults[i].with, identity);
+            expect_refused_identity(identity, len, faults[i].no, faults[i].field);
+        }
+        for (size_t i = 0; i < RECORDS; i++) {
+            expect_refused_identity(records[i], strlen(records[i]), OBSCURLANE_UNKNOWN_KIND, 0);
+        }
+    }
+}
+
+/* GNT and Fingerprint of the identity are ignored; another kind, Manufacturer or MID is another Subject. */
+static void other_subjects(void)
+{
+    static const struct subject others[] = {
+        {OBSCURLANE_KIND_KMCID, "Prism", "06000001"}, {OBSCURLANE_KIND_SMMAN, "Prism", "06000001"},
+        {OBSCURLANE_KIND_SMID, "prism", "06000001"},  {OBSCURLANE_KIND_SMID, "Pris", "06000001"},
+        {OBSCURLANE_KIND_SMID, "Prism0", "06000001"}, {OBSCURLANE_KIND_SMID, "Prism0", "6000001"},
+        {OBSCURLANE_KIND_SMID, "Prism", "06000002"},  {OBSCURLANE_KIND_SMID, "Prism", "0600000"},
+        {OBSCURLANE_KIND_SMID, "Prism", "060000011"}, {OBSCURLANE_KIND_SMID, "06000001", "Prism"},
+        {OBSCURLANE_KIND_SMID, "P", "P"},             {OBSCURLANE_KIND_SMID, "Prism", "A2345678901234567890123456789012"},
+    };
+    static const char *const gnts[] = {"00010101T000000Z", EARLIER, GNT, LATER, "99991231T235959Z"};
+    static const char *const prints[] = {PRINT, "0000000000000000", "FFFFFFFFFFFFFFFF"};
+    begin(0x55);
+    put(worked_module, GNT, '0', OBSCURLANE_ACCEPTED);
+    for (size_t i = 0; i < COUNT_OF(gnts); i++) {
+        for (size_t j = 0; j < COUNT_OF(prints); j++) {
+            struct text identity = identity_of(worked_module, gnts[i], prints[j]);
+            find_by(worked_module, &identity);
+        }
+    }
+    for (size_t i = 0; i < COUNT_OF(others); i++) {
+        find(others[i]);
+        take_out(others[i], OBSCURLANE_NOT_THERE);
+    }
+    /* Each has a place of its own, and goes out by itself. */
+    for (size_t i = 0; i < COUNT_OF(others); i++) {
+        put(others[i], i % 2 == 0 ? EARLIER : GNT, '2', OBSCURLANE_ACCEPTED);
+        EXPECT(place_of(&beside, others[i]) == i + 1);
+    }
+    for (size_t i = 0; i < COUNT_OF(others); i++) {
+        find(others[i]);
+        find(worked_module);
+        take_out(others[i], OBSCURLANE_ACCEPTED);
+    }
+    find(worked_module);
+    /* Every digit of the GNT counts. */
+    static const char *const ascending[] = {"20180120T090001Z", "20180120T090010Z", "20180120T090100Z", "20180120T091000Z",
+                                            "20180120T100000Z", "20180121T000000Z", "20180201T000000Z", "20181001T000000Z",
+                                            "20190101T000000Z", "20200101T000000Z", "21000101T000000Z", "30000101T000000Z"};
+    for (size_t i = 0; i < COUNT_OF(ascending); i++) {
+        put(worked_module, ascending[i], '3', OBSCURLANE_ACCEPTED);
+        put(worked_module, i == 0 ? GNT : ascending[i - 1], '4', OBSCURLANE_NOT_LATER);
+        put(worked_module, ascending[i], '4', OBSCURLANE_NOT_LATER);
+    }
+}
+
+/* ---- what is no cabinet */
+
+/* So many bytes of those that are lent are none: every call but the making one says so before all else, and leaves them. */
+static void expect_no_cabinet(size_t len)
+{
+    static uint8_t before[sizeof lent];
+    static const char *const texts[] = {WORKED_KEY_SIGNED, WORKED_KEY_CENTRE, WORKED_ID_SM, WORKED_ID_KMC, ""};
+    memcpy(before, lent, sizeof before);
+    obscurlane_filed said = obscurlane_check_cabinet(cabinet, len);
+    EXPECT(said.no == OBSCURLANE_NOT_CABINET && said.field == 0);
+    obscurlane_counted counted = obscurlane_count_keys(cabinet, len);
+    EXPECT(counted.no == OBSCURLANE_NOT_CABINET && counted.count == 0);
+    for (size_t i = 0; i < COUNT_OF(texts); i++) {
+        const uint8_t *text = (const uint8_t *)texts[i];
+        size_t text_len = strlen(texts[i]);
+        said = obscurlane_put_key(cabinet, len, text, text_len);
+        EXPECT(said.no == OBSCURLANE_NOT_CABINET && said.field == 0);
+        said = obscurlane_remove_key(cabinet, len, text, text_len);
+        EXPECT(said.no == OBSCURLANE_NOT_CABINET && said.field == 0);
+        obscurlane_place place = obscurlane_find_key(cabinet, len, text, text_len);
+        EXPECT(place.no == OBSCURLANE_NOT_CABINET && place.field == 0 && place.start == 0 && place.len == 0);
+    }
+    EXPECT(memcmp(before, lent, sizeof before) == 0);
+}
+
+/* With another byte in one place it is none; and it is one again. */
+static void expect_no_cabinet_with(size_t at, uint8_t byte)
+{
+    uint8_t was = cabinet[at];
+    if (byte == was) {
+        return;
+    }
+    cabinet[at] = byte;
+    expect_no_cabinet(SIZE);
+    cabinet[at] = was;
+}
+
+/* A record in place n, and zeros after it. */
+static void write_place(size_t n, const char *record, size_t len)
+{
+    memset(cabinet + n * WIDTH, 0, WIDTH);
+    memcpy(cabinet + n * WIDTH, record, len);
+}
+
+static void expect_no_cabinet_of(size_t n, const char *record, size_t len)
+{
+    static uint8_t was[WIDTH];
+    memcpy(was, cabinet + n * WIDTH, WIDTH);
+    write_place(n, record, len);
+    expect_no_cabinet(SIZE);
+    memcpy(cabinet + n * WIDTH, was, WIDTH);
+}
+
+/* Bytes that are not zero in a free place, behind a record, and in its place; a record that is cut, moved, damaged or of another
+ * kind; and two of the same three names. */
+static void damaged(void)
+{
+    static const uint8_t others[] = {1, '\n', ' ', '0', 'A', 'P', '|', 0x80, 0xFF};
+    static const size_t in_place[] = {0, 1, 2, WIDTH / 2, WIDTH - 2, WIDTH - 1};
+    begin(0);
+    put(worked_module, GNT, '1', OBSCURLANE_ACCEPTED);
+    put(worked_centre, GNT, '0', OBSCURLANE_ACCEPTED);
+    const struct text module = beside.places[0].record, centre = beside.places[1].record;
+    for (size_t n = 2; n < PLACES; n++) {
+        for (size_t i = 0; i < COUNT_OF(in_place); i++) {
+            expect_no_cabinet_with(n * WIDTH + in_place[i], others[(n + i) % COUNT_OF(others)]);
+        }
+    }
+    for (size_t at = centre.len; at < WIDTH; at++) {
+        expect_no_cabinet_with(WIDTH + at, others[at % COUNT_OF(others)]);
+    }
+    for (size_t i = 0; i < COUNT_OF(others); i++) {
+        expect_no_cabinet_with(WIDTH + centre.len, others[i]);
+        expect_no_cabinet_with(2 * WIDTH, others[i]);
+        expect_no_cabinet_with(SIZE - 1, others[i]);
+    }
+    for (size_t at = 0; at < module.len; at++) {
+        expect_no_cabinet_with(at, 0);
+        expect_no_cabinet_with(at, cabinet[at] ^ (uint8_t)(1U << at % 8));
+        expect_no_cabinet_with(at, others[at % COUNT_OF(others)]);
+    }
+    expect_model();
+    /* Cut, and with zeros in front. */
+    for (size_t len = 1; len < centre.len; len++) {
+        expect_no_cabinet_of(1, centre.bytes, len);
+        expect_no_cabinet_of(1, centre.bytes + len, centre.len - len);
+    }
+    struct text moved = centre;
+    memmove(moved.bytes + 1, moved.bytes, moved.len);
+    moved.bytes[0] = '\0';
+    expect_no_cabinet_of(1, moved.bytes, moved.len + 1);
+    memmove(cabinet + WIDTH - 1, cabinet + WIDTH, WIDTH);
+    expect_no_cabinet(SIZE);
+    memmove(cabinet + WIDTH, cabinet + WIDTH - 1, WIDTH);
+    cabinet[WIDTH - 1] = 0;
+    /* Two in one place, and one twice. */
+    struct text both = centre;
+    memcpy(both.bytes + centre.len, module.bytes, module.len < ROOM - centre.len ? module.len : ROOM - centre.len);
+    expect_no_cabinet_of(1, both.bytes, centre.len + 300);
+    static const size_t second[] = {2, 3, 31, PLACES - 1};
+    for (size_t i = 0; i < COUNT_OF(second); i++) {
+        expect_no_cabinet_of(second[i], centre.bytes, centre.len);
+        struct text later = key_of(worked_module, LATER, '7', false);
+        expect_no_cabinet_of(second[i], later.bytes, later.len);
+    }
+    expect_model();
+    /* Other records, identities, and public keys that are refused. */
+    for (size_t i = 0; i < RECORDS; i++) {
+        bool is_key = strncmp(records[i], "PK.", 3) == 0;
+        struct text with_feed = as_text(records[i]);
+        with_feed.bytes[with_feed.len] = '\n';
+        expect_no_cabinet_of(PLACES - 1, with_feed.bytes, with_feed.len + 1);
+        if (!is_key) {
+            expect_no_cabinet_of(PLACES - 1, with_feed.bytes, with_feed.len);
+        }
+    }
+    expect_no_cabinet_of(PLACES - 1, WORKED_ID_MAKER, strlen(WORKED_ID_MAKER));
+    char refused[ROOM];
+    size_t len = write_with(WORKED_KEY_MAKER, "|20210115T", "|20210230T", refused);
+    expect_no_cabinet_of(PLACES - 1, refused, len);
+    len = write_with(WORKED_KEY_MAKER, "|SMMAN.1:", "|SMID.1:", refused);
+    expect_no_cabinet_of(PLACES - 1, refused, len);
+    write_place(PLACES - 1, WORKED_KEY_MAKER, strlen(WORKED_KEY_MAKER));
+    EXPECT(obscurlane_count_keys(cabinet, SIZE).count == 3);
+    expect_no_cabinet_of(0, WORKED_KEY_MAKER, strlen(WORKED_KEY_MAKER));
+    EXPECT(obscurlane_check_cabinet(cabinet, SIZE).no == OBSCURLANE_ACCEPTED);
+}
+
+/* Two of the same three names in a full cabinet, in neighbouring places and in far ones. */
+static void damaged_when_full(void)
+{
+    fill();
+    for (size_t n = 0; n < PLACES; n += 9) {
+        const struct text *next = &beside.places[(n + 1) % PLACES].record;
+        expect_no_cabinet_of(n, next->bytes, next->len);
+        struct text later = key_of(nth(PLACES - 1 - n), LATER, '8', true);
+        if (PLACES - 1 - n != n) {
+            expect_no_cabinet_of(n, later.bytes, later.len);
+        }
+        expect_no_cabinet_with((n + 1) * WIDTH - 1, 'F');
+        expect_no_cabinet_with(n * WIDTH, 'Q');
+    }
+    expect_model();
+}
+
+/* Of another length it is none, whatever the bytes, and none is made of it. */
+static void lengths(void)
+{
+    static const size_t others[] = {0,         1,        WIDTH - 1, WIDTH,     SIZE - WIDTH,    SIZE - 1,
+                                    SIZE + 1,  SIZE + 2, SIZE + WIDTH, MOST - 1, MOST};
+    for (int is_filled = 0; is_filled <= 1; is_filled++) {
+        begin(0);
+        if (is_filled == 1) {
+            put(worked_module, GNT, '1', OBSCURLANE_ACCEPTED);
+        }
+        memset(cabinet + SIZE, 0, MOST - SIZE);
+        for (size_t i = 0; i < COUNT_OF(others); i++) {
+            expect_no_cabinet(others[i]);
+        }
+        EXPECT(obscurlane_check_cabinet(cabinet, SIZE).no == OBSCURLANE_ACCEPTED);
+    }
+    memset(lent, UNTOUCHED, sizeof lent);
+    for (size_t i = 0; i < COUNT_OF(others); i++) {
+        obscurlane_filed said = obscurlane_make_cabinet(cabinet, others[i]);
+        EXPECT(said.no == OBSCURLANE_NOT_CABINET && said.field == 0);
+        EXPECT(untouched(lent, 0, sizeof lent));
+    }
+    expect_no_cabinet(SIZE);
+    EXPECT(obscurlane_make_cabinet(cabinet, SIZE).no == OBSCURLANE_ACCEPTED);
+    EXPECT(are_zeros(cabinet, 0, SIZE));
+    EXPECT(untouched(lent, 0, EDGE) && untouched(lent, EDGE + SIZE, sizeof lent));
+}
+
+/* ---- histories */
+
+static uint32_t state;
+
+/* A number below the limit (Marsaglia's xorshift). */
+static size_t below(size_t limit)
+{
+    state ^= state << 13;
+    state ^= state >> 17;
+    state ^= state << 5;
+    return state % limit;
+}
+
+/* Calls in no order, each held against the model: puts of keys with GNTs of few days, so that some are later and some are not;
+ * removals; finds; and records and identities that are refused. What was first put less what was removed is how many there are. */
+static void history(uint32_t seed, size_t subjects, size_t calls)
+{
+    size_t first_puts = 0, removals = 0;
+    state = seed;
+    begin((uint8_t)seed);
+    for (size_t call = 0; call < calls; call++) {
+        struct subject of = nth(below(subjects));
+        char gnt[16 + 1];
+        (void)snprintf(gnt, sizeof gnt, "201801%02uT0000%02uZ", (unsigned)(1 + below(3)), (unsigned)below(10));
+        struct text record = key_of(of, gnt, "0123456789ABCDEF"[below(16)], below(2) == 0);
+        struct text identity = identity_of(of, gnt, "0123456789ABCDEF");
+        switch (below(8)) {
+        case 0:
+        case 1:
+            record.bytes[below(record.len)] ^= 1;
+            expect_refused_identity(record.bytes, record.len, OBSCURLANE_UNKNOWN_KIND, 0);
+            EXPECT(obscurlane_put_key(cabinet, SIZE, (const uint8_t *)record.bytes, record.len).no != OBSCURLANE_ACCEPTED);
+            expect_model();
+            break;
+        case 2: {
+            uint8_t no = place_of(&beside, of) < PLACES ? OBSCURLANE_ACCEPTED : OBSCURLANE_NOT_THERE;
+            removals += no == OBSCURLANE_ACCEPTED;
+            take_out(of, no);
+            break;
+        }
+        case 3:
+            find_by(of, &identity);
+            break;
+        default: {
+            size_t place = place_of(&beside, of);
+            bool is_first = place == PLACES, is_full = count_of(&beside) == PLACES;
+            bool is_later = !is_first && strcmp(gnt, beside.places[place].gnt) > 0;
+            uint8_t no = is_first ? (is_full ? OBSCURLANE_NO_PLACE : OBSCURLANE_ACCEPTED)
+                                  : (is_later ? OBSCURLANE_ACCEPTED : OBSCURLANE_NOT_LATER);
+            first_puts += is_first && !is_full;
+            expect_put(of, gnt, &record, no);
+            find_by(of, &identity);
+            break;
+        }
+        }
+        EXPECT(obscurlane_count_keys(cabinet, SIZE).count == first_puts - removals);
+    }
+}
+
+void call_for_cabinets(void)
+{
+    EXPECT(SIZE == PLACES * WIDTH && OBSCURLANE_LONGEST_PUBKEY < OBSCURLANE_CABINET_WIDTH);
+    worked_keys();
+    full();
+    refused_records();
+    refused_identities();
+    other_subjects();
+    damaged();
+    damaged_when_full();
+    lengths();
+    history(1, 3, 300);
+    history(2, 20, 300);
+    history(3, SUBJECTS, 600);
+    history(4, SUBJECTS, 600);
+}
