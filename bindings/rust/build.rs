@@ -61,6 +61,7 @@ fn write_lengths() {
     let entries = code.split(['{', '}', ',']).filter_map(|entry| entry.trim().split_once(" = "));
     let lengths = entries.filter(|(name, _)| {
         name.starts_with("OBSCURLANE_LONGEST_")
+            || name.starts_with("OBSCURLANE_CABINET_")
             || name.ends_with("_BYTES")
             || *name == "OBSCURLANE_TRAILER"
     });

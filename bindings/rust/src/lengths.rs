@@ -1,4 +1,4 @@
-//! Lengths: the longest inputs that are taken, and outputs that are always enough.
+//! Lengths: the longest inputs that are taken, outputs that are always enough, and those of a cabinet.
 
 /// The header's own numbers, which the build script takes over as C writes them.
 #[allow(clippy::manual_div_ceil)]
@@ -34,3 +34,9 @@ pub const TRAILER: usize = header::TRAILER;
 pub const LONGEST_TRAILED: usize = header::LONGEST_TRAILED;
 /// The longest block that is written, a `KEY.1`, with a line feed behind every line.
 pub const LONGEST_MAIL: usize = header::LONGEST_MAIL;
+/// The places of a cabinet.
+pub const CABINET_PLACES: usize = header::CABINET_PLACES;
+/// The bytes of each place.
+pub const CABINET_WIDTH: usize = header::CABINET_WIDTH;
+/// The bytes of a cabinet, which are the only length that it has.
+pub const CABINET_SIZE: usize = header::CABINET_SIZE;

@@ -13,6 +13,7 @@ extern crate alloc;
 mod agreement;
 mod attributes;
 mod building;
+mod cabinet;
 mod check;
 mod confirm;
 pub mod field;
@@ -37,6 +38,7 @@ pub use attributes::{attribute, attribute_named, Card, Cards};
 pub use building::build;
 #[cfg(feature = "alloc")]
 pub use building::build_parts;
+pub use cabinet::{check_cabinet, count_keys, find_key, Cabinet};
 pub use check::{crc_of, Crc};
 pub use confirm::{confirm_request, confirm_response, ConfirmRefusal};
 pub use files::{count, line_at, lines, Line, Lines, Totals};
@@ -45,9 +47,10 @@ pub use hash::{sha1_of, sha384_of, Sha1, Sha384};
 pub use hmac::hmac_of;
 pub use kind::Kind;
 pub use lengths::{
-    KEY_BYTES, LONGEST_CENTRE_TEXT, LONGEST_FINGERPRINT, LONGEST_IDENT, LONGEST_IDENTITY,
-    LONGEST_MAIL, LONGEST_MODULE_TEXT, LONGEST_PUBKEY, LONGEST_READ, LONGEST_RECORD,
-    LONGEST_SHARED_INFO, LONGEST_TRAILED, TRAILER, Z_BYTES,
+    CABINET_PLACES, CABINET_SIZE, CABINET_WIDTH, KEY_BYTES, LONGEST_CENTRE_TEXT,
+    LONGEST_FINGERPRINT, LONGEST_IDENT, LONGEST_IDENTITY, LONGEST_MAIL, LONGEST_MODULE_TEXT,
+    LONGEST_PUBKEY, LONGEST_READ, LONGEST_RECORD, LONGEST_SHARED_INFO, LONGEST_TRAILED, TRAILER,
+    Z_BYTES,
 };
 pub use mail::{read_mail, write_mail};
 pub use newer::{newer, NewerRefusal};

@@ -63,6 +63,14 @@ pub enum Reason {
     MissingBegins = 21,
     /// 22: no later ENDS line matches the first BEGINS line.
     MissingEnds = 22,
+    /// 23: the lent bytes are no cabinet. Making one: they are of another length.
+    NotCabinet = 23,
+    /// 24: the GNT of the key to put is not later than that of the key in the cabinet that it would replace.
+    NotLater = 24,
+    /// 25: no place of the cabinet is free: 64 other Subjects are present.
+    NoPlace = 25,
+    /// 26: the cabinet has no key of the identity's kind, Manufacturer and MID, to find or to remove.
+    NotThere = 26,
 }
 
 impl Reason {
@@ -90,6 +98,10 @@ impl Reason {
         Reason::WrongHash,
         Reason::MissingBegins,
         Reason::MissingEnds,
+        Reason::NotCabinet,
+        Reason::NotLater,
+        Reason::NoPlace,
+        Reason::NotThere,
     ];
 
     /// The number, from 1.
@@ -139,6 +151,10 @@ impl Reason {
             Reason::WrongHash => "the SHA-1 differs",
             Reason::MissingBegins => "the text has no BEGINS line",
             Reason::MissingEnds => "no later ENDS line matches the first BEGINS line",
+            Reason::NotCabinet => "the bytes are no cabinet",
+            Reason::NotLater => "the GNT is not later than that of the key in the cabinet",
+            Reason::NoPlace => "no place of the cabinet is free",
+            Reason::NotThere => "the cabinet has no key of this kind, Manufacturer and MID",
         }
     }
 }

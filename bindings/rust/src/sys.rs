@@ -20,7 +20,7 @@ pub struct Answer {
     pub kinds: [usize; 7],
 }
 
-/// Where one field or attribute stands.
+/// Where one field, attribute or key in a cabinet stands.
 #[repr(C)]
 pub struct Place {
     pub no: u8,
@@ -69,6 +69,20 @@ pub struct Totals {
 pub struct Checked {
     pub no: u8,
     pub field: u8,
+}
+
+/// What a call says that changes a cabinet, or asks whether it is one.
+#[repr(C)]
+pub struct Filed {
+    pub no: u8,
+    pub field: u8,
+}
+
+/// How many places of a cabinet are occupied.
+#[repr(C)]
+pub struct Counted {
+    pub no: u8,
+    pub count: usize,
 }
 
 /// The bytes of a hash.
@@ -238,6 +252,28 @@ extern "C" {
         second: *const u8,
         second_len: usize,
     ) -> Choice;
+
+    fn obscurlane_make_cabinet(cabinet: *mut u8, cabinet_len: usize) -> Filed;
+    fn obscurlane_check_cabinet(cabinet: *const u8, cabinet_len: usize) -> Filed;
+    fn obscurlane_count_keys(cabinet: *const u8, cabinet_len: usize) -> Counted;
+    fn obscurlane_put_key(
+        cabinet: *mut u8,
+        cabinet_len: usize,
+        record: *const u8,
+        record_len: usize,
+    ) -> Filed;
+    fn obscurlane_remove_key(
+        cabinet: *mut u8,
+        cabinet_len: usize,
+        identity: *const u8,
+        identity_len: usize,
+    ) -> Filed;
+    fn obscurlane_find_key(
+        cabinet: *const u8,
+        cabinet_len: usize,
+        identity: *const u8,
+        identity_len: usize,
+    ) -> Place;
 
     fn obscurlane_check_fingerprint(record: *const u8, record_len: usize) -> Checked;
     fn obscurlane_write_fingerprint(
@@ -495,6 +531,55 @@ pub fn read_mail(text: &[u8], out: &mut [u8]) -> Written {
 pub fn newer(first: &[u8], second: &[u8]) -> Choice {
     // SAFETY: slices' pointers and lengths, which are only read.
     unsafe { obscurlane_newer(first.as_ptr(), first.len(), second.as_ptr(), second.len()) }
+}
+
+// ---- the key cabinet
+
+#[inline]
+pub fn make_cabinet(cabinet: &mut [u8]) -> Filed {
+    // SAFETY: a slice's pointer and length, which overlaps nothing.
+    unsafe { obscurlane_make_cabinet(cabinet.as_mut_ptr(), cabinet.len()) }
+}
+
+#[inline]
+pub fn check_cabinet(cabinet: &[u8]) -> Filed {
+    // SAFETY: a slice's pointer and length.
+    unsafe { obscurlane_check_cabinet(cabinet.as_ptr(), cabinet.len()) }
+}
+
+#[inline]
+pub fn count_keys(cabinet: &[u8]) -> Counted {
+    // SAFETY: a slice's pointer and length.
+    unsafe { obscurlane_count_keys(cabinet.as_ptr(), cabinet.len()) }
+}
+
+#[inline]
+pub fn put_key(cabinet: &mut [u8], record: &[u8]) -> Filed {
+    // SAFETY: slices' pointers and lengths, and `cabinet` overlaps nothing.
+    unsafe {
+        obscurlane_put_key(cabinet.as_mut_ptr(), cabinet.len(), record.as_ptr(), record.len())
+    }
+}
+
+#[inline]
+pub fn remove_key(cabinet: &mut [u8], identity: &[u8]) -> Filed {
+    // SAFETY: slices' pointers and lengths, and `cabinet` overlaps nothing.
+    unsafe {
+        obscurlane_remove_key(
+            cabinet.as_mut_ptr(),
+            cabinet.len(),
+            identity.as_ptr(),
+            identity.len(),
+        )
+    }
+}
+
+#[inline]
+pub fn find_key(cabinet: &[u8], identity: &[u8]) -> Place {
+    // SAFETY: slices' pointers and lengths, which are only read.
+    unsafe {
+        obscurlane_find_key(cabinet.as_ptr(), cabinet.len(), identity.as_ptr(), identity.len())
+    }
 }
 
 // ---- the Fingerprint of a public key, SHA-384 and SHA-1

@@ -12,6 +12,7 @@ use compare::trailed::line_of;
 use compare::worked::worked;
 use compare::{agreement, file, record, text};
 use held::attributes::{same_attribute, same_attributes, same_named};
+use held::cabinet::{Both, NO_CABINET};
 use held::confirm::{same_request, same_response};
 use held::fingerprint::same_fingerprint;
 use held::hash::Hash;
@@ -19,7 +20,7 @@ use held::mail::{same_block, same_mail};
 use held::reading::{same_identity, same_record};
 use held::trailed::{same_trailed, same_trailed_at, same_trailed_file, same_written};
 use held::{expected, expected_at, line_numbers, numbers, place, same_output};
-use obscurlane::{Refusal, Sha1, Sha384};
+use obscurlane::{Cabinet, Refusal, Sha1, Sha384};
 
 /// What a length in two bytes forgets.
 const MORE: usize = 1 << 16;
@@ -362,5 +363,27 @@ fn records_by_mail() {
 fn what_is_made_longer_is_accepted() {
     for (kind, fields) in records() {
         assert!(record::read(&sample::of_kind(kind, &fields), &[kind]).is_ok());
+    }
+}
+
+/// A record and an identity that are longer, and the bytes of a cabinet with as many behind them or before them; a length of 0 is
+/// that of a cabinet modulo 65,536.
+#[test]
+fn cabinets() {
+    let mut both = Both::new();
+    assert_eq!(both.put(&worked("PUBKEY_SM")), Ok(()));
+    for longer in longer(&worked("PUBKEY_KMC")) {
+        assert_eq!(both.put(&longer), Err((1, 0)));
+    }
+    for longer in longer(&worked("ID_SM")) {
+        assert_eq!(both.find(&longer), Err((1, 0)));
+        assert_eq!(both.remove(&longer), Err((1, 0)));
+    }
+    let zeros = [0; MORE];
+    let [behind, before] = [[&both.bytes[..], &zeros].concat(), [&zeros, &both.bytes[..]].concat()];
+    for bytes in [&behind[..], &before, &behind[..0]] {
+        assert_eq!(numbers(obscurlane::check_cabinet(bytes)), Err(NO_CABINET));
+        assert_eq!(numbers(obscurlane::find_key(bytes, &worked("ID_SM"))), Err(NO_CABINET));
+        assert_eq!(numbers(Cabinet::make(&mut bytes.to_vec()).map(drop)), Err(NO_CABINET));
     }
 }

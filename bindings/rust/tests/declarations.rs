@@ -8,7 +8,7 @@ use std::path::{Path, PathBuf};
 
 /// The structs that are handed over: as `crates/exports` names them, and in C. `sys` has them by the words of the latter behind the
 /// first.
-const STRUCTS: [(&str, &str); 16] = [
+const STRUCTS: [(&str, &str); 18] = [
     ("reading::Answer", "obscurlane_answer"),
     ("fields::Place", "obscurlane_place"),
     ("put::Written", "obscurlane_written"),
@@ -25,6 +25,8 @@ const STRUCTS: [(&str, &str); 16] = [
     ("Sha1Digest", "obscurlane_sha1_digest"),
     ("sha1::Words", "obscurlane_sha1_words"),
     ("sha1::Sha1", "obscurlane_sha1_state"),
+    ("cabinet::Filed", "obscurlane_filed"),
+    ("cabinet::Counted", "obscurlane_counted"),
 ];
 
 // ---- the files
@@ -162,12 +164,17 @@ fn constants(crate_name: &str) -> Vec<(String, usize)> {
     constants.collect()
 }
 
-/// What the crates set a name of the header to, which is the name of a constant in one of them or in several.
+/// What the crates set a name of the header to, which is the name of a constant in one of them or in several; a kind's is one of
+/// the table's, and a cabinet's length one of that crate's.
 fn in_the_crates(name: &str) -> BTreeSet<usize> {
-    let kind = name.strip_prefix("KIND_");
-    let crates = if kind.is_some() { BTreeSet::from(["table".into()]) } else { linked_crates() };
+    let groups = [("KIND_", "table"), ("CABINET_", "cabinet")];
+    let of_one = groups.iter().find_map(|(group, of)| Some((*of, name.strip_prefix(group)?)));
+    let (crates, name) = match of_one {
+        Some((of, rest)) => (BTreeSet::from([of.to_owned()]), rest),
+        None => (linked_crates(), name),
+    };
     let all = crates.iter().flat_map(|crate_name| constants(crate_name));
-    all.filter(|(constant, _)| constant == kind.unwrap_or(name)).map(|(_, set)| set).collect()
+    all.filter(|(constant, _)| constant == name).map(|(_, set)| set).collect()
 }
 
 // ---- how C and Rust write it
@@ -319,7 +326,9 @@ fn header_names() -> Vec<(String, String)> {
 }
 
 fn is_length(name: &str) -> bool {
-    name.starts_with("LONGEST_") || name.ends_with("_BYTES") || name == "TRAILER"
+    ["LONGEST_", "CABINET_"].iter().any(|group| name.starts_with(group))
+        || name.ends_with("_BYTES")
+        || name == "TRAILER"
 }
 
 /// The numbers of a group of the header's names, by the rest of each name. Lengths are in no group.
@@ -356,7 +365,7 @@ fn hold<T: Ord + std::fmt::Debug>(declared: Vec<T>, exported: Vec<T>) {
 #[test]
 fn the_header_declares_every_function() {
     let mut there: Vec<String> = functions().iter().map(c_declaration).collect();
-    assert_eq!(there.len(), 46);
+    assert_eq!(there.len(), 52);
     there.extend(functions_of_c());
     hold(header_declarations(), there);
 }

@@ -1,6 +1,6 @@
 //! Every byte value in one place of what is otherwise right, held against `compare/`: in every place of every text type, of an
 //! attribute list, of a key agreement text, of a trailer, of a file and of a text with a record by mail, and in the kinds of places
-//! that a record has.
+//! that a record has, one in a cabinet too.
 
 mod held;
 
@@ -13,13 +13,14 @@ use compare::trailed::line_of;
 use compare::worked::worked;
 use compare::{agreement, file, text};
 use held::attributes::{same_attributes, same_named};
+use held::cabinet::is_place;
 use held::confirm::{same_request, same_response};
 use held::fingerprint::same_fingerprint;
 use held::mail::{same_block, same_mail};
 use held::reading::{same_identity, same_record};
 use held::trailed::{same_trailed, same_trailed_at, same_trailed_file, same_written};
 use held::{expected, expected_at, line_numbers, numbers, place, same_output, Seen};
-use obscurlane::{LONGEST_MAIL, LONGEST_RECORD};
+use obscurlane::{CABINET_SIZE, CABINET_WIDTH, LONGEST_MAIL, LONGEST_RECORD};
 
 /// Tries every byte value in one place.
 fn at_place(bytes: &[u8], place: usize, mut tried: impl FnMut(&[u8])) {
@@ -417,6 +418,40 @@ fn texts_with_mail() {
     let mut seen = Seen::default();
     everywhere(&text, |text| seen.add(&same_mail(text, LONGEST_RECORD)));
     seen.expect([0, 2, 3, 4, 21, 22], 10);
+}
+
+/// In a record in a cabinet, with its check made right again and as it was, and behind it; and in every sixteenth place of a free one.
+#[test]
+fn cabinets() {
+    let mut image = vec![0; CABINET_SIZE];
+    let (mut accepted, mut refused) = (0, 0);
+    let mut same = |number: usize, bytes: &[u8]| {
+        image[number * CABINET_WIDTH..][..CABINET_WIDTH].copy_from_slice(bytes);
+        let answer = numbers(obscurlane::check_cabinet(&image));
+        assert_eq!(answer, is_place(bytes).then_some(()).ok_or((23, 0)), "{bytes:?}");
+        *if answer.is_ok() { &mut accepted } else { &mut refused } += 1;
+        image[number * CABINET_WIDTH..][..CABINET_WIDTH].fill(0);
+    };
+    for (kind, fields) in fields_of_kinds() {
+        let mut place = sample::of_kind(kind, &fields);
+        let len = place.len();
+        place.resize(CABINET_WIDTH, 0);
+        if !Kind::PUBLIC_KEYS.contains(&kind) {
+            same(63, &place);
+            continue;
+        }
+        for at in places(kind, &fields).into_iter().chain([len, len + 1, CABINET_WIDTH - 1]) {
+            at_place(&place, at, |changed| {
+                let record = sample::resealed(&changed[..len]);
+                same(5, &[&record, &changed[len..]].concat());
+                same(5, changed);
+            });
+        }
+    }
+    for at in (0..CABINET_WIDTH).step_by(16).chain([CABINET_WIDTH - 1]) {
+        at_place(&[0; CABINET_WIDTH], at, |changed| same(at % 64, changed));
+    }
+    assert!(accepted > 1000 && refused > 1000, "{accepted} {refused}");
 }
 
 /// Two lines, and every byte value in every place of them, the line feeds among them.

@@ -1,5 +1,5 @@
 //! Each `LONGEST_` constant is the length of the longest thing of its name: it is made, and one byte less is no room for it. Each
-//! `_BYTES` constant, and `TRAILER`, is the only length that there is of its name.
+//! `_BYTES` constant, `TRAILER` and `CABINET_SIZE`, is the only length that there is of its name.
 //! What the table of kinds allows is computed by `compare/`.
 
 use compare::kind::{FieldType, Kind};
@@ -7,8 +7,8 @@ use compare::random::Random;
 use compare::sample::{self, Exchange, PublicKey};
 use obscurlane::{confirm_request, confirm_response, ConfirmRefusal};
 use obscurlane::{
-    Reason, Record, Refusal, KEY_BYTES, LONGEST_MAIL, LONGEST_READ, LONGEST_TRAILED, TRAILER,
-    Z_BYTES,
+    Cabinet, Reason, Record, Refusal, CABINET_PLACES, CABINET_SIZE, CABINET_WIDTH, KEY_BYTES,
+    LONGEST_MAIL, LONGEST_READ, LONGEST_TRAILED, TRAILER, Z_BYTES,
 };
 
 /// What a call writes with as much room as it takes; one byte less is no room.
@@ -216,5 +216,32 @@ fn bytes_that_are_read() {
         let reason = |bytes| read(bytes).expect_err("no record").reason;
         assert_eq!(reason(&longer[1..]), Reason::UnknownKind);
         assert_eq!(reason(&longer), Reason::TooLong);
+    }
+}
+
+/// Bytes of this length alone are a cabinet; it takes so many keys, each at the front of a place, and no more.
+#[test]
+fn cabinets() {
+    assert_eq!(CABINET_SIZE, CABINET_PLACES * CABINET_WIDTH);
+    for len in [0, CABINET_SIZE - 1, CABINET_SIZE + 1, 2 * CABINET_SIZE] {
+        let refusal = Cabinet::make(&mut vec![0; len]).expect_err("another length");
+        assert_eq!(refusal, Refusal { reason: Reason::NotCabinet, field: None });
+    }
+    let mut bytes = vec![0; CABINET_SIZE];
+    let mut cabinet = Cabinet::make(&mut bytes).expect("its length");
+    let mut fields = sample::longest_fields(&mut Random::with_seed(54), Kind::PkEcdsa);
+    let mut subject = sample::longest_fields(&mut Random::with_seed(55), Kind::Smman);
+    for number in 0..=CABINET_PLACES {
+        subject[1] = format!("{number:032}").into_bytes();
+        fields[0] = sample::of_kind(Kind::Smman, &subject);
+        let key = sample::of_kind(Kind::PkEcdsa, &fields);
+        assert_eq!(key.len(), obscurlane::LONGEST_PUBKEY);
+        let put = cabinet.put(&key).map_err(|refusal| refusal.reason);
+        if number == CABINET_PLACES {
+            assert_eq!(put, Err(Reason::NoPlace));
+        } else {
+            assert_eq!(put, Ok(()));
+            assert!(cabinet.bytes()[number * CABINET_WIDTH..].starts_with(&key));
+        }
     }
 }

@@ -3,6 +3,7 @@
 #![allow(dead_code)] // each program takes what it needs
 
 pub mod attributes;
+pub mod cabinet;
 pub mod confirm;
 pub mod fingerprint;
 pub mod hash;
@@ -119,7 +120,7 @@ pub fn expected_at(file: &[u8], place: usize) -> Option<LineNumbers> {
 
 /// How often each number was answered, 0 being accepted.
 #[derive(Debug, Default)]
-pub struct Seen([usize; 23]);
+pub struct Seen([usize; 27]);
 
 impl Seen {
     pub fn add<T>(&mut self, answer: &Result<T, Numbers>) {

@@ -1,0 +1,222 @@
+//! The centre's key cabinet: up to 64 public keys in 65,536 lent bytes.
+
+use crate::record::part;
+use crate::{sys, Refusal};
+use core::fmt;
+
+/// The centre's key cabinet: up to [`CABINET_PLACES`](crate::CABINET_PLACES) public keys in
+/// [`CABINET_SIZE`](crate::CABINET_SIZE) lent bytes.
+///
+/// Each of its places of [`CABINET_WIDTH`](crate::CABINET_WIDTH) bytes is free, and then all zeros; or it starts with a public key
+/// that [`Record::read`](crate::Record::read) accepts, and has zeros after it. No two of the records share Subject kind,
+/// Manufacturer and MID: by these three a key is found, replaced and taken out. The lent bytes are all that there is of a cabinet,
+/// so that a program may store them and open them again. All other memory is no cabinet.
+///
+/// Every call asks first whether the bytes are a cabinet, and so reads every record in it again. A refused call leaves all of them
+/// as they were, and one that changes a place leaves all others.
+///
+/// ```
+/// use obscurlane::{build, Cabinet, Reason, CABINET_SIZE, LONGEST_IDENTITY, LONGEST_RECORD};
+///
+/// // the identity of a module with this GNT, and its key
+/// fn identity(gnt: &str) -> Vec<u8> {
+///     let mut out = [0; LONGEST_IDENTITY];
+///     let fields = format!("Prism06000001{gnt}320C265FDC769D3E");
+///     let len = build(b"SMID.1", fields.as_bytes(), &[5, 8, 16, 16], &mut out).unwrap();
+///     out[..len].to_vec()
+/// }
+/// fn key(gnt: &str) -> Vec<u8> {
+///     let (subject, mut out) = (identity(gnt), [0; LONGEST_RECORD]);
+///     let fields = [&subject[..], b"04", &[b'A'; 192], b"20310110T120000Z"].concat();
+///     let len = build(b"PK.ECDH.1", &fields, &[subject.len(), 194, 16, 0, 0], &mut out).unwrap();
+///     out[..len].to_vec()
+/// }
+/// let (old, new) = (key("20180120T090000Z"), key("20190120T090000Z"));
+///
+/// let mut bytes = vec![0xFF; CABINET_SIZE];
+/// let mut cabinet = Cabinet::make(&mut bytes)?;
+/// cabinet.put(&old)?;
+///
+/// // a later key takes the place of the one before, and no other does
+/// cabinet.put(&new)?;
+/// assert_eq!(cabinet.put(&old).unwrap_err().reason, Reason::NotLater);
+/// assert_eq!(cabinet.count(), Ok(1));
+///
+/// // found by kind, Manufacturer and MID, whatever the GNT
+/// assert_eq!(cabinet.find(&identity("19930101T000000Z"))?, new);
+///
+/// // the bytes are the cabinet
+/// assert_eq!(obscurlane::find_key(&bytes, &identity("19930101T000000Z")), Ok(&new[..]));
+/// let mut cabinet = Cabinet::open(&mut bytes)?;
+/// cabinet.remove(&identity("20180120T090000Z"))?;
+/// assert!(bytes.iter().all(|&byte| byte == 0));
+/// # Ok::<(), obscurlane::Refusal>(())
+/// ```
+#[derive(PartialEq, Eq)]
+pub struct Cabinet<'a> {
+    bytes: &'a mut [u8],
+}
+
+impl<'a> Cabinet<'a> {
+    /// Makes the lent bytes an empty cabinet, whatever they were.
+    ///
+    /// ```
+    /// use obscurlane::{Cabinet, Reason, CABINET_SIZE};
+    ///
+    /// let mut bytes = vec![0xA5; CABINET_SIZE];
+    /// assert_eq!(Cabinet::make(&mut bytes)?.count(), Ok(0));
+    /// assert_eq!(Cabinet::make(&mut bytes[1..]).unwrap_err().reason, Reason::NotCabinet);
+    /// # Ok::<(), obscurlane::Refusal>(())
+    /// ```
+    ///
+    /// # Errors
+    ///
+    /// Reason 23 for bytes of another length than [`CABINET_SIZE`](crate::CABINET_SIZE), which stay as they were.
+    #[inline]
+    pub fn make(bytes: &'a mut [u8]) -> Result<Cabinet<'a>, Refusal> {
+        filed(&sys::make_cabinet(bytes))?;
+        Ok(Cabinet { bytes })
+    }
+
+    /// Opens bytes that are a cabinet, as those that were stored.
+    ///
+    /// ```
+    /// use obscurlane::{Cabinet, Reason, CABINET_SIZE};
+    ///
+    /// let mut bytes = vec![0; CABINET_SIZE];
+    /// assert!(Cabinet::open(&mut bytes).is_ok());
+    /// bytes[1023] = b' ';
+    /// assert_eq!(Cabinet::open(&mut bytes).unwrap_err().reason, Reason::NotCabinet);
+    /// ```
+    ///
+    /// # Errors
+    ///
+    /// Reason 23 for all other bytes.
+    #[inline]
+    pub fn open(bytes: &'a mut [u8]) -> Result<Cabinet<'a>, Refusal> {
+        check_cabinet(bytes)?;
+        Ok(Cabinet { bytes })
+    }
+
+    /// Puts a public key in. Where the cabinet has one of the same Subject kind, Manufacturer and MID, it is replaced in its place;
+    /// else the lowest free place is taken.
+    ///
+    /// # Errors
+    ///
+    /// The record's own refusal (reasons 1 to 9), reason 2 for a record that is no public key; then reason 24 where the GNT of its
+    /// Subject is earlier than that of the key to replace, or equal; then reason 25 where there is none to replace and no place is
+    /// free. A full cabinet takes replacements.
+    #[inline]
+    pub fn put(&mut self, record: &[u8]) -> Result<(), Refusal> {
+        filed(&sys::put_key(self.bytes, record))
+    }
+
+    /// Takes out the public key of this identity's kind, Manufacturer and MID: its place is all zeros afterwards, and is used
+    /// again. The identity must be accepted; its GNT and Fingerprint are ignored.
+    ///
+    /// # Errors
+    ///
+    /// The identity's own refusal (reasons 1 to 6), then reason 26 where there is no such key.
+    #[inline]
+    pub fn remove(&mut self, identity: &[u8]) -> Result<(), Refusal> {
+        filed(&sys::remove_key(self.bytes, identity))
+    }
+
+    /// The public key of this identity's kind, Manufacturer and MID, a part of the lent bytes. The identity must be accepted; its
+    /// GNT and Fingerprint are ignored.
+    ///
+    /// # Errors
+    ///
+    /// As [`Cabinet::remove`].
+    #[inline]
+    pub fn find(&self, identity: &[u8]) -> Result<&[u8], Refusal> {
+        find_key(self.bytes, identity)
+    }
+
+    /// How many keys the cabinet has.
+    ///
+    /// # Errors
+    ///
+    /// None while the cabinet is borrowed, because only its calls write the bytes: reason 23 is for bytes that something else has
+    /// written.
+    #[inline]
+    pub fn count(&self) -> Result<usize, Refusal> {
+        count_keys(self.bytes)
+    }
+
+    /// The lent bytes, to store them or to compare them.
+    #[must_use]
+    #[inline]
+    pub fn bytes(&self) -> &[u8] {
+        self.bytes
+    }
+}
+
+/// How many keys it has.
+impl fmt::Debug for Cabinet<'_> {
+    fn fmt(&self, f: &mut fmt::Formatter<'_>) -> fmt::Result {
+        f.debug_struct("Cabinet").field("count", &self.count()).finish_non_exhaustive()
+    }
+}
+
+/// The answer of a call that changes a cabinet, or asks whether it is one.
+#[inline]
+fn filed(filed: &sys::Filed) -> Result<(), Refusal> {
+    Refusal::check(filed.no, filed.field)
+}
+
+/// Whether the bytes are a cabinet. [`Cabinet::open`] asks the same and lets the cabinet be changed.
+///
+/// ```
+/// use obscurlane::{check_cabinet, Reason, CABINET_SIZE};
+///
+/// assert_eq!(check_cabinet(&[0; CABINET_SIZE]), Ok(()));
+/// assert_eq!(check_cabinet(&[0; CABINET_SIZE + 1]).unwrap_err().reason, Reason::NotCabinet);
+/// ```
+///
+/// # Errors
+///
+/// Reason 23 where they are none.
+#[inline]
+pub fn check_cabinet(cabinet: &[u8]) -> Result<(), Refusal> {
+    filed(&sys::check_cabinet(cabinet))
+}
+
+/// How many keys the cabinet in these bytes has.
+///
+/// ```
+/// use obscurlane::{count_keys, Reason, CABINET_SIZE};
+///
+/// assert_eq!(count_keys(&[0; CABINET_SIZE]), Ok(0));
+/// assert_eq!(count_keys(b"").unwrap_err().reason, Reason::NotCabinet);
+/// ```
+///
+/// # Errors
+///
+/// Reason 23 where they are no cabinet.
+#[inline]
+pub fn count_keys(cabinet: &[u8]) -> Result<usize, Refusal> {
+    let counted = sys::count_keys(cabinet);
+    Refusal::check(counted.no, 0).map(|()| counted.count)
+}
+
+/// The public key of an identity's kind, Manufacturer and MID, a part of the cabinet's bytes: [`Cabinet::find`] for bytes that are
+/// only read.
+///
+/// ```
+/// use obscurlane::{find_key, Reason, CABINET_SIZE};
+///
+/// let identity = b"SMID.1:Prism:06000001:20180120T090000Z:320C265FDC769D3E:8EFF";
+/// let reason = |cabinet| find_key(cabinet, identity).unwrap_err().reason;
+/// assert_eq!(reason(&[0; CABINET_SIZE][..]), Reason::NotThere);
+/// assert_eq!(reason(&[b' '; CABINET_SIZE]), Reason::NotCabinet);
+/// ```
+///
+/// # Errors
+///
+/// Reason 23 where the bytes are no cabinet, then the identity's own refusal (reasons 1 to 6), then reason 26 where there is no such
+/// key.
+#[inline]
+pub fn find_key<'a>(cabinet: &'a [u8], identity: &[u8]) -> Result<&'a [u8], Refusal> {
+    part(cabinet, &sys::find_key(cabinet, identity))
+}

@@ -1,0 +1,501 @@
+//! The centre's key cabinet, held against the plain one in `held/cabinet.rs`.
+
+mod held;
+
+use compare::kind::Kind;
+use compare::random::Random;
+use compare::sample::{self, Fault, PublicKey, Signed, Subject};
+use compare::text::PRINT_DIGITS;
+use compare::worked::{worked, IDENTITIES, RECORDS};
+use held::cabinet::{asked, names, own, Both, Held, NOT_LATER, NOT_THERE, NO_CABINET, NO_PLACE};
+use held::{first, lent, numbers, place, rounds, Numbers, Seen};
+use obscurlane::{
+    check_cabinet, count_keys, find_key, Cabinet, Reason, Record, CABINET_PLACES, CABINET_SIZE,
+    CABINET_WIDTH,
+};
+
+// ---- Subjects, keys and identities
+
+/// A Subject of this kind, Manufacturer and MID.
+fn subject(kind: Kind, manufacturer: &[u8], mid: &[u8], gnt: &[u8]) -> Subject {
+    let [manufacturer, mid, gnt] = [manufacturer, mid, gnt].map(<[u8]>::to_vec);
+    Subject { kind, manufacturer, mid, gnt }
+}
+
+/// Subjects that differ in their kind alone, in Manufacturer or in MID.
+fn nth(number: usize) -> Subject {
+    let kind = Kind::IDENTITIES[number % 3];
+    let manufacturer: &[u8] = if number % 2 == 0 { b"Prism" } else { b"Prism0" };
+    subject(kind, manufacturer, format!("{:08}", number / 6).as_bytes(), b"20180120T090000Z")
+}
+
+fn at(mut subject: Subject, gnt: &[u8]) -> Subject {
+    subject.gnt = gnt.to_vec();
+    subject
+}
+
+/// A permitted key of this Subject.
+fn key(random: &mut Random, subject: &Subject) -> Vec<u8> {
+    let signed = Signed::any(random);
+    PublicKey::of(random, subject.clone(), signed).record()
+}
+
+/// The identity of these names, with another GNT and another Fingerprint.
+fn identity(random: &mut Random, subject: &Subject) -> Vec<u8> {
+    let gnt = sample::timestamp(random);
+    at(subject.clone(), &gnt).identity(sample::hex(random, PRINT_DIGITS))
+}
+
+/// A cabinet with the first so many Subjects.
+fn filled(random: &mut Random, count: usize) -> Both {
+    let mut both = Both::new();
+    for number in 0..count {
+        assert_eq!(both.put(&key(random, &nth(number))), Ok(()));
+    }
+    both
+}
+
+const EARLIER: &[u8] = b"20180120T085959Z";
+const EQUAL: &[u8] = b"20180120T090000Z";
+const LATER: &[u8] = b"20180120T090001Z";
+
+// ---- the request's words
+
+#[test]
+fn sixty_four_subjects_and_one_more() {
+    let mut random = Random::with_seed(201);
+    let mut both = filled(&mut random, CABINET_PLACES);
+    assert_eq!(count_keys(&both.bytes), Ok(64));
+    for number in CABINET_PLACES..CABINET_PLACES + 6 {
+        for gnt in [EARLIER, LATER] {
+            let key = key(&mut random, &at(nth(number), gnt));
+            assert_eq!(both.put(&key), Err(NO_PLACE));
+        }
+        assert_eq!(both.find(&identity(&mut random, &nth(number))), Err(NOT_THERE));
+        assert_eq!(both.remove(&identity(&mut random, &nth(number))), Err(NOT_THERE));
+    }
+    for number in 0..CABINET_PLACES {
+        assert!(both.find(&identity(&mut random, &nth(number))).is_ok());
+    }
+}
+
+/// When it is full too; the place is the same.
+#[test]
+fn replacements() {
+    let mut random = Random::with_seed(202);
+    for count in [1, 5, CABINET_PLACES] {
+        let mut both = filled(&mut random, count);
+        for number in 0..count {
+            let before = both.model.place_of(&names(&nth(number)));
+            let mut put = |gnt: &[u8]| both.put(&key(&mut random, &at(nth(number), gnt)));
+            assert_eq!(put(EARLIER), Err(NOT_LATER));
+            assert_eq!(put(EQUAL), Err(NOT_LATER));
+            assert_eq!(put(LATER), Ok(()));
+            assert_eq!(put(LATER), Err(NOT_LATER));
+            assert_eq!(put(EQUAL), Err(NOT_LATER));
+            assert_eq!(both.model.place_of(&names(&nth(number))), before);
+        }
+    }
+}
+
+/// In every order of the digits of a GNT.
+#[test]
+fn every_digit_of_the_gnt() {
+    let mut random = Random::with_seed(203);
+    for _ in 0..rounds().div_ceil(10) {
+        let (one, other) = (sample::timestamp(&mut random), sample::timestamp(&mut random));
+        let mut both = Both::new();
+        assert_eq!(both.put(&key(&mut random, &at(nth(0), &one))), Ok(()));
+        let wanted = if one < other { Ok(()) } else { Err(NOT_LATER) };
+        assert_eq!(both.put(&key(&mut random, &at(nth(0), &other))), wanted);
+    }
+}
+
+#[test]
+fn all_removed_and_put_again() {
+    let mut random = Random::with_seed(204);
+    let mut both = filled(&mut random, CABINET_PLACES);
+    for number in 0..CABINET_PLACES {
+        let gone = nth(number * 27 % CABINET_PLACES);
+        assert_eq!(both.remove(&identity(&mut random, &gone)), Ok(()));
+        assert_eq!(both.remove(&identity(&mut random, &gone)), Err(NOT_THERE));
+        assert_eq!(both.find(&identity(&mut random, &gone)), Err(NOT_THERE));
+    }
+    assert!(both.bytes.iter().all(|&byte| byte == 0));
+    // An earlier GNT than the one that was there is no hindrance.
+    for number in (0..CABINET_PLACES).rev() {
+        assert_eq!(both.put(&key(&mut random, &at(nth(number), EARLIER))), Ok(()));
+    }
+    assert_eq!(both.put(&key(&mut random, &nth(CABINET_PLACES))), Err(NO_PLACE));
+}
+
+/// The lowest place that was given up is taken first.
+#[test]
+fn places_are_used_again() {
+    let mut random = Random::with_seed(205);
+    let mut both = filled(&mut random, CABINET_PLACES);
+    for (number, gone) in (CABINET_PLACES..).zip([40, 9, 63, 0]) {
+        assert_eq!(both.remove(&identity(&mut random, &nth(gone))), Ok(()));
+        assert_eq!(both.put(&key(&mut random, &nth(number))), Ok(()));
+        assert_eq!(both.model.place_of(&names(&nth(number))), Some(gone));
+    }
+    for gone in [50, 20, 30] {
+        assert_eq!(both.remove(&identity(&mut random, &nth(gone))), Ok(()));
+    }
+    for (number, place) in [(50, 20), (20, 30), (30, 50)] {
+        assert_eq!(both.put(&key(&mut random, &nth(number))), Ok(()));
+        assert_eq!(both.model.place_of(&names(&nth(number))), Some(place));
+    }
+}
+
+#[test]
+fn the_worked_keys() {
+    let mut both = Both::new();
+    let keys = [("ID_KMC", "PUBKEY_KMC"), ("ID_MAN", "PUBKEY_MAN"), ("ID_SM", "PUBKEY_SM_NOSIG")];
+    for (name, key) in keys {
+        assert_eq!(both.find(&worked(name)), Err(NOT_THERE));
+        assert_eq!(both.put(&worked(key)), Ok(()));
+        assert_eq!(both.put(&worked(key)), Err(NOT_LATER));
+        assert_eq!(both.find(&worked(name)), Ok(worked(key)));
+    }
+    // The signed key of the module has the same GNT.
+    assert_eq!(both.put(&worked("PUBKEY_SM")), Err(NOT_LATER));
+    assert_eq!(both.remove(&worked("ID_SM")), Ok(()));
+    assert_eq!(both.put(&worked("PUBKEY_SM")), Ok(()));
+    assert_eq!(both.find(&worked("ID_SM")), Ok(worked("PUBKEY_SM")));
+    assert_eq!(both.find(&worked("APPA_ID_SM")), Err(NOT_THERE));
+    for name in RECORDS {
+        assert!(both.put(&worked(name)).is_err(), "{name}");
+        assert_eq!(both.find(&worked(name)), Err((2, 0)), "{name}");
+    }
+    for name in IDENTITIES {
+        assert_eq!(both.put(&worked(name)), Err((2, 0)), "{name}");
+    }
+}
+
+/// Another kind, Manufacturer or MID, nearly the same ones too, is another Subject; another GNT or Fingerprint is not.
+#[test]
+fn other_names() {
+    let mut random = Random::with_seed(206);
+    let one = subject(Kind::Smid, b"Prism", b"06000001", EQUAL);
+    let longest = [b'A'; obscurlane::LONGEST_IDENT];
+    let others = [
+        subject(Kind::Kmcid, b"Prism", b"06000001", EQUAL),
+        subject(Kind::Smman, b"Prism", b"06000001", EQUAL),
+        subject(Kind::Smid, b"prism", b"06000001", EQUAL),
+        subject(Kind::Smid, b"Pris", b"06000001", EQUAL),
+        subject(Kind::Smid, b"Prism0", b"06000001", EQUAL),
+        subject(Kind::Smid, b"Prism0", b"6000001", EQUAL),
+        subject(Kind::Smid, b"Prism", b"0600000", EQUAL),
+        subject(Kind::Smid, b"Prism", b"060000011", EQUAL),
+        subject(Kind::Smid, b"Prism", b"06000002", EQUAL),
+        subject(Kind::Smid, b"06000001", b"Prism", EQUAL),
+        subject(Kind::Smid, b"P", b"0", EQUAL),
+        subject(Kind::Smid, &longest, &longest, EQUAL),
+        subject(Kind::Smid, &longest, &longest[1..], EQUAL),
+    ];
+    let mut both = Both::new();
+    assert_eq!(both.put(&key(&mut random, &one)), Ok(()));
+    for _ in 0..100 {
+        assert!(both.find(&identity(&mut random, &one)).is_ok());
+    }
+    for other in &others {
+        assert_eq!(both.find(&identity(&mut random, other)), Err(NOT_THERE));
+        assert_eq!(both.remove(&identity(&mut random, other)), Err(NOT_THERE));
+    }
+    for other in &others {
+        assert_eq!(both.put(&key(&mut random, other)), Ok(()));
+    }
+    assert_eq!(count_keys(&both.bytes), Ok(1 + others.len()));
+    for other in &others {
+        assert!(both.find(&identity(&mut random, other)).is_ok());
+        assert_eq!(both.remove(&identity(&mut random, other)), Ok(()));
+    }
+    assert!(both.find(&identity(&mut random, &one)).is_ok());
+}
+
+// ---- the order of the numbers
+
+/// Every choice of: no cabinet, a record with a fault, a GNT that is not later, no free place.
+#[test]
+fn every_choice_of_faults_in_a_put() {
+    let mut random = Random::with_seed(207);
+    let full = filled(&mut random, CABINET_PLACES).bytes;
+    let less = filled(&mut random, CABINET_PLACES - 1).bytes;
+    for choice in 0..16 {
+        let [is_none, is_faulty, is_there, is_full] = [1, 2, 4, 8].map(|bit| choice & bit != 0);
+        for &fault in Fault::of(Kind::PkEcdh) {
+            let whose = if is_there { nth(7) } else { nth(CABINET_PLACES + 1) };
+            let mut record = key(&mut random, &whose);
+            let mut wrong = (0, 0);
+            if is_faulty {
+                record = sample::faulty(&mut random, Kind::PkEcdh, &[fault]);
+                wrong = own(&record).expect_err("it is faulty");
+            }
+            let mut bytes = if is_full { full.clone() } else { less.clone() };
+            if is_none {
+                let place = random.below(CABINET_PLACES - 1);
+                bytes[place * CABINET_WIDTH + 1000] = random.one_of(b"\n 0A");
+            }
+            let before = bytes.clone();
+            let wanted = first([
+                (is_none, NO_CABINET),
+                (is_faulty, wrong),
+                (is_there, NOT_LATER),
+                (is_full, NO_PLACE),
+            ]);
+            let said = put(&mut bytes, &record);
+            assert_eq!(said, wanted, "{choice} {fault:?}");
+            assert!(said.is_ok() || bytes == before, "{choice}");
+        }
+    }
+}
+
+/// Every choice of: no cabinet, an identity with a fault, none of its names there.
+#[test]
+fn every_choice_of_faults_in_an_identity() {
+    let mut random = Random::with_seed(208);
+    let some = filled(&mut random, 20).bytes;
+    for choice in 0..8 {
+        let [is_none, is_faulty, is_absent] = [1, 2, 4].map(|bit| choice & bit != 0);
+        for kind in Kind::IDENTITIES {
+            for &fault in Fault::of(kind) {
+                let whose = if is_absent { nth(21) } else { nth(11) };
+                let mut asking = identity(&mut random, &whose);
+                let mut wrong = (0, 0);
+                if is_faulty {
+                    asking = sample::faulty(&mut random, kind, &[fault]);
+                    wrong = asked(&asking).expect_err("it is faulty");
+                }
+                let mut bytes = some.clone();
+                if is_none {
+                    let last = bytes.len() - 1;
+                    bytes[random.one_of(&[0, 1023, 40_000, last])] ^= 0x80;
+                }
+                let before = bytes.clone();
+                let wanted =
+                    first([(is_none, NO_CABINET), (is_faulty, wrong), (is_absent, NOT_THERE)]);
+                assert_eq!(numbers(find_key(&bytes, &asking)).map(drop), wanted, "{choice}");
+                assert!(bytes == before);
+                let said = remove(&mut bytes, &asking);
+                assert_eq!(said, wanted, "{choice} {fault:?}");
+                assert!(said.is_ok() || bytes == before, "{choice}");
+            }
+        }
+    }
+}
+
+// ---- what is no cabinet
+
+/// The calls of a cabinet on bytes that may be none.
+fn put(bytes: &mut [u8], record: &[u8]) -> Result<(), Numbers> {
+    numbers(Cabinet::open(bytes).and_then(|mut cabinet| cabinet.put(record)))
+}
+
+fn remove(bytes: &mut [u8], identity: &[u8]) -> Result<(), Numbers> {
+    numbers(Cabinet::open(bytes).and_then(|mut cabinet| cabinet.remove(identity)))
+}
+
+/// 23 from every call, and no byte is another.
+fn expect_no_cabinet(bytes: &mut [u8], what: &str) {
+    let before = bytes.to_vec();
+    assert_eq!(numbers(check_cabinet(bytes)), Err(NO_CABINET), "{what}");
+    assert_eq!(numbers(count_keys(bytes)), Err(NO_CABINET), "{what}");
+    for text in [worked("PUBKEY_SM"), worked("ID_SM"), worked("ID_KMC"), Vec::new()] {
+        assert_eq!(numbers(find_key(bytes, &text)), Err(NO_CABINET), "{what}");
+        assert_eq!(put(bytes, &text), Err(NO_CABINET), "{what}");
+        assert_eq!(remove(bytes, &text), Err(NO_CABINET), "{what}");
+    }
+    assert_eq!(Cabinet::open(bytes).unwrap_err().reason, Reason::NotCabinet, "{what}");
+    assert!(bytes == before, "{what}");
+}
+
+/// A cabinet with these bytes at the front of a place, and zeros after them.
+fn with_place(cabinet: &[u8], place: usize, front: &[u8]) -> Vec<u8> {
+    let mut bytes = cabinet.to_vec();
+    let part = &mut bytes[place * CABINET_WIDTH..][..CABINET_WIDTH];
+    part.fill(0);
+    part[..front.len()].copy_from_slice(front);
+    bytes
+}
+
+#[test]
+fn other_lengths() {
+    let mut random = Random::with_seed(209);
+    let whole = filled(&mut random, 3).bytes;
+    let twice = [&whole[..], &whole].concat();
+    let padded = [&whole[..], &[0; CABINET_SIZE]].concat();
+    for len in [0, 1, 1023, 1024, 64, 65_535, 65_537, 65_536 + 1024, 131_071, 131_072] {
+        for bytes in [&twice, &padded, &vec![0; 131_072]] {
+            expect_no_cabinet(&mut bytes[..len].to_vec(), &format!("{len} bytes"));
+        }
+        let mut bytes = lent(len);
+        assert_eq!(numbers(Cabinet::make(&mut bytes).map(drop)), Err(NO_CABINET));
+        assert_eq!(bytes, lent(len));
+    }
+}
+
+/// A byte that is not zero, in a free place or behind a record.
+#[test]
+fn bytes_that_are_not_zeros() {
+    let mut random = Random::with_seed(210);
+    let both = filled(&mut random, 3);
+    let len = both.model.0[2].as_ref().expect("a key").record.len();
+    let ends = (2 * CABINET_WIDTH + len..3 * CABINET_WIDTH).step_by(7);
+    let free = (3..CABINET_PLACES).map(|place| place * CABINET_WIDTH);
+    let free = free.flat_map(|start| [start, start + 1, start + 1023]);
+    for at in ends.chain(free).chain([2 * CABINET_WIDTH + len]) {
+        let mut bytes = both.bytes.clone();
+        bytes[at] = random.one_of(b"\x01\n\r 0AP|#\x80\xFF");
+        expect_no_cabinet(&mut bytes, &format!("byte {at}"));
+    }
+}
+
+/// In every place of a record, another byte and a zero.
+#[test]
+fn damaged_records() {
+    let mut random = Random::with_seed(211);
+    let both = filled(&mut random, 2);
+    let len = both.model.0[1].as_ref().expect("a key").record.len();
+    for at in CABINET_WIDTH..CABINET_WIDTH + len {
+        for byte in [0, both.bytes[at] ^ (1 << (at % 8))] {
+            let mut bytes = both.bytes.clone();
+            bytes[at] = byte;
+            expect_no_cabinet(&mut bytes, &format!("{byte} at {at}"));
+        }
+    }
+}
+
+/// A record that is cut, moved, followed by another or by a line feed; of another kind; or refused.
+#[test]
+fn other_contents() {
+    let mut random = Random::with_seed(212);
+    let both = filled(&mut random, 3);
+    let other = key(&mut random, &nth(9));
+    assert_eq!(numbers(check_cabinet(&with_place(&both.bytes, 40, &other))), Ok(()));
+    let mut wrong: Vec<Vec<u8>> = (1..other.len()).map(|len| other[..len].to_vec()).collect();
+    wrong.extend((1..other.len()).map(|len| other[len..].to_vec()));
+    wrong.extend([
+        [b"\0", &other[..]].concat(),
+        [&other[..], b"\n"].concat(),
+        [&other[..], b"\0\0", &other[..20]].concat(),
+        [&other[..], &key(&mut random, &nth(10))[..200]].concat(),
+        sample::anything(&mut random).into_iter().take(1).collect(),
+    ]);
+    for kind in Kind::ALL {
+        if !Kind::PUBLIC_KEYS.contains(&kind) {
+            wrong.push(sample::record(&mut random, kind));
+            continue;
+        }
+        for &fault in Fault::of(kind) {
+            let faulty = sample::faulty(&mut random, kind, &[fault]);
+            if faulty.len() <= CABINET_WIDTH {
+                wrong.push(faulty);
+            }
+        }
+    }
+    for front in wrong.iter().filter(|front| !front.is_empty()) {
+        expect_no_cabinet(&mut with_place(&both.bytes, 40, front), &format!("{front:?}"));
+    }
+}
+
+/// Of two records with the same names in any two places, whatever their GNTs.
+#[test]
+fn the_same_names_twice() {
+    let mut random = Random::with_seed(213);
+    for count in [1, 3, CABINET_PLACES] {
+        let both = filled(&mut random, count);
+        for _ in 0..rounds().div_ceil(100) {
+            let number = random.below(count);
+            let place = (number + 1 + random.below(CABINET_PLACES - 1)) % CABINET_PLACES;
+            let gnt = random.one_of(&[EARLIER, EQUAL, LATER]);
+            let twice = key(&mut random, &at(nth(number), gnt));
+            let mut bytes = with_place(&both.bytes, place, &twice);
+            expect_no_cabinet(&mut bytes, &format!("{number} in {place}"));
+        }
+    }
+}
+
+/// Places may stand in any order, with free ones between them: the bytes are a cabinet all the same, and the calls go on.
+#[test]
+fn places_in_any_order() {
+    let mut random = Random::with_seed(214);
+    for _ in 0..rounds().div_ceil(100) {
+        let mut both = Both::new();
+        for number in 0..30 {
+            let at = random.below(CABINET_PLACES);
+            let record = key(&mut random, &nth(number));
+            let subject = PublicKey::of_record(&record).subject;
+            let held = Held { names: names(&subject), gnt: subject.gnt, record };
+            both.model.0[at] = Some(held);
+        }
+        both.bytes = both.model.image();
+        both.agree();
+        for number in 0..40 {
+            let _ = both.find(&identity(&mut random, &nth(number)));
+        }
+        let _ = both.put(&key(&mut random, &at(nth(3), LATER)));
+        let _ = both.remove(&identity(&mut random, &nth(4)));
+        let _ = both.put(&key(&mut random, &nth(50)));
+    }
+}
+
+// ---- histories
+
+/// What a history may have: a key of one of so many Subjects, with a GNT of few; the same, damaged; an identity; or anything.
+fn step(random: &mut Random, both: &mut Both, subjects: usize, seen: &mut Seen) {
+    let gnts =
+        [EARLIER, EQUAL, LATER, b"19930101T000000Z", b"20180121T090000Z", b"99991231T235959Z"];
+    let gnt = random.one_of(&gnts);
+    let whose = at(nth(random.below(subjects)), gnt);
+    match random.below(10) {
+        0..=4 => seen.add(&both.put(&key(random, &whose))),
+        5 | 6 => seen.add(&both.remove(&identity(random, &whose))),
+        7 => seen.add(&both.find(&identity(random, &whose))),
+        8 => {
+            let record = key(random, &whose);
+            let damaged = sample::damaged_anywhere(random, &record, 1);
+            seen.add(&both.put(&sample::resealed(&damaged)));
+            seen.add(&both.put(&damaged));
+        }
+        _ => {
+            let any = sample::anything(random);
+            seen.add(&both.put(&any));
+            seen.add(&both.remove(&any));
+            seen.add(&both.find(&any));
+        }
+    }
+}
+
+/// The occupied places number the accepted first puts less the accepted removals, and find gives the last accepted put that was not
+/// removed: so says the plain cabinet, which every call is held against.
+#[test]
+fn histories() {
+    let mut random = Random::with_seed(215);
+    let mut seen = Seen::default();
+    for subjects in [2, 10, 70, 80, 200] {
+        let mut both = Both::new();
+        for _ in 0..rounds().div_ceil(8) {
+            step(&mut random, &mut both, subjects, &mut seen);
+        }
+        for number in 0..subjects {
+            let _ = both.find(&identity(&mut random, &nth(number)));
+        }
+    }
+    seen.expect([0, 24, 25, 26, 2, 4, 6], 5);
+}
+
+// ---- the type
+
+#[test]
+fn a_cabinet_shows_its_bytes() {
+    let mut bytes = lent(CABINET_SIZE);
+    let mut cabinet = Cabinet::make(&mut bytes).expect("its length");
+    assert_eq!(format!("{cabinet:?}"), "Cabinet { count: Ok(0), .. }");
+    cabinet.put(&worked("PUBKEY_SM")).expect("a free place");
+    assert_eq!(format!("{cabinet:?}"), "Cabinet { count: Ok(1), .. }");
+    assert!(cabinet.bytes().starts_with(&worked("PUBKEY_SM")));
+    let found = cabinet.find(&worked("ID_SM")).expect("it was put");
+    assert_eq!(place(found), place(&cabinet.bytes()[..found.len()]));
+    assert_eq!(Record::read(found).map(|record| record.kind()), Ok(obscurlane::Kind::Ecdh));
+}

@@ -1,0 +1,161 @@
+//! The key cabinet, held against a plain one that is written here: 64 places, each with the names, the GNT and the record that it
+//! has. What is read, `compare/` reads.
+
+use super::{expected, lent, numbers, place, Numbers};
+use compare::kind::Kind;
+use compare::record;
+use compare::sample::{PublicKey, Subject};
+use obscurlane::{
+    check_cabinet, count_keys, find_key, Cabinet, CABINET_PLACES, CABINET_SIZE, CABINET_WIDTH,
+};
+
+pub const NO_CABINET: Numbers = (23, 0);
+pub const NOT_LATER: Numbers = (24, 0);
+pub const NO_PLACE: Numbers = (25, 0);
+pub const NOT_THERE: Numbers = (26, 0);
+
+// ---- the plain cabinet
+
+/// Subject kind, Manufacturer and MID.
+pub type Names = (Kind, Vec<u8>, Vec<u8>);
+
+pub fn names(subject: &Subject) -> Names {
+    (subject.kind, subject.manufacturer.clone(), subject.mid.clone())
+}
+
+/// What is in an occupied place.
+#[derive(Clone)]
+pub struct Held {
+    pub names: Names,
+    pub gnt: Vec<u8>,
+    pub record: Vec<u8>,
+}
+
+/// The places.
+#[derive(Clone)]
+pub struct Model(pub Vec<Option<Held>>);
+
+impl Model {
+    pub fn new() -> Model {
+        Model(vec![None; CABINET_PLACES])
+    }
+
+    pub fn place_of(&self, names: &Names) -> Option<usize> {
+        self.0.iter().position(|held| held.as_ref().is_some_and(|held| held.names == *names))
+    }
+
+    fn count(&self) -> usize {
+        self.0.iter().flatten().count()
+    }
+
+    /// Of a record that is accepted.
+    fn put(&mut self, record: &[u8]) -> Result<(), Numbers> {
+        let subject = PublicKey::of_record(record).subject;
+        let held = Held { names: names(&subject), gnt: subject.gnt, record: record.to_vec() };
+        let place = match self.place_of(&held.names) {
+            Some(place) => {
+                let before = self.0[place].as_ref().expect("it was found");
+                (before.gnt < held.gnt).then_some(place).ok_or(NOT_LATER)?
+            }
+            None => self.0.iter().position(Option::is_none).ok_or(NO_PLACE)?,
+        };
+        self.0[place] = Some(held);
+        Ok(())
+    }
+
+    fn remove(&mut self, names: &Names) -> Result<(), Numbers> {
+        let place = self.place_of(names).ok_or(NOT_THERE)?;
+        self.0[place] = None;
+        Ok(())
+    }
+
+    fn find(&self, names: &Names) -> Result<(usize, &[u8]), Numbers> {
+        let place = self.place_of(names).ok_or(NOT_THERE)?;
+        let held = self.0[place].as_ref().expect("it was found");
+        Ok((place * CABINET_WIDTH, &held.record))
+    }
+
+    pub fn image(&self) -> Vec<u8> {
+        let mut image = vec![0; CABINET_SIZE];
+        for (place, held) in image.chunks_exact_mut(CABINET_WIDTH).zip(&self.0) {
+            if let Some(Held { record, .. }) = held {
+                place[..record.len()].copy_from_slice(record);
+            }
+        }
+        image
+    }
+}
+
+// ---- both of them
+
+/// What a public key is refused with that is put into a cabinet, before 24 and 25.
+pub fn own(bytes: &[u8]) -> Result<(), Numbers> {
+    expected(record::read(bytes, &Kind::PUBLIC_KEYS)).map(drop)
+}
+
+/// Whether these bytes of a place are all zeros, or a public key and zeros after it.
+pub fn is_place(bytes: &[u8]) -> bool {
+    let len = bytes.iter().position(|&byte| byte == 0).unwrap_or(bytes.len());
+    let (front, rest) = bytes.split_at(len);
+    rest.iter().all(|&byte| byte == 0) && (front.is_empty() || own(front).is_ok())
+}
+
+/// What an identity is refused with, before 26; and its three names.
+pub fn asked(bytes: &[u8]) -> Result<Names, Numbers> {
+    let read = expected(record::read_identity(bytes))?;
+    Ok((read.kind, read.fields[0].to_vec(), read.fields[1].to_vec()))
+}
+
+/// The library's cabinet and the plain one; each call is made on both, and a cabinet of `compare/` goes beside them here.
+pub struct Both {
+    pub bytes: Vec<u8>,
+    pub model: Model,
+}
+
+impl Both {
+    pub fn new() -> Both {
+        let mut bytes = lent(CABINET_SIZE);
+        let cabinet = Cabinet::make(&mut bytes).expect("its length");
+        assert_eq!(cabinet.count(), Ok(0));
+        Both { bytes, model: Model::new() }
+    }
+
+    /// The lent bytes are those of the plain cabinet, every one.
+    pub fn agree(&self) {
+        assert!(self.bytes == self.model.image());
+        assert_eq!(check_cabinet(&self.bytes), Ok(()));
+        assert_eq!(count_keys(&self.bytes), Ok(self.model.count()));
+    }
+
+    pub fn put(&mut self, record: &[u8]) -> Result<(), Numbers> {
+        let mut cabinet = Cabinet::open(&mut self.bytes).expect("a cabinet");
+        let answer = numbers(cabinet.put(record));
+        let wanted = own(record).and_then(|()| self.model.put(record));
+        assert_eq!(answer, wanted, "{record:?}");
+        self.agree();
+        answer
+    }
+
+    pub fn remove(&mut self, identity: &[u8]) -> Result<(), Numbers> {
+        let mut cabinet = Cabinet::open(&mut self.bytes).expect("a cabinet");
+        let answer = numbers(cabinet.remove(identity));
+        let wanted = asked(identity).and_then(|names| self.model.remove(&names));
+        assert_eq!(answer, wanted, "{identity:?}");
+        self.agree();
+        answer
+    }
+
+    /// The same part of the lent bytes, not only equal ones.
+    pub fn find(&mut self, identity: &[u8]) -> Result<Vec<u8>, Numbers> {
+        let names = asked(identity);
+        let wanted =
+            names.and_then(|names| self.model.find(&names).map(|(at, key)| (at, key.len())));
+        let wanted = wanted.map(|(start, len)| &self.bytes[start..start + len]);
+        let found = numbers(find_key(&self.bytes, identity));
+        assert_eq!(found.map(place), wanted.map(place), "{identity:?}");
+        let found = found.map(<[u8]>::to_vec);
+        let cabinet = Cabinet::open(&mut self.bytes).expect("a cabinet");
+        assert_eq!(numbers(cabinet.find(identity)).map(<[u8]>::to_vec), found);
+        found
+    }
+}
