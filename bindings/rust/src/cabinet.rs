@@ -13,7 +13,8 @@ use core::fmt;
 /// so that a program may store them and open them again. All other memory is no cabinet.
 ///
 /// Every call asks first whether the bytes are a cabinet, and so reads every record in it again. A refused call leaves all of them
-/// as they were, and one that changes a place leaves all others.
+/// as they were, and one that changes a place leaves all others. While a `Cabinet` borrows the bytes, nothing else writes them; a
+/// program that keeps the bytes itself calls [`put_key`] and the others on them.
 ///
 /// ```
 /// use obscurlane::{build, Cabinet, Reason, CABINET_SIZE, LONGEST_IDENTITY, LONGEST_RECORD};
@@ -74,7 +75,7 @@ impl<'a> Cabinet<'a> {
     /// Reason 23 for bytes of another length than [`CABINET_SIZE`](crate::CABINET_SIZE), which stay as they were.
     #[inline]
     pub fn make(bytes: &'a mut [u8]) -> Result<Cabinet<'a>, Refusal> {
-        filed(&sys::make_cabinet(bytes))?;
+        make_cabinet(bytes)?;
         Ok(Cabinet { bytes })
     }
 
@@ -108,7 +109,7 @@ impl<'a> Cabinet<'a> {
     /// free. A full cabinet takes replacements.
     #[inline]
     pub fn put(&mut self, record: &[u8]) -> Result<(), Refusal> {
-        filed(&sys::put_key(self.bytes, record))
+        put_key(self.bytes, record)
     }
 
     /// Takes out the public key of this identity's kind, Manufacturer and MID: its place is all zeros afterwards, and is used
@@ -119,7 +120,7 @@ impl<'a> Cabinet<'a> {
     /// The identity's own refusal (reasons 1 to 6), then reason 26 where there is no such key.
     #[inline]
     pub fn remove(&mut self, identity: &[u8]) -> Result<(), Refusal> {
-        filed(&sys::remove_key(self.bytes, identity))
+        remove_key(self.bytes, identity)
     }
 
     /// The public key of this identity's kind, Manufacturer and MID, a part of the lent bytes. The identity must be accepted; its
@@ -165,6 +166,25 @@ fn filed(filed: &sys::Filed) -> Result<(), Refusal> {
     Refusal::check(filed.no, filed.field)
 }
 
+/// Makes the lent bytes an empty cabinet, whatever they were, as [`Cabinet::make`] does.
+///
+/// ```
+/// use obscurlane::{make_cabinet, Reason, CABINET_SIZE};
+///
+/// let mut bytes = vec![0xA5; CABINET_SIZE];
+/// assert_eq!(make_cabinet(&mut bytes[1..]).unwrap_err().reason, Reason::NotCabinet);
+/// assert_eq!(make_cabinet(&mut bytes), Ok(()));
+/// assert!(bytes.iter().all(|&byte| byte == 0));
+/// ```
+///
+/// # Errors
+///
+/// Reason 23 for bytes of another length than [`CABINET_SIZE`](crate::CABINET_SIZE), which stay as they were.
+#[inline]
+pub fn make_cabinet(cabinet: &mut [u8]) -> Result<(), Refusal> {
+    filed(&sys::make_cabinet(cabinet))
+}
+
 /// Whether the bytes are a cabinet. [`Cabinet::open`] asks the same and lets the cabinet be changed.
 ///
 /// ```
@@ -198,6 +218,46 @@ pub fn check_cabinet(cabinet: &[u8]) -> Result<(), Refusal> {
 pub fn count_keys(cabinet: &[u8]) -> Result<usize, Refusal> {
     let counted = sys::count_keys(cabinet);
     Refusal::check(counted.no, 0).map(|()| counted.count)
+}
+
+/// Puts a public key into the cabinet in these bytes: [`Cabinet::put`].
+///
+/// ```
+/// use obscurlane::{put_key, Reason, CABINET_SIZE};
+///
+/// let key = b"PK.ECDH.1|SMID.1:Prism:06000001:20180120T090000Z:320C265FDC769D3E:8EFF|04795CF0B4D74920C64A\
+///     6879504A6DE9CA788076D946D2F70F8981C01137752C7C050DC6FA61C2CB3D77EFE4275826857CC286805608F43C2E9A\
+///     C8752600D99FE92CCFB7E146742F0DC9C74CEF6568CBB75AB075D2DFED2EE5531554FA844B8DBC|99991231T115959Z|||ECD4";
+/// let mut cabinet = vec![0; CABINET_SIZE];
+/// assert_eq!(put_key(&mut cabinet, key), Ok(()));
+/// assert_eq!(put_key(&mut cabinet, key).unwrap_err().reason, Reason::NotLater);
+/// assert!(cabinet.starts_with(key));
+/// ```
+///
+/// # Errors
+///
+/// Reason 23 where the bytes are no cabinet, then as [`Cabinet::put`].
+#[inline]
+pub fn put_key(cabinet: &mut [u8], record: &[u8]) -> Result<(), Refusal> {
+    filed(&sys::put_key(cabinet, record))
+}
+
+/// Takes the public key of an identity's kind, Manufacturer and MID out of the cabinet in these bytes: [`Cabinet::remove`].
+///
+/// ```
+/// use obscurlane::{remove_key, Reason, CABINET_SIZE};
+///
+/// let identity = b"SMID.1:Prism:06000001:20180120T090000Z:320C265FDC769D3E:8EFF";
+/// let mut cabinet = vec![0; CABINET_SIZE];
+/// assert_eq!(remove_key(&mut cabinet, identity).unwrap_err().reason, Reason::NotThere);
+/// ```
+///
+/// # Errors
+///
+/// Reason 23 where the bytes are no cabinet, then as [`Cabinet::remove`].
+#[inline]
+pub fn remove_key(cabinet: &mut [u8], identity: &[u8]) -> Result<(), Refusal> {
+    filed(&sys::remove_key(cabinet, identity))
 }
 
 /// The public key of an identity's kind, Manufacturer and MID, a part of the cabinet's bytes: [`Cabinet::find`] for bytes that are

@@ -38,7 +38,9 @@ pub use attributes::{attribute, attribute_named, Card, Cards};
 pub use building::build;
 #[cfg(feature = "alloc")]
 pub use building::build_parts;
-pub use cabinet::{check_cabinet, count_keys, find_key, Cabinet};
+pub use cabinet::{
+    check_cabinet, count_keys, find_key, make_cabinet, put_key, remove_key, Cabinet,
+};
 pub use check::{crc_of, Crc};
 pub use confirm::{confirm_request, confirm_response, ConfirmRefusal};
 pub use files::{count, line_at, lines, Line, Lines, Totals};

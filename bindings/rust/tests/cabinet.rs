@@ -8,10 +8,10 @@ use compare::sample::{self, Fault, PublicKey, Signed, Subject};
 use compare::text::PRINT_DIGITS;
 use compare::worked::{worked, IDENTITIES, RECORDS};
 use held::cabinet::{asked, names, own, Both, Held, NOT_LATER, NOT_THERE, NO_CABINET, NO_PLACE};
-use held::{first, lent, numbers, place, rounds, Numbers, Seen};
+use held::{first, lent, numbers, place, rounds, Seen};
 use obscurlane::{
-    check_cabinet, count_keys, find_key, Cabinet, Reason, Record, CABINET_PLACES, CABINET_SIZE,
-    CABINET_WIDTH,
+    check_cabinet, count_keys, find_key, make_cabinet, put_key, remove_key, Cabinet, Reason,
+    Record, CABINET_PLACES, CABINET_SIZE, CABINET_WIDTH,
 };
 
 // ---- Subjects, keys and identities
@@ -244,7 +244,7 @@ fn every_choice_of_faults_in_a_put() {
                 (is_there, NOT_LATER),
                 (is_full, NO_PLACE),
             ]);
-            let said = put(&mut bytes, &record);
+            let said = numbers(put_key(&mut bytes, &record));
             assert_eq!(said, wanted, "{choice} {fault:?}");
             assert!(said.is_ok() || bytes == before, "{choice}");
         }
@@ -277,7 +277,7 @@ fn every_choice_of_faults_in_an_identity() {
                     first([(is_none, NO_CABINET), (is_faulty, wrong), (is_absent, NOT_THERE)]);
                 assert_eq!(numbers(find_key(&bytes, &asking)).map(drop), wanted, "{choice}");
                 assert!(bytes == before);
-                let said = remove(&mut bytes, &asking);
+                let said = numbers(remove_key(&mut bytes, &asking));
                 assert_eq!(said, wanted, "{choice} {fault:?}");
                 assert!(said.is_ok() || bytes == before, "{choice}");
             }
@@ -287,15 +287,6 @@ fn every_choice_of_faults_in_an_identity() {
 
 // ---- what is no cabinet
 
-/// The calls of a cabinet on bytes that may be none.
-fn put(bytes: &mut [u8], record: &[u8]) -> Result<(), Numbers> {
-    numbers(Cabinet::open(bytes).and_then(|mut cabinet| cabinet.put(record)))
-}
-
-fn remove(bytes: &mut [u8], identity: &[u8]) -> Result<(), Numbers> {
-    numbers(Cabinet::open(bytes).and_then(|mut cabinet| cabinet.remove(identity)))
-}
-
 /// 23 from every call, and no byte is another.
 fn expect_no_cabinet(bytes: &mut [u8], what: &str) {
     let before = bytes.to_vec();
@@ -303,8 +294,8 @@ fn expect_no_cabinet(bytes: &mut [u8], what: &str) {
     assert_eq!(numbers(count_keys(bytes)), Err(NO_CABINET), "{what}");
     for text in [worked("PUBKEY_SM"), worked("ID_SM"), worked("ID_KMC"), Vec::new()] {
         assert_eq!(numbers(find_key(bytes, &text)), Err(NO_CABINET), "{what}");
-        assert_eq!(put(bytes, &text), Err(NO_CABINET), "{what}");
-        assert_eq!(remove(bytes, &text), Err(NO_CABINET), "{what}");
+        assert_eq!(numbers(put_key(bytes, &text)), Err(NO_CABINET), "{what}");
+        assert_eq!(numbers(remove_key(bytes, &text)), Err(NO_CABINET), "{what}");
     }
     assert_eq!(Cabinet::open(bytes).unwrap_err().reason, Reason::NotCabinet, "{what}");
     assert!(bytes == before, "{what}");
@@ -331,6 +322,7 @@ fn other_lengths() {
         }
         let mut bytes = lent(len);
         assert_eq!(numbers(Cabinet::make(&mut bytes).map(drop)), Err(NO_CABINET));
+        assert_eq!(numbers(make_cabinet(&mut bytes)), Err(NO_CABINET));
         assert_eq!(bytes, lent(len));
     }
 }

@@ -2,6 +2,7 @@
 //! check, sixteen bytes at a step; words in the place of bytes where something is looked for; and every field gone over once,
 //! by its type, which finds its end as well. Only what is refused is gone over again, to count its fields.
 
+use crate::fast_cabinet;
 use crate::fast_confirm;
 use crate::fast_hash::{self, Sha384};
 use crate::fast_mail;
@@ -573,5 +574,21 @@ impl Side for Fast {
 
     fn read_mail(text: &[u8], out: &mut [u8]) -> Result<usize, Refusal> {
         fast_mail::read_mail(text, out)
+    }
+
+    fn check_cabinet(cabinet: &[u8]) -> Result<(), Refusal> {
+        fast_cabinet::check_cabinet(cabinet)
+    }
+
+    fn put_key(cabinet: &mut [u8], record: &[u8]) -> Result<(), Refusal> {
+        fast_cabinet::put_key(cabinet, record)
+    }
+
+    fn remove_key(cabinet: &mut [u8], identity: &[u8]) -> Result<(), Refusal> {
+        fast_cabinet::remove_key(cabinet, identity)
+    }
+
+    fn find_key<'a>(cabinet: &'a [u8], identity: &[u8]) -> Result<&'a [u8], Refusal> {
+        fast_cabinet::find_key(cabinet, identity)
     }
 }

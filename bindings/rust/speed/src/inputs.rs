@@ -6,7 +6,7 @@ use compare::mail::block_of;
 use compare::random::Random;
 use compare::sample::{self, Cards, Exchange, PublicKey, Signed, Subject};
 use compare::trailed::line_of;
-use obscurlane::{KEY_BYTES, Z_BYTES};
+use obscurlane::{CABINET_PLACES, CABINET_SIZE, CABINET_WIDTH, KEY_BYTES, Z_BYTES};
 
 /// A record as bytes and as what it is built from.
 pub struct Sample {
@@ -99,6 +99,53 @@ impl Agreed {
     }
 }
 
+/// A public key in a cabinet: the record, one that may replace it, and an identity of the same names with another GNT.
+pub struct Kept {
+    pub record: Vec<u8>,
+    pub later: Vec<u8>,
+    pub identity: Vec<u8>,
+}
+
+impl Kept {
+    pub fn new(random: &mut Random) -> Kept {
+        let mut gnts = [0; 3].map(|_| sample::timestamp(random));
+        gnts.sort_unstable();
+        let [earlier, between, later] = gnts;
+        let subject = Subject::any(random);
+        let [record, later] = [earlier, later].map(|gnt| {
+            let (subject, signed) = (Subject { gnt, ..subject.clone() }, Signed::any(random));
+            PublicKey::of(random, subject, signed).record()
+        });
+        let identity = Subject { gnt: between, ..subject }.identity(sample::hex(random, 16));
+        Kept { record, later, identity }
+    }
+}
+
+/// A full cabinet, and what is in its places.
+pub struct Filed {
+    pub cabinet: Vec<u8>,
+    pub kept: Vec<Kept>,
+}
+
+impl Filed {
+    fn new(random: &mut Random) -> Filed {
+        let kept: Vec<Kept> = (0..CABINET_PLACES).map(|_| Kept::new(random)).collect();
+        let mut cabinet = vec![0; CABINET_SIZE];
+        for (place, Kept { record, .. }) in cabinet.chunks_exact_mut(CABINET_WIDTH).zip(&kept) {
+            place[..record.len()].copy_from_slice(record);
+        }
+        Filed { cabinet, kept }
+    }
+
+    /// Those whose keys are found, replaced or removed in a turn, from the first place to the last.
+    pub fn taken(&self) -> impl Iterator<Item = &Kept> {
+        self.kept.iter().step_by(CABINET_PLACES.div_ceil(FILED))
+    }
+}
+
+/// How many calls there are in a turn on a full cabinet.
+pub const FILED: usize = 10;
+
 /// A letter with the request as mail: five lines stand before it, and two behind.
 fn letter_of(request: &[u8]) -> Vec<u8> {
     const BEFORE: &[u8] =
@@ -113,12 +160,13 @@ pub struct Draws {
     wrapped_keys: Random,
     hashed: Random,
     agreed: Random,
+    filed: Random,
 }
 
 impl Draws {
-    pub fn with_seeds(seeds: [u64; 4]) -> Draws {
-        let [records, wrapped_keys, hashed, agreed] = seeds.map(Random::with_seed);
-        Draws { records, wrapped_keys, hashed, agreed }
+    pub fn with_seeds(seeds: [u64; 5]) -> Draws {
+        let [records, wrapped_keys, hashed, agreed, filed] = seeds.map(Random::with_seed);
+        Draws { records, wrapped_keys, hashed, agreed, filed }
     }
 }
 
@@ -151,13 +199,14 @@ pub struct Inputs {
     pub trailed: Vec<u8>,
     /// A letter for each of the requests, which has it as mail between other lines.
     pub letters: Vec<Vec<u8>>,
+    pub filed: Filed,
     /// Messages are parts of it, each of which starts a byte behind the one before.
     bytes: Vec<u8>,
 }
 
 impl Inputs {
     pub fn new(draws: &mut Draws, count: usize) -> Inputs {
-        let Draws { records: random, wrapped_keys, hashed, agreed } = draws;
+        let Draws { records: random, wrapped_keys, hashed, agreed, filed } = draws;
         let mut samples: Vec<Sample> = (0..count)
             .map(|index| {
                 let kind = match index % 5 {
@@ -188,7 +237,19 @@ impl Inputs {
         let worked = Exchange::worked();
         let agreed = (0..count).map(|_| Agreed::new(agreed, &worked)).collect();
         let bytes = hashed.bytes(MESSAGES[2] + count);
-        Inputs { samples, file, requests, wrapped_keys, printed, agreed, trailed, letters, bytes }
+        let filed = Filed::new(filed);
+        Inputs {
+            samples,
+            file,
+            requests,
+            wrapped_keys,
+            printed,
+            agreed,
+            trailed,
+            letters,
+            filed,
+            bytes,
+        }
     }
 
     pub fn messages(&self, length: usize) -> impl Iterator<Item = &[u8]> {

@@ -126,4 +126,20 @@ impl Side for Library {
     fn read_mail(text: &[u8], out: &mut [u8]) -> Result<usize, Refusal> {
         obscurlane::read_mail(text, out).map_err(refusal)
     }
+
+    fn check_cabinet(cabinet: &[u8]) -> Result<(), Refusal> {
+        obscurlane::check_cabinet(cabinet).map_err(refusal)
+    }
+
+    fn put_key(cabinet: &mut [u8], record: &[u8]) -> Result<(), Refusal> {
+        obscurlane::put_key(cabinet, record).map_err(refusal)
+    }
+
+    fn remove_key(cabinet: &mut [u8], identity: &[u8]) -> Result<(), Refusal> {
+        obscurlane::remove_key(cabinet, identity).map_err(refusal)
+    }
+
+    fn find_key<'a>(cabinet: &'a [u8], identity: &[u8]) -> Result<&'a [u8], Refusal> {
+        obscurlane::find_key(cabinet, identity).map_err(refusal)
+    }
 }

@@ -2,11 +2,13 @@
 //! the archive of the module's build, that build too.
 //!
 //! First the answers of all sides to every input are compared, damaged ones too; a difference ends the program. Then the sides
-//! take turns over the same inputs, and for each the nanoseconds per record, or per message that is hashed, are printed.
+//! take turns over the same inputs, and for each the nanoseconds per record, per message that is hashed or per call on a cabinet are
+//! printed.
 
 mod beside;
 mod constants;
 mod fast;
+mod fast_cabinet;
 mod fast_confirm;
 mod fast_hash;
 mod fast_mail;
@@ -15,6 +17,7 @@ mod inputs;
 mod kinds;
 mod library;
 mod plain;
+mod plain_cabinet;
 mod plain_confirm;
 mod plain_hash;
 mod plain_mail;
@@ -24,7 +27,7 @@ mod side;
 
 use beside::{serve, Beside, SERVE};
 use fast::Fast;
-use inputs::{messages_among, Draws, Inputs, Sample, MESSAGES, TAGGED};
+use inputs::{messages_among, Draws, Inputs, Sample, FILED, MESSAGES, TAGGED};
 use library::Library;
 use obscurlane::{
     KEY_BYTES, LONGEST_MAIL, LONGEST_MODULE_TEXT, LONGEST_PUBKEY, LONGEST_RECORD, TRAILER,
@@ -200,6 +203,39 @@ fn reading_from_a_letter<S: Side>(inputs: &Inputs) {
     }
 }
 
+fn checking_a_cabinet<S: Side>(inputs: &Inputs) {
+    for _ in inputs.filed.taken() {
+        black_box(S::check_cabinet(black_box(&inputs.filed.cabinet))).expect("a cabinet");
+    }
+}
+
+fn finding_a_key<S: Side>(inputs: &Inputs) {
+    for kept in inputs.filed.taken() {
+        let cabinet = black_box(&inputs.filed.cabinet);
+        black_box(S::find_key(cabinet, black_box(&kept.identity))).expect("a key");
+    }
+}
+
+/// On a copy, because the inputs are gone over again.
+fn replacing_a_key<S: Side>(inputs: &Inputs) {
+    let mut cabinet = inputs.filed.cabinet.clone();
+    for kept in inputs.filed.taken() {
+        black_box(S::put_key(black_box(&mut cabinet), black_box(&kept.later))).expect("later");
+    }
+    black_box(&cabinet);
+}
+
+/// Both calls: the place that was given up is the only free one.
+fn removing_and_putting<S: Side>(inputs: &Inputs) {
+    let mut cabinet = inputs.filed.cabinet.clone();
+    for kept in inputs.filed.taken() {
+        black_box(S::remove_key(black_box(&mut cabinet), black_box(&kept.identity)))
+            .expect("there");
+        black_box(S::put_key(black_box(&mut cabinet), black_box(&kept.record))).expect("a place");
+    }
+    black_box(&cabinet);
+}
+
 // ---- the measurement
 
 /// A line of the table: what each side does in a turn, and how often.
@@ -212,6 +248,12 @@ struct Row {
 macro_rules! row {
     ($name:literal, $work:ident) => {
         Row { name: $name, works: [$work::<Library>, $work::<Plain>, $work::<Fast>], times: TURN }
+    };
+}
+
+macro_rules! filing {
+    ($name:literal, $work:ident) => {
+        Row { times: FILED, ..row!($name, $work) }
     };
 }
 
@@ -229,7 +271,7 @@ macro_rules! hashing {
     };
 }
 
-const ROWS: [Row; 24] = [
+const ROWS: [Row; 28] = [
     row!("reading", reading),
     row!("reading, all places", reading_all_places),
     row!("seven fields, one reading", seven_fields_one_reading),
@@ -254,6 +296,10 @@ const ROWS: [Row; 24] = [
     row!("writing with a trailer", writing_with_a_trailer),
     row!("writing as mail", writing_as_mail),
     row!("reading from a letter", reading_from_a_letter),
+    filing!("checking a cabinet", checking_a_cabinet),
+    filing!("finding a key", finding_a_key),
+    filing!("replacing a key", replacing_a_key),
+    filing!("removing and putting", removing_and_putting),
 ];
 
 /// Nanoseconds for a turn.
@@ -342,7 +388,7 @@ fn table(sets: &[Inputs], beside: &mut Option<Beside>) -> io::Result<()> {
         std::env::consts::ARCH
     );
     println!(
-        "{ROUNDS} rounds of {TURN} records in turns, or of 1 MB to hash; ns per record or message: median (tenth .. ninetieth percentile)"
+        "{ROUNDS} rounds of {TURN} records in turns, of 1 MB to hash, or of {FILED} calls on a full cabinet; ns per record, message or call: median (tenth .. ninetieth percentile)"
     );
     println!();
     let [library, plain, fast] = [Library::NAME, Plain::NAME, Fast::NAME];
@@ -361,7 +407,7 @@ fn table(sets: &[Inputs], beside: &mut Option<Beside>) -> io::Result<()> {
 fn main() -> io::Result<()> {
     let words: Vec<String> = env::args().skip(1).collect();
     let words: Vec<&str> = words.iter().map(String::as_str).collect();
-    let mut draws = Draws::with_seeds([2026, 2029, 2031, 2033]);
+    let mut draws = Draws::with_seeds([2026, 2029, 2031, 2033, 2035]);
     let sets: Vec<Inputs> = (0..SETS).map(|_| Inputs::new(&mut draws, TURN)).collect();
     for inputs in &sets {
         same_answers::<Library, Plain>(inputs);
@@ -385,7 +431,7 @@ mod tests {
 
     #[test]
     fn all_sides_give_the_same_answers() {
-        let inputs = Inputs::new(&mut Draws::with_seeds([2028, 2030, 2032, 2034]), 3_000);
+        let inputs = Inputs::new(&mut Draws::with_seeds([2028, 2030, 2032, 2034, 2036]), 3_000);
         same_answers::<Library, Plain>(&inputs);
         same_answers::<Library, Fast>(&inputs);
     }

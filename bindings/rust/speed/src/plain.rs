@@ -7,6 +7,7 @@
 use crate::kinds::{
     Kind, Type, IDENTITIES, PUBLIC_KEYS, RECORDS, WRONG_IDENTITY, WRONG_KIND, WRONG_TEXT,
 };
+use crate::plain_cabinet;
 use crate::plain_confirm;
 use crate::plain_hash::{self, State};
 use crate::plain_mail;
@@ -533,5 +534,21 @@ impl Side for Plain {
 
     fn read_mail(text: &[u8], out: &mut [u8]) -> Result<usize, Refusal> {
         plain_mail::read_mail(text, out)
+    }
+
+    fn check_cabinet(cabinet: &[u8]) -> Result<(), Refusal> {
+        plain_cabinet::check_cabinet(cabinet)
+    }
+
+    fn put_key(cabinet: &mut [u8], record: &[u8]) -> Result<(), Refusal> {
+        plain_cabinet::put_key(cabinet, record)
+    }
+
+    fn remove_key(cabinet: &mut [u8], identity: &[u8]) -> Result<(), Refusal> {
+        plain_cabinet::remove_key(cabinet, identity)
+    }
+
+    fn find_key<'a>(cabinet: &'a [u8], identity: &[u8]) -> Result<&'a [u8], Refusal> {
+        plain_cabinet::find_key(cabinet, identity)
     }
 }

@@ -1,14 +1,17 @@
 //! That two sides give the same answers and leave the same outputs: to everything that is measured, and to as many inputs that
 //! are damaged or nothing at all.
 
-use crate::inputs::{Agreed, Inputs, Printed, Sample, MESSAGES, TAGGED};
+use crate::inputs::{Agreed, Filed, Inputs, Kept, Printed, Sample, MESSAGES, TAGGED};
 use crate::side::{Fields, Line, NamedRefusal, Reads, Refusal, Side};
 use compare::kind::Kind;
 use compare::mail::block_of;
 use compare::random::Random;
 use compare::sample::{self, Exchange, Fault, ListFault, PublicKey};
 use compare::trailed::line_of;
-use obscurlane::{KEY_BYTES, LONGEST_MAIL, LONGEST_MODULE_TEXT, LONGEST_RECORD, TRAILER, Z_BYTES};
+use obscurlane::{
+    CABINET_PLACES, CABINET_WIDTH, KEY_BYTES, LONGEST_MAIL, LONGEST_MODULE_TEXT, LONGEST_RECORD,
+    TRAILER, Z_BYTES,
+};
 
 /// The places of the fields, not only their bytes.
 fn places((kind, fields): (usize, Fields<'_>)) -> (usize, [Option<(*const u8, usize)>; 7]) {
@@ -272,6 +275,61 @@ fn same_mail<A: Side, B: Side>(random: &mut Random, request: &[u8], letter: &[u8
     same_letter::<A, B>(&sample::mail(random));
 }
 
+/// The answer to a call, and what it leaves of a cabinet.
+fn on_copy(
+    cabinet: &[u8],
+    call: impl FnOnce(&mut [u8]) -> Result<(), Refusal>,
+) -> (Result<(), Refusal>, Vec<u8>) {
+    let mut copy = cabinet.to_vec();
+    (call(&mut copy), copy)
+}
+
+/// All calls on these bytes, whatever they are. A key that is found is the same part of them.
+fn same_filing<A: Side, B: Side>(cabinet: &[u8], record: &[u8], identity: &[u8]) {
+    assert_eq!(A::check_cabinet(cabinet), B::check_cabinet(cabinet));
+    let (one, other) = (A::find_key(cabinet, identity), B::find_key(cabinet, identity));
+    assert_eq!(one.map(<[u8]>::as_ptr_range), other.map(<[u8]>::as_ptr_range), "{identity:?}");
+    let one = on_copy(cabinet, |cabinet| A::put_key(cabinet, record));
+    let other = on_copy(cabinet, |cabinet| B::put_key(cabinet, record));
+    assert!(one == other, "{record:?}: {:?}, {:?}", one.0, other.0);
+    let one = on_copy(cabinet, |cabinet| A::remove_key(cabinet, identity));
+    let other = on_copy(cabinet, |cabinet| B::remove_key(cabinet, identity));
+    assert!(one == other, "{identity:?}: {:?}, {:?}", one.0, other.0);
+}
+
+/// A full cabinet, and one with free places: keys that are there, later ones, others, and what is refused. Then the same bytes
+/// damaged, of another length, and with the names of one place in another.
+fn same_cabinets<A: Side, B: Side>(random: &mut Random, Filed { cabinet, kept }: &Filed) {
+    assert_eq!(A::check_cabinet(cabinet), Ok(()));
+    let mut less = cabinet.clone();
+    for kept in kept.iter().step_by(3) {
+        assert_eq!(A::remove_key(&mut less, &kept.identity), Ok(()));
+        assert_eq!(B::remove_key(&mut cabinet.clone(), &kept.identity), Ok(()));
+    }
+    for (index, Kept { record, later, identity }) in kept.iter().enumerate().step_by(4) {
+        let other = Kept::new(random);
+        let damaged = sample::damaged_anywhere(random, later, 1);
+        let asking = sample::damaged_anywhere(random, identity, 1);
+        let any = sample::anything(random);
+        for cabinet in [cabinet, &less] {
+            same_filing::<A, B>(cabinet, record, identity);
+            same_filing::<A, B>(cabinet, later, &other.identity);
+            same_filing::<A, B>(cabinet, &other.record, &asking);
+            same_filing::<A, B>(cabinet, &damaged, &sample::resealed(&asking));
+            same_filing::<A, B>(cabinet, &sample::resealed(&damaged), &any);
+            same_filing::<A, B>(cabinet, &any, record);
+            let wrong = sample::damaged_anywhere(random, cabinet, 1);
+            same_filing::<A, B>(&wrong, later, identity);
+            same_filing::<A, B>(&cabinet[1..], later, identity);
+        }
+        let mut twice = less.clone();
+        let place = (index + 1 + random.below(CABINET_PLACES - 1)) % CABINET_PLACES;
+        twice[place * CABINET_WIDTH..][..CABINET_WIDTH].fill(0);
+        twice[place * CABINET_WIDTH..][..later.len()].copy_from_slice(later);
+        same_filing::<A, B>(&twice, &other.record, identity);
+    }
+}
+
 /// Stops where the two differ.
 pub fn same_answers<A: Side, B: Side>(inputs: &Inputs) {
     let mut random = Random::with_seed(2027);
@@ -313,6 +371,7 @@ pub fn same_answers<A: Side, B: Side>(inputs: &Inputs) {
     for (request, letter) in inputs.requests.iter().zip(&inputs.letters) {
         same_mail::<A, B>(&mut random, request, letter);
     }
+    same_cabinets::<A, B>(&mut random, &inputs.filed);
     let count = inputs.samples.len();
     assert_eq!(same_file(&inputs.file, A::line_at, B::line_at).0, count);
     let damaged = sample::damaged_anywhere(&mut random, &inputs.file, count);

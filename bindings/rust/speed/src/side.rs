@@ -21,6 +21,10 @@ pub const MISSING_TRAILER: Refusal = (19, 0);
 pub const WRONG_HASH: Refusal = (20, 0);
 pub const MISSING_BEGINS: Refusal = (21, 0);
 pub const MISSING_ENDS: Refusal = (22, 0);
+pub const NOT_CABINET: Refusal = (23, 0);
+pub const NOT_LATER: Refusal = (24, 0);
+pub const NO_PLACE: Refusal = (25, 0);
+pub const NOT_THERE: Refusal = (26, 0);
 
 /// A refusal, and the record whose own it is: 1 the request, 2 the response, 0 neither.
 pub type NamedRefusal = (u8, Refusal);
@@ -46,6 +50,9 @@ pub type Pieces<'a> = [&'a [u8]; 3];
 
 /// So many bytes of a Subject stand from its Fingerprint on: this, a mark and the check.
 pub const PRINT_TO_END: usize = 16 + 1 + 4;
+
+/// So many stand from its GNT on, which has sixteen characters and a mark.
+pub const GNT_TO_END: usize = 16 + 1 + PRINT_TO_END;
 
 /// Which call reads.
 #[derive(Clone, Copy)]
@@ -95,4 +102,9 @@ pub trait Side {
     fn write_mail(record: &[u8], out: &mut [u8]) -> Result<usize, Refusal>;
     /// Finds the record in a text, reads it, and writes it.
     fn read_mail(text: &[u8], out: &mut [u8]) -> Result<usize, Refusal>;
+    /// Whether the bytes are a cabinet, which each of the calls below asks first.
+    fn check_cabinet(cabinet: &[u8]) -> Result<(), Refusal>;
+    fn put_key(cabinet: &mut [u8], record: &[u8]) -> Result<(), Refusal>;
+    fn remove_key(cabinet: &mut [u8], identity: &[u8]) -> Result<(), Refusal>;
+    fn find_key<'a>(cabinet: &'a [u8], identity: &[u8]) -> Result<&'a [u8], Refusal>;
 }

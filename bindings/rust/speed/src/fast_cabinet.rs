@@ -1,0 +1,111 @@
+//! The key cabinet for `fast.rs`: a record's end is looked for eight bytes at a time, the zeros behind it are gone over without an early
+//! end, and of names a number is compared before the names themselves.
+
+use crate::fast::{find, read};
+use crate::kinds::{IDENTITIES, PUBLIC_KEYS};
+use crate::side::{Refusal, GNT_TO_END, NOT_CABINET, NOT_LATER, NOT_THERE, NO_PLACE};
+use obscurlane::{CABINET_PLACES, CABINET_SIZE, CABINET_WIDTH};
+
+/// Names, and their last eight bytes as a number, in which most differ.
+#[derive(Clone, Copy, PartialEq)]
+struct Names<'a> {
+    number: u64,
+    text: &'a [u8],
+}
+
+/// What is in an occupied place, or is to be.
+#[derive(Clone, Copy)]
+struct Held<'a> {
+    record: &'a [u8],
+    names: Names<'a>,
+    gnt: &'a [u8],
+}
+
+type Shelf<'a> = [Option<Held<'a>>; CABINET_PLACES];
+
+/// The names in an accepted identity, and the GNT.
+fn split(identity: &[u8]) -> (Names<'_>, &[u8]) {
+    let (text, rest) = identity.split_at(identity.len() - GNT_TO_END);
+    let number = text.last_chunk().map_or(0, |&last| u64::from_le_bytes(last));
+    (Names { number, text }, &rest[..16])
+}
+
+fn read_key(record: &[u8]) -> Result<Held<'_>, Refusal> {
+    let [subject, ..] = read(record, PUBLIC_KEYS)?.1;
+    let (names, gnt) = split(subject);
+    Ok(Held { record, names, gnt })
+}
+
+fn read_place(place: &[u8]) -> Result<Option<Held<'_>>, Refusal> {
+    let (record, rest) = place.split_at(find(0, place).unwrap_or(place.len()));
+    if rest.iter().fold(0, |any, &byte| any | byte) != 0 {
+        return Err(NOT_CABINET);
+    }
+    if record.is_empty() {
+        return Ok(None);
+    }
+    read_key(record).map(Some).map_err(|_| NOT_CABINET)
+}
+
+fn place_of(shelf: &[Option<Held<'_>>], names: Names<'_>) -> Option<usize> {
+    shelf.iter().position(|held| held.is_some_and(|held| held.names == names))
+}
+
+fn read_cabinet(cabinet: &[u8]) -> Result<Shelf<'_>, Refusal> {
+    if cabinet.len() != CABINET_SIZE {
+        return Err(NOT_CABINET);
+    }
+    let mut shelf: Shelf<'_> = [None; CABINET_PLACES];
+    for (index, place) in cabinet.chunks_exact(CABINET_WIDTH).enumerate() {
+        let held = read_place(place)?;
+        if held.is_some_and(|held| place_of(&shelf[..index], held.names).is_some()) {
+            return Err(NOT_CABINET);
+        }
+        shelf[index] = held;
+    }
+    Ok(shelf)
+}
+
+fn sought<'a>(cabinet: &'a [u8], identity: &[u8]) -> Result<(usize, &'a [u8]), Refusal> {
+    let shelf = read_cabinet(cabinet)?;
+    read(identity, IDENTITIES)?;
+    let place = place_of(&shelf, split(identity).0).ok_or(NOT_THERE)?;
+    Ok((place, shelf[place].map_or(&[], |held| held.record)))
+}
+
+fn place_for(cabinet: &[u8], record: &[u8]) -> Result<usize, Refusal> {
+    let shelf = read_cabinet(cabinet)?;
+    let key = read_key(record)?;
+    match place_of(&shelf, key.names) {
+        Some(place) if shelf[place].is_some_and(|held| key.gnt <= held.gnt) => Err(NOT_LATER),
+        Some(place) => Ok(place),
+        None => shelf.iter().position(Option::is_none).ok_or(NO_PLACE),
+    }
+}
+
+fn write_place(cabinet: &mut [u8], place: usize, record: &[u8]) {
+    let (front, rest) =
+        cabinet[place * CABINET_WIDTH..][..CABINET_WIDTH].split_at_mut(record.len());
+    front.copy_from_slice(record);
+    rest.fill(0);
+}
+
+pub fn check_cabinet(cabinet: &[u8]) -> Result<(), Refusal> {
+    read_cabinet(cabinet).map(drop)
+}
+
+pub fn put_key(cabinet: &mut [u8], record: &[u8]) -> Result<(), Refusal> {
+    let place = place_for(cabinet, record)?;
+    write_place(cabinet, place, record);
+    Ok(())
+}
+
+pub fn remove_key(cabinet: &mut [u8], identity: &[u8]) -> Result<(), Refusal> {
+    let (place, _) = sought(cabinet, identity)?;
+    write_place(cabinet, place, &[]);
+    Ok(())
+}
+
+pub fn find_key<'a>(cabinet: &'a [u8], identity: &[u8]) -> Result<&'a [u8], Refusal> {
+    sought(cabinet, identity).map(|(_, record)| record)
+}

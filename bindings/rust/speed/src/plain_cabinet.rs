@@ -1,0 +1,108 @@
+//! The key cabinet for `plain.rs`, in the library's form: every place is read, and its names are compared with those of all later ones.
+
+use crate::kinds::{IDENTITIES, PUBLIC_KEYS};
+use crate::plain::read;
+use crate::side::{Refusal, GNT_TO_END, NOT_CABINET, NOT_LATER, NOT_THERE, NO_PLACE};
+use obscurlane::{CABINET_PLACES, CABINET_SIZE, CABINET_WIDTH};
+
+/// What is in an occupied place, or is to be: the record, and of its Subject what stands before the GNT, and the GNT.
+#[derive(Clone, Copy)]
+struct Held<'a> {
+    record: &'a [u8],
+    names: &'a [u8],
+    gnt: &'a [u8],
+}
+
+/// All places from the lowest; none for a free one.
+type Shelf<'a> = [Option<Held<'a>>; CABINET_PLACES];
+
+/// What stands in an identity before its GNT, and the GNT with what stands behind it, which has always the same length.
+fn split(identity: &[u8]) -> (&[u8], &[u8]) {
+    identity.split_at(identity.len() - GNT_TO_END)
+}
+
+fn read_key(record: &[u8]) -> Result<Held<'_>, Refusal> {
+    let [subject, ..] = read(record, PUBLIC_KEYS)?.1.parts;
+    let (names, rest) = split(subject);
+    Ok(Held { record, names, gnt: &rest[..16] })
+}
+
+fn read_place(place: &[u8]) -> Result<Option<Held<'_>>, Refusal> {
+    let len = place.iter().position(|&byte| byte == 0).unwrap_or(place.len());
+    let (record, rest) = place.split_at(len);
+    if rest.iter().any(|&byte| byte != 0) {
+        return Err(NOT_CABINET);
+    }
+    if record.is_empty() {
+        return Ok(None);
+    }
+    read_key(record).map(Some).map_err(|_| NOT_CABINET)
+}
+
+fn place_of(shelf: &[Option<Held<'_>>], names: &[u8]) -> Option<usize> {
+    shelf.iter().position(|held| held.is_some_and(|held| held.names == names))
+}
+
+fn read_cabinet(cabinet: &[u8]) -> Result<Shelf<'_>, Refusal> {
+    if cabinet.len() != CABINET_SIZE {
+        return Err(NOT_CABINET);
+    }
+    let mut shelf: Shelf<'_> = [None; CABINET_PLACES];
+    for (held, place) in shelf.iter_mut().zip(cabinet.chunks_exact(CABINET_WIDTH)) {
+        *held = read_place(place)?;
+    }
+    for (index, held) in shelf.iter().enumerate() {
+        let Some(held) = held else { continue };
+        if place_of(&shelf[index + 1..], held.names).is_some() {
+            return Err(NOT_CABINET);
+        }
+    }
+    Ok(shelf)
+}
+
+/// The place of an identity's key, and the key.
+fn sought<'a>(cabinet: &'a [u8], identity: &[u8]) -> Result<(usize, &'a [u8]), Refusal> {
+    let shelf = read_cabinet(cabinet)?;
+    read(identity, IDENTITIES)?;
+    let place = place_of(&shelf, split(identity).0).ok_or(NOT_THERE)?;
+    Ok((place, shelf[place].map_or(&[], |held| held.record)))
+}
+
+/// The place that a record takes.
+fn place_for(cabinet: &[u8], record: &[u8]) -> Result<usize, Refusal> {
+    let shelf = read_cabinet(cabinet)?;
+    let key = read_key(record)?;
+    match place_of(&shelf, key.names) {
+        Some(place) if shelf[place].is_some_and(|held| key.gnt <= held.gnt) => Err(NOT_LATER),
+        Some(place) => Ok(place),
+        None => shelf.iter().position(Option::is_none).ok_or(NO_PLACE),
+    }
+}
+
+/// The record, and zeros after it.
+fn write_place(cabinet: &mut [u8], place: usize, record: &[u8]) {
+    let (front, rest) =
+        cabinet[place * CABINET_WIDTH..][..CABINET_WIDTH].split_at_mut(record.len());
+    front.copy_from_slice(record);
+    rest.fill(0);
+}
+
+pub fn check_cabinet(cabinet: &[u8]) -> Result<(), Refusal> {
+    read_cabinet(cabinet).map(drop)
+}
+
+pub fn put_key(cabinet: &mut [u8], record: &[u8]) -> Result<(), Refusal> {
+    let place = place_for(cabinet, record)?;
+    write_place(cabinet, place, record);
+    Ok(())
+}
+
+pub fn remove_key(cabinet: &mut [u8], identity: &[u8]) -> Result<(), Refusal> {
+    let (place, _) = sought(cabinet, identity)?;
+    write_place(cabinet, place, &[]);
+    Ok(())
+}
+
+pub fn find_key<'a>(cabinet: &'a [u8], identity: &[u8]) -> Result<&'a [u8], Refusal> {
+    sought(cabinet, identity).map(|(_, record)| record)
+}
