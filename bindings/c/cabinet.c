@@ -35,8 +35,8 @@ struct text {
 static struct text identity_of(struct subject of, const char *gnt, const char *print)
 {
     struct text made;
-    int len = snprintf(made.bytes, sizeof made.bytes, "%s:%s:%s:%s:%s:0000", obscurlane_kind_name(of.kind), of.maker, of.mid, gnt,
-                       print);
+    int len = snprintf(made.bytes, sizeof made.bytes, "%s:%s:%s:%s:%s:0000", obscurlane_kind_name(of.kind), of.maker, of.mid,
+                       gnt, print);
     made.len = (size_t)len;
     seal(made.bytes, made.len);
     return made;
@@ -510,8 +510,8 @@ static void expect_no_cabinet_of(size_t n, const char *record, size_t len)
     memcpy(cabinet + n * WIDTH, was, WIDTH);
 }
 
-/* Bytes that are not zero in a free place, behind a record, and in its place; a record that is cut, moved, damaged or of another
- * kind; and two of the same three names. */
+/* Bytes that are not zero in a free place and behind a record; a record that is cut, moved, damaged or of another kind; and two
+ * of the same three names. */
 static void damaged(void)
 {
     static const uint8_t others[] = {1, '\n', ' ', '0', 'A', 'P', '|', 0x80, 0xFF};
@@ -644,7 +644,7 @@ static size_t below(size_t limit)
 }
 
 /* Calls in no order, each held against the model: puts of keys with GNTs of few days, so that some are later and some are not;
- * removals; finds; and records and identities that are refused. What was first put less what was removed is how many there are. */
+ * removals; finds; and records and identities that are refused. First puts less removals is how many there are. */
 static void history(uint32_t seed, size_t subjects, size_t calls)
 {
     size_t first_puts = 0, removals = 0;

@@ -1,7 +1,7 @@
 /* Reads the load request of the worked example once, prints its fields by their names, makes its three texts and says whether
  * its tag is right; then prints the attributes of its second wrapped key, and the Fingerprint of the centre's public key; reads
- * and writes the line of a manufacturer's file, the module's signed key with its trailer; reads the request out of a letter, and
- * writes it as it goes by mail; and keeps the keys in a cabinet, where it finds the one of the request's module. */
+ * and writes the line of a manufacturer's file, the module's signed key with its trailer; reads the request out of a letter,
+ * and writes it as it goes by mail; and keeps the keys in a cabinet, where it finds the one of the request's module. */
 #include "obscurlane.h"
 #include "worked.h"
 

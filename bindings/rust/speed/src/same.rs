@@ -306,7 +306,7 @@ fn same_cabinets<A: Side, B: Side>(random: &mut Random, Filed { cabinet, kept }:
         assert_eq!(A::remove_key(&mut less, &kept.identity), Ok(()));
         assert_eq!(B::remove_key(&mut cabinet.clone(), &kept.identity), Ok(()));
     }
-    for (index, Kept { record, later, identity }) in kept.iter().enumerate().step_by(4) {
+    for (index, Kept { record, later, identity }) in kept.iter().enumerate().step_by(7) {
         let other = Kept::new(random);
         let damaged = sample::damaged_anywhere(random, later, 1);
         let asking = sample::damaged_anywhere(random, identity, 1);
