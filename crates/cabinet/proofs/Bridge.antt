@@ -34,6 +34,11 @@ unfolding first
 first-same t u zero i h = refl
 first-same t u (suc n) i h = ap₂ (λ (b : Bool) (x : ℕ). cond b i x) (h i (omega arith) (omega arith)) (first-same t u n (suc i) (λ j a b. h j (omega arith) (omega arith)))
 
+pub first-none : (t : ℕ → Bool) (n i : ℕ) → ((j : ℕ) → i ≤ j → j < i + n → t j ≡ false) → first t n i ≡ i + n
+unfolding first
+first-none t zero i h = omega arith
+first-none t (suc n) i h = rw (h i (omega arith) (omega arith)) (first-none t n (suc i) (λ j a b. h j (omega arith) (omega arith)) ∙ omega arith)
+
 eqb-suc : (a b : ℕ) → eqb (suc a) (suc b) ≡ eqb a b
 eqb-suc a b =
     by-test (eqb a b)

@@ -50,7 +50,7 @@ pub record Read (s : Bytes) (ps : List Place) : Type 0 where
   pub number : length ps ≡ 64
   pub at : (i : ℕ) → i < 64 → (encode (getD ps i free) ≡ partAt s i) × Good (getD ps i free)
 
-read-all : (s : Bytes) (ps : List Place) → length s ≡ 65536 → decodeAll (parts 1024 places s) ≡ some ps → Read s ps
+pub read-all : (s : Bytes) (ps : List Place) → length s ≡ 65536 → decodeAll (parts 1024 places s) ≡ some ps → Read s ps
 read-all s ps l e =
     record {
       long = l;
@@ -170,10 +170,10 @@ provided-is b x e = rw e
 pub cabinet-long : (s : Bytes) → (length s ≡ 65536 → ⊥) → false ≡ isSome (shelf s)
 cabinet-long s n = sym (ap isSome (shelf-by s) ∙ provided-is (eqb (length s) 65536) _ (ne-eqb (length s) 65536 n))
 
-abbrev its : Bytes → Option (List Place)
+abbrev pub its : Bytes → Option (List Place)
 its s = decodeAll (parts 1024 places s)
 
-all-read : (s : Bytes) → allPass (isPlaceAt s) ≡ isSome (its s)
+pub all-read : (s : Bytes) → allPass (isPlaceAt s) ≡ isSome (its s)
 all-read s = sym (all-places places s ∙ ap (λ (n : ℕ). eqb (first (λ i. not (isPlaceAt s i)) n 0) n) places-are)
 
 module _ (s : Bytes) (l : length s ≡ 65536) where

@@ -3,6 +3,7 @@
 -- Assumes nothing.
 use Prim.Native.Nat.{ℕ}
 use mathlib.Core.Path.{_≡_}
+use lib.ListN.{length}
 use denote.Ref.{RefT}
 use Rattle.text.specs.Text.{Bytes}
 use Rattle.fields.specs.Fields.{PartSaid, PlaceSaid}
@@ -25,6 +26,9 @@ checked s = record { no = checkCabinet s; field = 0 }
 
 abbrev pub counted : Bytes → Counted
 counted s = record { no = countKeys s .no; count = countKeys s .count }
+
+abbrev pub foundIn : Finding → Place
+foundIn x = record { no = x .no; field = x .field; start = x .start; len = length (x .text) }
 
 -- the record that was found in s, as start and length, and as a part of it
 abbrev pub FindSaid : Finding → Bytes → Place → Type 0

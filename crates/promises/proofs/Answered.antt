@@ -1,14 +1,17 @@
 -- What holds of the number and the field's number of a reading holds of what the calls above it answer, where it holds of the numbers that
 -- these add with field number 0.
 -- Assumes nothing.
-use Prim.Native.Nat.{ℕ, _-_}
+use Prim.Native.Nat.{ℕ, _-_, _*_}
+use mathlib.Core.Path.{_≡_, refl}
 use mathlib.Core.Bool.{Bool, true, false, cond, _&&_}
+use mathlib.Core.Option.{Option, none, some}
 use mathlib.Core.List.{List}
 use lib.Dec.{leb, eqb}
 use lib.ListN.{length, take, drop}
 use Rattle.text.specs.Text.{Bytes, same, between}
 use Rattle.text.specs.Later.{later}
-use Rattle.numbers.specs.Numbers.{tooLong, unknownKind, wrongCount, shortOutput, unfinished, missingItem, notAlike, wrongFingerprint, wrongZ, otherRequest, wrongTag, missingTrailer, wrongHash, missingBegins, missingEnds}
+use Rattle.text.proofs.Tests.{T-true, T-false, by-test}
+use Rattle.numbers.specs.Numbers.{tooLong, unknownKind, wrongCount, shortOutput, unfinished, missingItem, notAlike, wrongFingerprint, wrongZ, otherRequest, wrongTag, missingTrailer, wrongHash, missingBegins, missingEnds, notCabinet, notLater, noPlace, notThere}
 use Rattle.format.specs.Kinds.{Kind, fieldsOf, recordKinds, pubkeyKinds, allKinds}
 use Rattle.format.specs.Build.{recordOf, longestRecord}
 use Rattle.format.specs.Read.{Outcome, accepted, refused, answer, place, provided, judged, readIdentity, readOf, readRecord}
@@ -28,6 +31,9 @@ use Rattle.files.specs.declared.Line.the-variants.{Finished, Read}
 use Rattle.trailed.specs.Trailed.{trailer, recordIn, trailerIn, isTrailer, onlyIf, readTrailed}
 use Rattle.mail.specs.Mail.{linesIn, alone, readFound, readMail}
 use Rattle.mail.proofs.Blocks.{opened-found}
+use Rattle.shelf.specs.Places.{Names, Held, Place, holds, lookup, lowest, anyFree}
+use Rattle.shelf.specs.Cabinet.{places, width, Reading, about, declined, asks, reads, zeros, shelf, putAt, putRead, removeAt, removeRead, leaving, told, onPlaces, makeCabinet, putKey, removeKey, foundAt, findRead, findIn, findKey, countIn, countKeys, checkCabinet}
+use Rattle.shelf.proofs.Readings.{asks-own, reads-own}
 use Rattle.subjects.specs.Subjects.{gnt, alike}
 use Rattle.fingerprint.specs.Fingerprint.{rightPrint, printIn, checkBy}
 use Rattle.confirm.specs.Confirm as confirm
@@ -166,6 +172,75 @@ module _ (P : ℕ → ℕ → Type 0) (z : P 0 0) where
       ends
       begins
       (linesIn text)
+
+  -- the key cabinet: 23 besides, of any bytes
+  module _ (other : P notCabinet 0) where
+    pub make-answered : (s : Bytes) → P (makeCabinet s .no) (makeCabinet s .field)
+    unfolding makeCabinet
+    make-answered s = go (eqb (length s) (places * width))
+      where
+        go : (b : Bool) → let r = cond b (record { no = 0; field = 0; bytes = zeros (places * width) }) (leaving s notCabinet 0) in P (r .no) (r .field)
+        go true = z
+        go false = other
+
+    pub cabinet-answered : (s : Bytes) → P (checkCabinet s) 0
+    unfolding checkCabinet countKeys
+    cabinet-answered s = go (shelf s)
+      where
+        go : (o : Option (List Place)) → P (countIn o .no) 0
+        go none = other
+        go (some ps) = z
+
+    -- put: 24 and 25 besides
+    pub put-answered : ((s : Bytes) → Of (readOf pubkeyKinds s)) → P notLater 0 → P noPlace 0 → (s r : Bytes) → P (putKey s r .no) (putKey s r .field)
+    unfolding putKey putAt
+    put-answered own early full s r = go (shelf s)
+      where
+        put : (k : Names) (g : Bytes) (ps : List Place) (o : Option Held) → let x = told s (putAt k g r ps o) in P (x .no) (x .field)
+        put k g ps none = by-test (anyFree ps) (λ t. rw (T-true (anyFree ps) t) z) (λ t. rw (T-false (anyFree ps) t) full)
+        put k g ps (some h) = by-test (later g (h .gnt)) (λ t. rw (T-true (later g (h .gnt)) t) z) (λ t. rw (T-false (later g (h .gnt)) t) early)
+
+        read : (ps : List Place) (x : Reading) → reads r ≡ x → let y = told s (putRead r ps x) in P (y .no) (y .field)
+        read ps (about k g) e = put k g ps (lookup k ps)
+        read ps (declined n i) e = rw (reads-own r n i e .0) at (own r)
+
+        go : (o : Option (List Place)) → let x = onPlaces (λ ps. putRead r ps (reads r)) s o in P (x .no) (x .field)
+        go none = other
+        go (some ps) = read ps (reads r) refl
+
+    -- remove and find: 26 besides
+    module _ (own : (s : Bytes) → Of (readIdentity s)) (missing : P notThere 0) where
+      pub remove-answered : (s i : Bytes) → P (removeKey s i .no) (removeKey s i .field)
+      unfolding removeKey removeAt
+      remove-answered s i = go (shelf s)
+        where
+          remove : (k : Names) (ps : List Place) (o : Option Held) → let x = told s (removeAt k ps o) in P (x .no) (x .field)
+          remove k ps none = missing
+          remove k ps (some h) = z
+
+          read : (ps : List Place) (x : Reading) → asks i ≡ x → let y = told s (removeRead ps x) in P (y .no) (y .field)
+          read ps (about k g) e = remove k ps (lookup k ps)
+          read ps (declined n j) e = rw (asks-own i n j e .0) at (own i)
+
+          go : (o : Option (List Place)) → let x = onPlaces (λ ps. removeRead ps (asks i)) s o in P (x .no) (x .field)
+          go none = other
+          go (some ps) = read ps (asks i) refl
+
+      pub find-answered : (s i : Bytes) → P (findKey s i .no) (findKey s i .field)
+      unfolding findKey
+      find-answered s i = go (shelf s)
+        where
+          find : (j : ℕ) (o : Option Held) → P (foundAt j o .no) (foundAt j o .field)
+          find j none = missing
+          find j (some h) = z
+
+          read : (ps : List Place) (x : Reading) → asks i ≡ x → P (findRead ps x .no) (findRead ps x .field)
+          read ps (about k g) e = find (lowest (holds k) ps) (lookup k ps)
+          read ps (declined n j) e = rw (asks-own i n j e .0) at (own i)
+
+          go : (o : Option (List Place)) → P (findIn i o .no) (findIn i o .field)
+          go none = other
+          go (some ps) = read ps (asks i) refl
 
   -- the newer key: 13 besides
   module _ (more : P notAlike 0) where

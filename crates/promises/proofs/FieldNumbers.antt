@@ -18,7 +18,7 @@ use Rattle.confirm.specs.Confirm.{confirmRequest, confirmResponse}
 use Rattle.trailed.specs.Trailed.{recordIn, readTrailed, writeTrailed}
 use Rattle.mail.specs.Mail.{writeMail}
 use Rattle.promises.specs.FieldNumbers.{FieldNumbers}
-use Rattle.promises.proofs.Answered.{answered, wanted-answered, attribute-answered, given-answered, judge-answered, build-answered, line-answered, last-answered, trailed-answered, mail-answered, newer-answered, check-answered, request-answered, response-answered}
+use Rattle.promises.proofs.Answered.{answered, wanted-answered, attribute-answered, given-answered, judge-answered, build-answered, line-answered, last-answered, trailed-answered, mail-answered, make-answered, cabinet-answered, put-answered, remove-answered, find-answered, newer-answered, check-answered, request-answered, response-answered}
 
 identity-names : (s : Bytes) → Names (readIdentity s)
 unfolding readIdentity
@@ -69,6 +69,12 @@ field-numbers = record {
   write-trailed = λ κs a r s p. rw (p .said) (given-answered NamesAt refl _ (length (now (a .1 .0))) (readRecord (now (a .0))) (record-names (now (a .0))) refl);
   write-mail = λ κs a r s p. rw (p .said) (given-answered NamesAt refl _ (length (now (a .1 .0))) (readRecord (now (a .0))) (record-names (now (a .0))) refl);
   read-mail = λ κs a r s p. rw (p .said) (mail-answered NamesAt refl (now (a .0)) (length (now (a .1 .0))) read-names refl refl refl);
+  make-cabinet = λ κs a r s p. rw (p .said) (make-answered NamesAt refl refl (now (a .0)));
+  check-cabinet = λ κs a r s p. rw p (cabinet-answered NamesAt refl refl (now (a .0)));
+  put-key = λ κs a r s p. rw (p .said) (put-answered NamesAt refl refl (read-names pubkeyKinds) refl refl (now (a .0)) (now (a .1 .0)));
+  remove-key = λ κs a r s p. rw (p .said) (remove-answered NamesAt refl refl identity-names refl (now (a .0)) (now (a .1 .0)));
+  key-place = λ κs a r s p. rw (p .said) (find-answered NamesAt refl refl identity-names refl (now (a .0)) (now (a .1 .0)));
+  find-key = λ κs a r s p. rw (p .its-no, p .its-field) (find-answered NamesAt refl refl identity-names refl (now (a .0)) (now (a .1 .0)));
   newer-of = λ κs a r s p. rw p (newer-answered NamesAt refl refl identity-names (read-names pubkeyKinds) (now (a .0)) (now (a .1 .0)));
   newer = λ κs a r s p. rw (p .number-so, p .field-so) (newer-answered NamesAt refl refl identity-names (read-names pubkeyKinds) (now (a .0)) (now (a .1 .0)));
   check-fingerprint = λ κs a r s p. rw p (check-answered NamesAt refl (readOf pubkeyKinds (now (a .0))) (read-names pubkeyKinds (now (a .0))) refl);

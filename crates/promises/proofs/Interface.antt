@@ -77,4 +77,13 @@ interface = record {
   write-mail-out = λ κs a r s p. p .left;
   read-mail-said = λ κs a r s p. p .said;
   read-mail-out = λ κs a r s p. p .left;
+  make-cabinet-said = λ κs a r s p. p .said;
+  make-cabinet-bytes = λ κs a r s p. p .left;
+  check-cabinet = λ κs a r s p. p;
+  count-keys = λ κs a r s p. p;
+  put-key-said = λ κs a r s p. p .said;
+  put-key-bytes = λ κs a r s p. p .left;
+  remove-key-said = λ κs a r s p. p .said;
+  remove-key-bytes = λ κs a r s p. p .left;
+  find-key = λ κs a r s p. p .said;
 }

@@ -26,8 +26,9 @@ use Rattle.confirm.specs.Confirm.{confirmRequest, confirmResponse}
 use Rattle.list_text.specs.Listing.{listText, listRoom, writeList}
 use Rattle.trailed.specs.Trailed.{recordIn, readTrailed, writeTrailed}
 use Rattle.mail.specs.Mail.{writeMail}
+use Rattle.shelf.specs.Cabinet.{checkCabinet}
 use Rattle.promises.specs.Refusals.{ofIdentities, ofRecords, ofPubkeys, ofKeys, ofLoads, ofTexts, Refusals}
-use Rattle.promises.proofs.Answered.{answered, wanted-answered, attribute-answered, given-answered, judge-answered, build-answered, line-answered, last-answered, trailed-answered, mail-answered, newer-answered, check-answered, request-answered, response-answered}
+use Rattle.promises.proofs.Answered.{answered, wanted-answered, attribute-answered, given-answered, judge-answered, build-answered, line-answered, last-answered, trailed-answered, mail-answered, make-answered, cabinet-answered, put-answered, remove-answered, find-answered, newer-answered, check-answered, request-answered, response-answered}
 
 -- n is one of ns, whatever the field's number
 abbrev In : List ℕ → ℕ → ℕ → Type 0
@@ -127,13 +128,19 @@ checked-given s = further 15 ofPubkeys (readOf pubkeyKinds s) (pubkey-given s)
 print-given : (s : Bytes) → Gives (10 ∷ ofPubkeys) (readOf pubkeyKinds s)
 print-given s = further 10 ofPubkeys (readOf pubkeyKinds s) (pubkey-given s)
 
+filed-given : (s : Bytes) → Gives (23 ∷ 24 ∷ 25 ∷ ofPubkeys) (readOf pubkeyKinds s)
+filed-given s = one-of (oneOf (23 ∷ 24 ∷ 25 ∷ ofPubkeys)) ofPubkeys tt (answer (readOf pubkeyKinds s)) (pubkey-given s)
+
+asked-given : (s : Bytes) → Gives (23 ∷ 26 ∷ ofIdentities) (readIdentity s)
+asked-given s = one-of (oneOf (23 ∷ 26 ∷ ofIdentities)) ofIdentities tt (answer (readIdentity s)) (identity-given s)
+
 -- ---- an attribute, by whatever number
 
 attribute-given : (s : Bytes) (wanted : ℕ) → T (oneOf (12 ∷ ofKeys) (attributeNo (readOf keyKinds s) wanted))
 attribute-given s wanted = attribute-answered (In (12 ∷ ofKeys)) tt (readOf keyKinds s) wanted (further 12 ofKeys (readOf keyKinds s) (wrapped-given s)) tt
 
 pub refusals : Refusals
-unfolding sharedInfo moduleText centreText checkFingerprint writeFingerprint confirmRequest confirmResponse writeTrailed writeMail
+unfolding sharedInfo moduleText centreText checkFingerprint writeFingerprint confirmRequest confirmResponse writeTrailed writeMail checkCabinet
 refusals = record {
   check-no = λ κs a r s p. rw p (check-given (0 ∷ 3 ∷ 4 ∷ []) tt (a .0) (now (a .1 .0)) tt tt);
   read-identity = λ κs a r s p. rw p (answered (In ofIdentities) tt (readIdentity (now (a .0))) (identity-given (now (a .0))));
@@ -163,6 +170,13 @@ refusals = record {
   write-mail = λ κs a r s p. rw (p .said) (given-answered (In (10 ∷ ofRecords)) tt _ (length (now (a .1 .0))) (readRecord (now (a .0))) (further 10 ofRecords (readRecord (now (a .0))) (record-given (now (a .0)))) tt);
   read-mail = λ κs a r s p. rw (p .said) (mail-answered (In (10 ∷ 21 ∷ 22 ∷ ofRecords)) tt (now (a .0)) (length (now (a .1 .0))) mail-given tt tt tt);
   write-list = λ κs a r s p. rw (p .said) (list-given (now (a .0)) (length (now (a .1 .0))));
+  make-cabinet = λ κs a r s p. rw (p .said) (make-answered (In (0 ∷ 23 ∷ [])) tt tt (now (a .0)));
+  check-cabinet = λ κs a r s p. rw p (cabinet-answered (In (0 ∷ 23 ∷ [])) tt tt (now (a .0)));
+  count-keys = λ κs a r s p. rw p (cabinet-answered (In (0 ∷ 23 ∷ [])) tt tt (now (a .0)));
+  put-key = λ κs a r s p. rw (p .said) (put-answered (In (23 ∷ 24 ∷ 25 ∷ ofPubkeys)) tt tt filed-given tt tt (now (a .0)) (now (a .1 .0)));
+  remove-key = λ κs a r s p. rw (p .said) (remove-answered (In (23 ∷ 26 ∷ ofIdentities)) tt tt asked-given tt (now (a .0)) (now (a .1 .0)));
+  key-place = λ κs a r s p. rw (p .said) (find-answered (In (23 ∷ 26 ∷ ofIdentities)) tt tt asked-given tt (now (a .0)) (now (a .1 .0)));
+  find-key = λ κs a r s p. rw (p .its-no) (find-answered (In (23 ∷ 26 ∷ ofIdentities)) tt tt asked-given tt (now (a .0)) (now (a .1 .0)));
   newer-of = λ κs a r s p. rw p (newer-answered (In (13 ∷ ofPubkeys)) tt tt subject-given key-given (now (a .0)) (now (a .1 .0)));
   newer = λ κs a r s p. rw (p .number-so) (newer-answered (In (13 ∷ ofPubkeys)) tt tt subject-given key-given (now (a .0)) (now (a .1 .0)));
   check-fingerprint = λ κs a r s p. rw p (check-answered (In (15 ∷ ofPubkeys)) tt (readOf pubkeyKinds (now (a .0))) (checked-given (now (a .0))) tt);

@@ -36,6 +36,7 @@ use Rattle.mail.specs.Mail.{isBegins, PassedOver}
 use Rattle.promises.specs.Files.{PlainSays}
 use Rattle.promises.specs.Trailed.{TrailedSays}
 use Rattle.promises.specs.Demand3.{Called, none, more}
+use Rattle.promises.proofs.Cabinet.{empty-cabinet, first-done, again}
 use Rattle.promises.specs.Worked.{centreIdFields, centreId, centreKeyFields, centreKey, requestFields, request, keyAttributes, keyFields, key, fieldsOfWorked, laterIdFields, laterKeyFields, laterKey}
 use Rattle.promises.specs.Attributes.{Wrapped}
 use Rattle.promises.proofs.Attributes.{wrapped}
@@ -200,4 +201,7 @@ witnesses = record {
   damaged-trailed = damaged-trailed;
   caught-trailed = caught-trailed;
   passed-over = passed-over;
+  empty-cabinet = empty-cabinet;
+  filled = first-done centreKey centre;
+  equal-gnt = again centreKey centre;
 }

@@ -93,6 +93,13 @@ use Rattle.trailed.proofs.count_trailed.Reads as count-trailed
 use Rattle.trailed.proofs.write_trailed.Reads as write-trailed
 use Rattle.mail.proofs.write_mail.Reads as write-mail
 use Rattle.mail.proofs.read_mail.Reads as read-mail
+use Rattle.cabinet.proofs.make_cabinet.Reads as make-cabinet
+use Rattle.cabinet.proofs.check_cabinet.Reads as check-cabinet
+use Rattle.cabinet.proofs.count_keys.Reads as count-keys
+use Rattle.cabinet.proofs.put_key.Reads as put-key
+use Rattle.cabinet.proofs.remove_key.Reads as remove-key
+use Rattle.cabinet.proofs.key_place.Reads as key-place
+use Rattle.cabinet.proofs.find_key.Reads as find-key
 use Rattle.list_text.proofs.write_list.Reads as write-list
 use Rattle.list_printing.proofs.print_list.Reads as print-list
 use Rattle.subjects.proofs.field_in.Reads as field-in
@@ -248,6 +255,19 @@ pub record Determined : Type 0 where
   pub write-mail-out : OneLeft write-mail.Post (λ κs s. now (s .1 .0))
   pub read-mail-said : OneAnswer read-mail.Post
   pub read-mail-out : OneLeft read-mail.Post (λ κs s. now (s .1 .0))
+  -- cabinet
+  pub make-cabinet-said : OneAnswer make-cabinet.Post
+  pub make-cabinet-bytes : OneLeft make-cabinet.Post (λ κs s. now (s .0))
+  pub check-cabinet : OneAnswer check-cabinet.Post
+  pub count-keys : OneAnswer count-keys.Post
+  pub put-key-said : OneAnswer put-key.Post
+  pub put-key-bytes : OneLeft put-key.Post (λ κs s. now (s .0))
+  pub remove-key-said : OneAnswer remove-key.Post
+  pub remove-key-bytes : OneLeft remove-key.Post (λ κs s. now (s .0))
+  pub key-place : OneAnswer key-place.Post
+  pub find-key-part : OnePart find-key.Post
+  pub find-key-no : OneLeft find-key.Post (λ κs s. now (s .1 .1 .0))
+  pub find-key-field : OneLeft find-key.Post (λ κs s. now (s .1 .1 .1 .0))
   -- list_text
   pub write-list-said : OneAnswer write-list.Post
   pub write-list-out : OneLeft write-list.Post (λ κs s. now (s .1 .0))

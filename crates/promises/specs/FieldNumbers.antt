@@ -32,6 +32,12 @@ use Rattle.trailed.proofs.trailed_at.Reads as trailed-at
 use Rattle.trailed.proofs.write_trailed.Reads as write-trailed
 use Rattle.mail.proofs.write_mail.Reads as write-mail
 use Rattle.mail.proofs.read_mail.Reads as read-mail
+use Rattle.cabinet.proofs.make_cabinet.Reads as make-cabinet
+use Rattle.cabinet.proofs.check_cabinet.Reads as check-cabinet
+use Rattle.cabinet.proofs.put_key.Reads as put-key
+use Rattle.cabinet.proofs.remove_key.Reads as remove-key
+use Rattle.cabinet.proofs.key_place.Reads as key-place
+use Rattle.cabinet.proofs.find_key.Reads as find-key
 use Rattle.newer.proofs.newer_of.Reads as newer-of
 use Rattle.newer.proofs.newer.Reads as newer
 use Rattle.fingerprint.proofs.check_fingerprint.Reads as check-fingerprint
@@ -69,6 +75,12 @@ pub record FieldNumbers : Type 0 where
   pub write-trailed : NamesField write-trailed.Post (λ κs r s. r .no) (λ κs r s. r .field)
   pub write-mail : NamesField write-mail.Post (λ κs r s. r .no) (λ κs r s. r .field)
   pub read-mail : NamesField read-mail.Post (λ κs r s. r .no) (λ κs r s. r .field)
+  pub make-cabinet : NamesField make-cabinet.Post (λ κs r s. r .no) (λ κs r s. r .field)
+  pub check-cabinet : NamesField check-cabinet.Post (λ κs r s. r .no) (λ κs r s. r .field)
+  pub put-key : NamesField put-key.Post (λ κs r s. r .no) (λ κs r s. r .field)
+  pub remove-key : NamesField remove-key.Post (λ κs r s. r .no) (λ κs r s. r .field)
+  pub key-place : NamesField key-place.Post (λ κs r s. r .no) (λ κs r s. r .field)
+  pub find-key : NamesField find-key.Post (λ κs r s. now (s .1 .1 .0)) (λ κs r s. now (s .1 .1 .1 .0))
   pub newer-of : NamesField newer-of.Post (λ κs r s. r .no) (λ κs r s. r .field)
   pub newer : NamesField newer.Post (λ κs r s. now (s .1 .1 .0)) (λ κs r s. now (s .1 .1 .1 .0))
   pub check-fingerprint : NamesField check-fingerprint.Post (λ κs r s. r .no) (λ κs r s. r .field)

@@ -33,6 +33,9 @@ use Rattle.confirm.specs.declared.Confirmed.{Confirmed}
 use Rattle.sha1.specs.Sha1.{sha1}
 use Rattle.trailed.specs.Trailed.{trailer, readTrailed, trailedAt, writeTrailed}
 use Rattle.mail.specs.Mail.{guarded, writeMail, readMail}
+use Rattle.shelf.specs.Places.{named}
+use Rattle.shelf.specs.Cabinet.{Reading, about, declined, asks, reads, decode}
+use Rattle.cabinet.specs.Steps.{isPlace}
 use Rattle.promises.specs.Values.{Value, number, bytes, test, types, admitted}
 use Rattle.promises.specs.Worked.{manufacturerId, moduleIdFields, moduleId, centreId, manufacturerKeyFields, manufacturerKey, moduleKeyFields, moduleKey, centreKeyFields, centreKey, requestFields, request, responseFields, response, keyAttributes, keyFields, key, longAttributes}
 
@@ -553,5 +556,30 @@ letters =
     ∷ bytes (saidOf (writeMail response 279)) (0 ∷ 0 ∷ [])
     ∷ []
 
+-- ---- document 02, E8: what is read for a place, and what may stand in one
+
+abbrev pub readingSaid : Reading → Bytes
+readingSaid (about (named kind maker id) g) = joined (code ":") (kind ∷ maker ∷ id ∷ g ∷ [])
+readingSaid (declined n i) = n ∷ i ∷ []
+
+-- the bytes of a place that begins so, and zeros
+abbrev pub padded : Bytes → Bytes
+padded s = take 1024 (s ++ replicate 1024 0)
+
+unfoldable pub placed : List Value
+placed =
+    bytes (readingSaid (asks moduleId)) (ascii "SMID.1:Prism:06000001:20180120T090000Z:")
+    ∷ bytes (readingSaid (reads centreKey)) (ascii "KMCID.1:sts-KeyAgreement-1.2:TEST1:20180110T120000Z:")
+    ∷ bytes (readingSaid (reads request)) (2 ∷ 0 ∷ [])
+    ∷ bytes (readingSaid (asks centreKey)) (2 ∷ 0 ∷ [])
+    -- all zeros, a public key and zeros; a byte after the zeros, a zero in front, a record of another kind, an identity
+    ∷ test (isPlace (decode (padded []))) true
+    ∷ test (isPlace (decode (padded centreKey))) true
+    ∷ test (isPlace (decode (set (padded centreKey) 1023 1))) false
+    ∷ test (isPlace (decode (padded (0 ∷ centreKey)))) false
+    ∷ test (isPlace (decode (padded request))) false
+    ∷ test (isPlace (decode (padded moduleId))) false
+    ∷ []
+
 unfoldable pub fixed : List Value
-fixed = rows ++ alphabets ++ limits ++ labels ++ checks ++ numbers ++ building ++ texts ++ others ++ lists ++ keys ++ longKeys ++ days ++ dates ++ hashes ++ agreeing ++ differing ++ fingerprints ++ tags ++ confirming ++ shortHashes ++ printed ++ lines ++ posted ++ letters
+fixed = rows ++ alphabets ++ limits ++ labels ++ checks ++ numbers ++ building ++ texts ++ others ++ lists ++ keys ++ longKeys ++ days ++ dates ++ hashes ++ agreeing ++ differing ++ fingerprints ++ tags ++ confirming ++ shortHashes ++ printed ++ lines ++ posted ++ letters ++ placed

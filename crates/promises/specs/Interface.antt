@@ -48,6 +48,12 @@ use Rattle.exports.proofs.trailing.obscurlane_count_trailed.Reads as count-trai
 use Rattle.exports.proofs.trailing.obscurlane_write_trailed.Reads as write-trailed
 use Rattle.exports.proofs.mailing.obscurlane_write_mail.Reads as write-mail
 use Rattle.exports.proofs.mailing.obscurlane_read_mail.Reads as read-mail
+use Rattle.exports.proofs.filing.obscurlane_make_cabinet.Reads as make-cabinet
+use Rattle.exports.proofs.filing.obscurlane_check_cabinet.Reads as check-cabinet
+use Rattle.exports.proofs.filing.obscurlane_count_keys.Reads as count-keys
+use Rattle.exports.proofs.filing.obscurlane_put_key.Reads as put-key
+use Rattle.exports.proofs.filing.obscurlane_remove_key.Reads as remove-key
+use Rattle.exports.proofs.filing.obscurlane_find_key.Reads as find-key
 use lib.ListN.{length}
 use Rattle.crc16.specs.Crc.{begin, add, end, crcOf}
 use Rattle.text.specs.Text.{isIdent, isTimestamp, isHex, isPoint, isSig, isMac, isPrint}
@@ -71,6 +77,8 @@ use Rattle.sha1.specs.Sha1.{sha1}
 use Rattle.sha1.specs.State as short
 use Rattle.trailed.specs.Trailed.{readTrailed, trailedAt, countTrailed, writeTrailed}
 use Rattle.mail.specs.Mail.{writeMail, readMail}
+use Rattle.shelf.specs.Cabinet.{makeCabinet, putKey, removeKey, findKey}
+use Rattle.cabinet.specs.Cabinet.{filed, checked, counted, foundIn}
 use Rattle.confirm.specs.Confirm.{saysOf, macKeyOf, kekOf, confirmRequest, confirmResponse}
 use Rattle.exports.specs.Exports.{found}
 use Rattle.promises.specs.Calls.{Answers, Leaves}
@@ -148,3 +156,13 @@ pub record Interface : Type 0 where
   pub write-mail-out : Leaves write-mail.Post (λ κs s. now (s .1 .0)) (λ κs a. leaves (writeMail (now (a .0)) (length (now (a .1 .0)))) (now (a .1 .0)))
   pub read-mail-said : Answers read-mail.Post (λ κs a. says (readMail (now (a .0)) (length (now (a .1 .0)))))
   pub read-mail-out : Leaves read-mail.Post (λ κs s. now (s .1 .0)) (λ κs a. leaves (readMail (now (a .0)) (length (now (a .1 .0)))) (now (a .1 .0)))
+  -- the key cabinet
+  pub make-cabinet-said : Answers make-cabinet.Post (λ κs a. filed (makeCabinet (now (a .0))))
+  pub make-cabinet-bytes : Leaves make-cabinet.Post (λ κs s. now (s .0)) (λ κs a. makeCabinet (now (a .0)) .bytes)
+  pub check-cabinet : Answers check-cabinet.Post (λ κs a. checked (now (a .0)))
+  pub count-keys : Answers count-keys.Post (λ κs a. counted (now (a .0)))
+  pub put-key-said : Answers put-key.Post (λ κs a. filed (putKey (now (a .0)) (now (a .1 .0))))
+  pub put-key-bytes : Leaves put-key.Post (λ κs s. now (s .0)) (λ κs a. putKey (now (a .0)) (now (a .1 .0)) .bytes)
+  pub remove-key-said : Answers remove-key.Post (λ κs a. filed (removeKey (now (a .0)) (now (a .1 .0))))
+  pub remove-key-bytes : Leaves remove-key.Post (λ κs s. now (s .0)) (λ κs a. removeKey (now (a .0)) (now (a .1 .0)) .bytes)
+  pub find-key : Answers find-key.Post (λ κs a. foundIn (findKey (now (a .0)) (now (a .1 .0))))

@@ -90,6 +90,13 @@ use Rattle.trailed.proofs.count_trailed.Reads as count-trailed
 use Rattle.trailed.proofs.write_trailed.Reads as write-trailed
 use Rattle.mail.proofs.write_mail.Reads as write-mail
 use Rattle.mail.proofs.read_mail.Reads as read-mail
+use Rattle.cabinet.proofs.make_cabinet.Reads as make-cabinet
+use Rattle.cabinet.proofs.check_cabinet.Reads as check-cabinet
+use Rattle.cabinet.proofs.count_keys.Reads as count-keys
+use Rattle.cabinet.proofs.put_key.Reads as put-key
+use Rattle.cabinet.proofs.remove_key.Reads as remove-key
+use Rattle.cabinet.proofs.key_place.Reads as key-place
+use Rattle.cabinet.proofs.find_key.Reads as find-key
 use Rattle.list_text.proofs.write_list.Reads as write-list
 use Rattle.list_printing.proofs.print_list.Reads as print-list
 use Rattle.subjects.proofs.field_in.Reads as field-in
@@ -146,6 +153,12 @@ use Rattle.exports.proofs.trailing.obscurlane_count_trailed.Reads as c-count-tr
 use Rattle.exports.proofs.trailing.obscurlane_write_trailed.Reads as c-write-trailed
 use Rattle.exports.proofs.mailing.obscurlane_write_mail.Reads as c-write-mail
 use Rattle.exports.proofs.mailing.obscurlane_read_mail.Reads as c-read-mail
+use Rattle.exports.proofs.filing.obscurlane_make_cabinet.Reads as c-make-cabinet
+use Rattle.exports.proofs.filing.obscurlane_check_cabinet.Reads as c-check-cabinet
+use Rattle.exports.proofs.filing.obscurlane_count_keys.Reads as c-count-keys
+use Rattle.exports.proofs.filing.obscurlane_put_key.Reads as c-put-key
+use Rattle.exports.proofs.filing.obscurlane_remove_key.Reads as c-remove-key
+use Rattle.exports.proofs.filing.obscurlane_find_key.Reads as c-find-key
 
 -- the call whose `requires` is P takes any arguments a, whatever the lifetimes κs
 abbrev pub Takes : {K : Type 0} {A : K → Type 0} → ((κs : K) → A κs → Type 0) → Type 0
@@ -258,6 +271,14 @@ pub record Total : Type 0 where
   -- mail
   pub write-mail : Takes write-mail.Pre
   pub read-mail : Takes read-mail.Pre
+  -- cabinet
+  pub make-cabinet : Takes make-cabinet.Pre
+  pub check-cabinet : Takes check-cabinet.Pre
+  pub count-keys : Takes count-keys.Pre
+  pub put-key : Takes put-key.Pre
+  pub remove-key : Takes remove-key.Pre
+  pub key-place : Takes key-place.Pre
+  pub find-key : Takes find-key.Pre
   -- list_text
   pub write-list : Takes write-list.Pre
   -- list_printing
@@ -321,3 +342,9 @@ pub record Total : Type 0 where
   pub c-write-trailed : Takes c-write-trailed.Pre
   pub c-write-mail : Takes c-write-mail.Pre
   pub c-read-mail : Takes c-read-mail.Pre
+  pub c-make-cabinet : Takes c-make-cabinet.Pre
+  pub c-check-cabinet : Takes c-check-cabinet.Pre
+  pub c-count-keys : Takes c-count-keys.Pre
+  pub c-put-key : Takes c-put-key.Pre
+  pub c-remove-key : Takes c-remove-key.Pre
+  pub c-find-key : Takes c-find-key.Pre

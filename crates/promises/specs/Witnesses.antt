@@ -5,10 +5,11 @@ use Prim.Native.Nat.{ℕ}
 use mathlib.Core.Path.{_≡_}
 use mathlib.Core.Logic.{_≢_}
 use mathlib.Core.List.{List, [], _∷_, _++_}
-use lib.ListN.{length}
+use lib.ListN.{length, replicate}
 use lib.Dec.{T}
 use denote.Ref.{RefT, now}
 use Rattle.text.specs.Text.{Bytes, ascii, TextType, isOf}
+use Rattle.numbers.specs.Numbers.{notLater}
 use Rattle.format.specs.Kinds.{Kind, ECDSA, ECDH, REQ, name, identityKinds, recordKinds, among}
 use Rattle.format.specs.Build.{recordOf, Permitted, Built}
 use Rattle.format.specs.Read.{accepted, readIdentity, readRecord}
@@ -26,6 +27,8 @@ use Rattle.newer.specs.Newer.{theFirst, theSecond, newer}
 use Rattle.promises.specs.Attributes.{Wrapped}
 use Rattle.trailed.specs.Trailed.{readTrailed}
 use Rattle.mail.specs.Mail.{PassedOver}
+use Rattle.shelf.specs.Cabinet.{putKey}
+use Rattle.promises.specs.Cabinet.{IsCabinet}
 use Rattle.promises.specs.Files.{PlainSays}
 use Rattle.promises.specs.Trailed.{TrailedSays}
 use Rattle.promises.specs.Demand3.{Called}
@@ -70,3 +73,7 @@ pub record Witnesses : Type 0 where
       → (numberOf l ≡ 0) × (numberOf m ≢ 0)
   -- by mail: a text that is passed over before a block
   pub passed-over : PassedOver (ascii "Dear all," ++ lineFeed ∷ [])
+  -- an empty cabinet is one, the centre's key of 003 is put into it, and put again it is not later
+  pub empty-cabinet : IsCabinet (replicate 65536 0)
+  pub filled : putKey (replicate 65536 0) centreKey .no ≡ 0
+  pub equal-gnt : (s : Bytes) → s ≡ putKey (replicate 65536 0) centreKey .bytes → IsCabinet s × (putKey s centreKey .no ≡ notLater)

@@ -173,11 +173,11 @@ module _ (before : Names → Option Bytes) (many : ℕ) where
 
 -- ---- from an empty cabinet
 
-lookup-empty : (n : ℕ) (k : Names) → lookup k (replicate n free) ≡ none
+pub lookup-empty : (n : ℕ) (k : Names) → lookup k (replicate n free) ≡ none
 lookup-empty zero k = refl
 lookup-empty (suc n) k = lookup-empty n k
 
-occupied-empty : (n : ℕ) → occupied (replicate n free) ≡ 0
+pub occupied-empty : (n : ℕ) → occupied (replicate n free) ≡ 0
 occupied-empty zero = refl
 occupied-empty (suc n) = let h = occupied-empty n in omega arith
 
@@ -199,6 +199,9 @@ image-empty (suc n) =
 
 pub shelved-empty : Shelved (replicate places free)
 shelved-empty = record { good = good-empty places; apart = distinct-empty places; number = length-replicate places free }
+
+pub shelf-empty : shelf (zeros (places * width)) ≡ some (replicate places free)
+shelf-empty = ap shelf (sym (image-empty places)) ∙ shelf-image (replicate places free) shelved-empty
 
 pub made : (s : Bytes) → length s ≡ places * width → makeCabinet s ≡ record { no = 0; field = 0; bytes = image (replicate places free) }
 unfolding makeCabinet

@@ -15,9 +15,9 @@ use Rattle.text.specs.Text.{Bytes, same, without}
 use Rattle.text.proofs.Tests.{T-false, by-test, cond-yes, cond-no, same→eq, same-refl}
 use Rattle.format.specs.Files.{upTo}
 use Rattle.format.proofs.Lines.{upTo-first}
-use Rattle.shelf.specs.Places.{Held, Place, free, held, distinct}
+use Rattle.shelf.specs.Places.{Names, Held, Place, free, held, holds, contents, lookup, distinct}
 use Rattle.shelf.specs.Cabinet.{places, width, Reading, about, declined, reads, zeros, encode, whole, decodeAs, decode, parts, both, decodeAll, provided, whereDistinct, shelf, image}
-use Rattle.shelf.proofs.Places.{clash}
+use Rattle.shelf.proofs.Places.{lookup-here, lookup-there}
 use Rattle.shelf.proofs.Readings.{fitting}
 
 -- ---- zeros
@@ -186,3 +186,15 @@ shelf-some s ps e =
     let g = distinct-some (decodeAll (parts width places s)) ps (h .1) in
     let t = parts-some places s ps (eqb→eq (length s) (places * width) (h .0)) (g .1) in
     (t .0, record { good = t .1; apart = g .0; number = t .2 })
+
+-- what is found in them may stand in a place
+pub lookup-good : (k : Names) (ps : List Place) (h : Held) → AllGood ps → lookup k ps ≡ some h → Good (held h)
+lookup-good k [] h a e = let z : _≡_ {A = ℕ} 0 1 = cc in absurd (omega arith)
+lookup-good k (p ∷ ps) h a e =
+    by-test (holds k p)
+    (λ t. this p (sym (lookup-here k p ps t) ∙ e) (a .0))
+    (λ t. lookup-good k ps h (a .1) (sym (lookup-there k p ps t) ∙ e))
+  where
+    this : (q : Place) → contents q ≡ some h → Good q → Good (held h)
+    this free f g = let z : _≡_ {A = ℕ} 0 1 = cc in absurd (omega arith)
+    this (held i) f g = let j : i ≡ h = cc in subst (λ (x : Held). Good (held x)) j g

@@ -1,22 +1,22 @@
 -- When each number of the cabinet is given: 23, 24, 25 and 26 exactly then, of any lent bytes.
 -- Assumes nothing.
-use Prim.Native.Nat.{ℕ, _+_, _≤_}
+use Prim.Native.Nat.{ℕ, zero, suc, _+_, _≤_, _<_}
 use mathlib.Core.Path.{_≡_, refl, sym, ap, _∙_}
-use mathlib.Core.Logic.{_↔_}
+use mathlib.Core.Logic.{_↔_, _≢_}
 use mathlib.Core.Bool.{Bool, true, false, not, cond, _||_}
 use mathlib.Core.Option.{Option, none, some}
 use mathlib.Core.List.{List, [], _∷_}
 use native.Mathlib.Omega.{arith}
-use lib.ListN.{length}
-use lib.Dec.{T}
-use Rattle.text.specs.Text.{Bytes}
+use lib.ListN.{length, getD}
+use lib.Dec.{T, eqb}
+use Rattle.text.specs.Text.{Bytes, oneOf}
 use Rattle.text.specs.Later.{later}
-use Rattle.text.proofs.Tests.{T-true, T-false, by-test}
+use Rattle.text.proofs.Tests.{T-true, T-false, by-test, or-right}
 use Rattle.numbers.specs.Numbers.{notCabinet, notLater, noPlace, notThere}
 use Rattle.shelf.specs.Places.{Names, sameNames, Held, Place, free, held, isFree, holds, lookup, lowest, anyFree, others}
-use Rattle.shelf.specs.Cabinet.{places, Reading, about, declined, asks, reads, shelf, Change, done, refuse, putAt, putRead, removeAt, removeRead, told, putKey, removeKey, Finding, nothing, foundAt, findRead, findKey, countKeys}
-use Rattle.shelf.proofs.Places.{lookup-there, none-not-holds}
-use Rattle.shelf.proofs.Readings.{reads-own, asks-own, not-own}
+use Rattle.shelf.specs.Cabinet.{places, Reading, about, declined, asks, reads, shelf, Change, done, refuse, putAt, putRead, removeAt, removeRead, told, onPlaces, putKey, removeKey, Finding, nothing, foundAt, findRead, findIn, findKey}
+use Rattle.shelf.proofs.Places.{clash, names-eq, eq-names, lookup-there, none-not-holds}
+use Rattle.shelf.proofs.Readings.{ownNumbers, reads-own, asks-own, not-own}
 use Rattle.shelf.proofs.Images.{Shelved, shelf-some}
 
 -- ---- the records of other names
@@ -46,6 +46,69 @@ only-others k (held h ∷ ps) e =
     (λ t.
     let i = only-others k ps (omega (arith, ap (λ (b : Bool). cond b 0 1 + others k ps) (sym (T-false (sameNames k (h .names)) t)) ∙ e)) in
     (lookup-there k (held h) ps t ∙ i .0, i .1))
+
+on-leaves : (f : List Place → Change) (s : Bytes) (o : Option (List Place)) → onPlaces f s o .no ≢ 0 → onPlaces f s o .bytes ≡ s
+on-leaves f s none n = refl
+on-leaves f s (some ps) n = go (f ps) n
+  where
+    go : (c : Change) → told s c .no ≢ 0 → told s c .bytes ≡ s
+    go (done qs) m = absurd (m refl)
+    go (refuse a b) m = refl
+
+-- said place by place
+pub others-all : (k : Names) (ps : List Place) → others k ps ≡ length ps → (j : ℕ) → j < length ps → (h : Held) × (getD ps j free ≡ held h) × (k ≢ h .names)
+others-all k [] e j l = absurd (omega arith)
+others-all k (free ∷ ps) e j l = absurd (omega (arith, others-most k ps))
+others-all k (held h ∷ ps) e j l =
+    by-test (sameNames k (h .names))
+    (λ t. absurd (omega (arith, others-most k ps, ap (λ (b : Bool). cond b 0 1 + others k ps) (sym (T-true (sameNames k (h .names)) t)) ∙ e)))
+    (λ t. at j l t (λ i m. others-all k ps (omega (arith, ap (λ (b : Bool). cond b 0 1 + others k ps) (sym (T-false (sameNames k (h .names)) t)) ∙ e)) i m))
+  where
+    at : (i : ℕ) → i < length (held h ∷ ps) → T (not (sameNames k (h .names))) → ((m : ℕ) → m < length ps → (g : Held) × (getD ps m free ≡ held g) × (k ≢ g .names))
+        → (g : Held) × (getD (held h ∷ ps) i free ≡ held g) × (k ≢ g .names)
+    at zero m t r = (h, refl, λ n. clash (sameNames k (h .names)) (eq-names k (h .names) n) t)
+    at (suc i) m t r = r i (omega arith)
+
+pub all-others-so : (k : Names) (ps : List Place) → ((j : ℕ) → j < length ps → (h : Held) × (getD ps j free ≡ held h) × (k ≢ h .names)) → others k ps ≡ length ps
+all-others-so k [] f = refl
+all-others-so k (p ∷ ps) f =
+    let (h, e, n) = f 0 (omega arith) in
+    let r = all-others-so k ps (λ j l. f (suc j) (omega arith)) in
+    rw (e, T-false (sameNames k (h .names)) (by-test (sameNames k (h .names)) (λ t. absurd (n (names-eq k (h .names) t))) (λ t. t))) (omega arith)
+
+-- ---- the numbers that a call gives, and what a refusal leaves
+
+-- where the bytes are a cabinet
+abbrev pub putNumbers : List ℕ
+putNumbers = 0 ∷ notLater ∷ noPlace ∷ ownNumbers
+
+abbrev pub findNumbers : List ℕ
+findNumbers = 0 ∷ notThere ∷ ownNumbers
+
+-- no byte of the bytes s, and no part of them, with a refusal
+pub put-leaves : (s r : Bytes) → putKey s r .no ≢ 0 → putKey s r .bytes ≡ s
+unfolding putKey
+put-leaves s r n = on-leaves (λ ps. putRead r ps (reads r)) s (shelf s) n
+
+pub remove-leaves : (s i : Bytes) → removeKey s i .no ≢ 0 → removeKey s i .bytes ≡ s
+unfolding removeKey
+remove-leaves s i n = on-leaves (λ ps. removeRead ps (asks i)) s (shelf s) n
+
+pub find-leaves : (s i : Bytes) → findKey s i .no ≢ 0 → (findKey s i .start ≡ 0) × (findKey s i .text ≡ [])
+unfolding findKey
+find-leaves s i n = go (shelf s) n
+  where
+    at : (j : ℕ) (o : Option Held) → foundAt j o .no ≢ 0 → (foundAt j o .start ≡ 0) × (foundAt j o .text ≡ [])
+    at j none m = (refl, refl)
+    at j (some h) m = absurd (m refl)
+
+    read : (ps : List Place) (x : Reading) → findRead ps x .no ≢ 0 → (findRead ps x .start ≡ 0) × (findRead ps x .text ≡ [])
+    read ps (declined a b) m = (refl, refl)
+    read ps (about k g) m = at (lowest (holds k) ps) (lookup k ps) m
+
+    go : (o : Option (List Place)) → findIn i o .no ≢ 0 → (findIn i o .start ≡ 0) × (findIn i o .text ≡ [])
+    go none m = (refl, refl)
+    go (some ps) m = read ps (asks i) m
 
 -- ---- put: 24 and 25, of the places ps
 
@@ -92,6 +155,15 @@ module _ (r : Bytes) (ps : List Place) (S : Shelved ps) where
   unfolding putAt
   gives-25 (k, g, a, e) = let h = only-others k ps (e ∙ sym (S .number)) in rw (a, h .0, h .1)
 
+put-listed : (r : Bytes) (ps : List Place) (x : Reading) → reads r ≡ x → T (oneOf putNumbers (numberOf (putRead r ps x)))
+unfolding putAt
+put-listed r ps (declined n i) a = or-right (eqb n 0) _ (or-right (eqb n notLater) _ (or-right (eqb n noPlace) _ (reads-own r n i a .1)))
+put-listed r ps (about k g) a = go (lookup k ps)
+  where
+    go : (o : Option Held) → T (oneOf putNumbers (numberOf (putAt k g r ps o)))
+    go none = by-test (anyFree ps) (λ t. rw (T-true (anyFree ps) t) tt) (λ t. rw (T-false (anyFree ps) t) tt)
+    go (some h) = by-test (later g (h .gnt)) (λ t. rw (T-true (later g (h .gnt)) t) tt) (λ t. rw (T-false (later g (h .gnt)) t) tt)
+
 module _ (s r : Bytes) (ps : List Place) (e : shelf s ≡ some ps) where
   put-number : putKey s r .no ≡ numberOf (putRead r ps (reads r))
   unfolding putKey
@@ -100,6 +172,9 @@ module _ (s r : Bytes) (ps : List Place) (e : shelf s ≡ some ps) where
       same-number : (o : Change) → told s o .no ≡ numberOf o
       same-number (done qs) = refl
       same-number (refuse n i) = refl
+
+  pub put-given : T (oneOf putNumbers (putKey s r .no))
+  put-given = rw put-number (put-listed r ps (reads r) refl)
 
   -- a replacement with an earlier or equal GNT is refused, and nothing else answers 24
   pub exactly-24 : (putKey s r .no ≡ notLater) ↔ Earlier r ps
@@ -137,6 +212,17 @@ module _ (i : Bytes) (ps : List Place) where
   remove-26 (declined n j) a e = absurd (not-own n notThere (asks-own i n j a .1) tt e)
   remove-26 (about k g) a e = removed-26 k g (lookup k ps) refl a e
 
+find-listed : (i : Bytes) (ps : List Place) (x : Reading) → asks i ≡ x → T (oneOf findNumbers (numberOf (removeRead ps x))) × T (oneOf findNumbers (findRead ps x .no))
+unfolding removeAt
+find-listed i ps (declined n j) a =
+    let t = or-right (eqb n 0) _ (or-right (eqb n notThere) _ (asks-own i n j a .1)) in
+    (t, t)
+find-listed i ps (about k g) a = go (lookup k ps)
+  where
+    go : (o : Option Held) → T (oneOf findNumbers (numberOf (removeAt k ps o))) × T (oneOf findNumbers (foundAt (lowest (holds k) ps) o .no))
+    go none = (tt, tt)
+    go (some h) = (tt, tt)
+
 module _ (s i : Bytes) (ps : List Place) (e : shelf s ≡ some ps) where
   remove-number : removeKey s i .no ≡ numberOf (removeRead ps (asks i))
   unfolding removeKey
@@ -145,6 +231,13 @@ module _ (s i : Bytes) (ps : List Place) (e : shelf s ≡ some ps) where
       same-number : (o : Change) → told s o .no ≡ numberOf o
       same-number (done qs) = refl
       same-number (refuse n j) = refl
+
+  pub remove-given : T (oneOf findNumbers (removeKey s i .no))
+  remove-given = rw remove-number (find-listed i ps (asks i) refl .0)
+
+  pub find-given : T (oneOf findNumbers (findKey s i .no))
+  unfolding findKey
+  find-given = rw e (find-listed i ps (asks i) refl .1)
 
   pub remove-exactly-26 : (removeKey s i .no ≡ notThere) ↔ Missing i ps
   unfolding removeAt

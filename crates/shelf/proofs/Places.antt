@@ -1,6 +1,6 @@
 -- Laws of the places: what a change of one place does to look-ups, to distinctness and to the number of occupied places.
 -- Assumes nothing.
-use Prim.Native.Nat.{ℕ, suc, _+_, _≤_, _<_}
+use Prim.Native.Nat.{ℕ, zero, suc, _+_, _≤_, _<_}
 use mathlib.Core.Path.{_≡_, refl, sym, ap, _∙_, subst}
 use mathlib.Core.Logic.{_≢_}
 use mathlib.Core.Bool.{Bool, true, false, not, cond, _&&_}
@@ -276,3 +276,101 @@ pub no-free-lowest : (ps : List Place) → length ps ≤ lowest isFree ps → T 
 no-free-lowest [] l = tt
 no-free-lowest (free ∷ ps) l = absurd (omega arith)
 no-free-lowest (held h ∷ ps) l = no-free-lowest ps (omega arith)
+
+pub lowest-there : (k : Names) (ps : List Place) (h : Held) → lookup k ps ≡ some h → lowest (holds k) ps < length ps
+lowest-there k [] h e = let z : _≡_ {A = ℕ} 0 1 = cc in absurd (omega arith)
+lowest-there k (p ∷ ps) h e =
+    by-test (holds k p)
+    (λ t. rw (T-true (holds k p) t) (omega arith))
+    (λ t. let i = lowest-there k ps h (sym (lookup-there k p ps t) ∙ e) in rw (T-false (holds k p) t) (omega arith))
+
+-- ---- where a record stands
+
+-- the names that place j holds are found at or before it
+pub held-found : (j : ℕ) (ps : List Place) (h : Held) → j < length ps → getD ps j free ≡ held h → lookup (h .names) ps ≢ none
+held-found j [] h l e n = omega arith
+held-found zero (p ∷ ps) h l e n =
+    holds-some (h .names) p (rw e (names-refl (h .names))) (sym (lookup-here (h .names) p ps (rw e (names-refl (h .names)))) ∙ n)
+held-found (suc j) (p ∷ ps) h l e n =
+    by-test (holds (h .names) p)
+    (λ t. holds-some (h .names) p t (sym (lookup-here (h .names) p ps t) ∙ n))
+    (λ t. held-found j ps h (omega arith) e (sym (lookup-there (h .names) p ps t) ∙ n))
+
+-- what was found stands in a place
+pub found-at : (k : Names) (ps : List Place) (h : Held) → lookup k ps ≡ some h → (j : ℕ) × (j < length ps) × (getD ps j free ≡ held h) × (h .names ≡ k)
+found-at k [] h e = let z : _≡_ {A = ℕ} 0 1 = cc in absurd (omega arith)
+found-at k (p ∷ ps) h e =
+    by-test (holds k p)
+    (λ t. (0, omega arith, this p t (sym (lookup-here k p ps t) ∙ e), its p t (sym (lookup-here k p ps t) ∙ e)))
+    (λ t. let (j, l, g, n) = found-at k ps h (sym (lookup-there k p ps t) ∙ e) in (suc j, omega arith, g, n))
+  where
+    this : (q : Place) → T (holds k q) → contents q ≡ some h → q ≡ held h
+    this free t f = absurd t
+    this (held g) t f = let i : g ≡ h = cc in ap held i
+
+    its : (q : Place) → T (holds k q) → contents q ≡ some h → h .names ≡ k
+    its free t f = absurd t
+    its (held g) t f = let i : g ≡ h = cc in ap (λ (x : Held). x .names) (sym i) ∙ sym (names-eq k (g .names) t)
+
+-- each of the names stands in one place
+abbrev pub Once : List Place → Type 0
+Once ps = (i j : ℕ) (g h : Held) → i < length ps → j < length ps → getD ps i free ≡ held g → getD ps j free ≡ held h → g .names ≡ h .names → i ≡ j
+
+alone-apart : (g h : Held) (j : ℕ) (ps : List Place) → T (alone (held g) ps) → j < length ps → getD ps j free ≡ held h → g .names ≡ h .names → ⊥
+alone-apart g h j ps a l e n = held-found j ps h l e (ap (λ (k : Names). lookup k ps) (sym n) ∙ missing-none (lookup (g .names) ps) a)
+
+pub distinct-once : (ps : List Place) → T (distinct ps) → Once ps
+distinct-once [] d i j g h a b x y n = absurd (omega arith)
+distinct-once (p ∷ ps) d zero zero g h a b x y n = refl
+distinct-once (p ∷ ps) d zero (suc j) g h a b x y n =
+    absurd (alone-apart g h j ps (rw x at (and-yes (alone p ps) (distinct ps) d .0)) (omega arith) y n)
+distinct-once (p ∷ ps) d (suc i) zero g h a b x y n =
+    absurd (alone-apart h g i ps (rw y at (and-yes (alone p ps) (distinct ps) d .0)) (omega arith) x (sym n))
+distinct-once (p ∷ ps) d (suc i) (suc j) g h a b x y n = ap suc (distinct-once ps (and-yes (alone p ps) (distinct ps) d .1) i j g h (omega arith) (omega arith) x y n)
+
+pub once-distinct : (ps : List Place) → Once ps → T (distinct ps)
+once-distinct [] o = tt
+once-distinct (p ∷ ps) o =
+    yes-and (alone p ps) (distinct ps) (first p refl)
+    (once-distinct ps (λ i j g h a b x y n. let e = o (suc i) (suc j) g h (omega arith) (omega arith) x y n in omega arith))
+  where
+    first : (q : Place) → p ≡ q → T (alone q ps)
+    first free e = tt
+    first (held g) e =
+        none-missing (lookup (g .names) ps)
+        (go (lookup (g .names) ps) refl)
+      where
+        go : (x : Option Held) → lookup (g .names) ps ≡ x → lookup (g .names) ps ≡ none
+        go none f = f
+        go (some h) f =
+            let (j, l, y, n) = found-at (g .names) ps h f in
+            let z = o 0 (suc j) g h (omega arith) (omega arith) e y (sym n) in
+            absurd (omega arith)
+
+-- so what place j holds is what is found, and there
+pub lookup-at : (j : ℕ) (ps : List Place) (h : Held) → T (distinct ps) → j < length ps → getD ps j free ≡ held h → (lookup (h .names) ps ≡ some h) × (lowest (holds (h .names)) ps ≡ j)
+lookup-at j ps h d l e =
+    let m = lowest-found (lookup (h .names) ps) refl in
+    let c = lookup-lowest (h .names) ps in
+    (c ∙ ap (λ (i : ℕ). contents (getD ps i free)) m ∙ ap contents e, m)
+  where
+    lowest-found : (x : Option Held) → lookup (h .names) ps ≡ x → lowest (holds (h .names)) ps ≡ j
+    lowest-found none f = absurd (held-found j ps h l e f)
+    lowest-found (some g) f =
+        let (i, a, y, n) = found-at (h .names) ps g f in
+        let low : lowest (holds (h .names)) ps < length ps = lowest-there (h .names) ps g f in
+        let p = lowest-passes (holds (h .names)) ps low in
+        at-lowest (getD ps (lowest (holds (h .names)) ps) free) refl p low
+      where
+        at-lowest : (q : Place) → getD ps (lowest (holds (h .names)) ps) free ≡ q → T (holds (h .names) q) → lowest (holds (h .names)) ps < length ps → lowest (holds (h .names)) ps ≡ j
+        at-lowest free y t low = absurd t
+        at-lowest (held r) y t low = distinct-once ps d (lowest (holds (h .names)) ps) j r h low l y e (sym (names-eq (h .names) (r .names) t))
+
+-- ---- the lowest free place
+
+pub lowest-free-at : (j : ℕ) (ps : List Place) → j < length ps → getD ps j free ≡ free → ((i : ℕ) → i < j → (h : Held) × (getD ps i free ≡ held h)) → lowest isFree ps ≡ j
+lowest-free-at j [] l e f = absurd (omega arith)
+lowest-free-at zero (p ∷ ps) l e f = rw e
+lowest-free-at (suc j) (p ∷ ps) l e f =
+    let (h, g) = f 0 (omega arith) in
+    rw g (ap suc (lowest-free-at j ps (omega arith) e (λ i m. f (suc i) (omega arith))))

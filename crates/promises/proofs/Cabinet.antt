@@ -1,0 +1,492 @@
+-- The promises about the key cabinet, from the laws of shelf and cabinet.
+-- Assumes nothing.
+use Prim.Native.Nat.{ℕ, zero, suc, _+_, _-_, _*_, _≤_, _<_}
+use mathlib.Core.Path.{_≡_, refl, sym, ap, ap₂, _∙_, subst}
+use mathlib.Core.Logic.{_↔_, _⊎_, inl, inr, ⊎-elim, _≢_}
+use mathlib.Core.Bool.{Bool, true, false, not, cond}
+use mathlib.Core.Option.{Option, none, some}
+use mathlib.Core.List.{List, [], _∷_, _++_}
+use native.Mathlib.Omega.{arith}
+use lib.ListN.{length, take, drop, getD, replicate}
+use lib.Dec.{T, eqb, eqb→eq}
+use mir.Facts.{T-not, yes-eqb}
+use borrow.Author.Tests.{eq-eqb, ne-eqb}
+use denote.Ref.{now}
+use Rattle.text.specs.Text.{Bytes, oneOf}
+use Rattle.text.specs.Later.{later}
+use Rattle.text.proofs.Tests.{T-true, by-test, cond-yes}
+use Rattle.text.proofs.Later.{later-itself}
+use Rattle.numbers.specs.Numbers.{notCabinet, notLater, noPlace, notThere}
+use Rattle.format.specs.Kinds.{Kind, name, pubkeyKinds}
+use Rattle.format.specs.Read.{accepted, refused, readIdentity, readOf}
+use Rattle.format.proofs.Table.{name-inj}
+use Rattle.fields.specs.declared.Place.{Place}
+use Rattle.subjects.specs.Subjects.{manufacturer, mid, gnt}
+use Rattle.subjects.specs.Keys.{Key, gntOf}
+use Rattle.shelf.specs.Places as shelves
+use Rattle.shelf.specs.Places.{Names, named, sameNames, Held, free, held, isFree, holds, lookup, lowest, occupied, distinct, others}
+use Rattle.shelf.specs.Cabinet.{places, width, about, declined, asks, reads, zeros, encode, decode, shelf, image, entry, Result, leaving, Finding, nothing, foundAt, makeCabinet, putKey, removeKey, findKey, countIn, countKeys, checkCabinet}
+use Rattle.shelf.specs.History.{Event, lastPut, firstPuts, removals, nowhere, textOf, heldIn, Call, putting, removing, finding, Moment, putEvent, removeEvent, onto, noted, afterCall, run}
+use Rattle.shelf.proofs.Places.{names-refl, found-at, Once, distinct-once, once-distinct, lookup-at, lowest-there, lowest-free-at}
+use Rattle.shelf.proofs.Readings.{asks-accepted, asks-refused, asked, reads-accepted, reads-refused, held-of}
+use Rattle.shelf.proofs.Images.{Good, AllGood, lookup-good, decode-encode, shelf-image, shelf-some}
+use Rattle.shelf.proofs.Stores.{storedAt, put-23, put-own, put-later, put-first, remove-23, remove-own, remove-some, find-23, find-own, find-some}
+use Rattle.shelf.proofs.Histories.{Kept, kept-run, shelved-empty, lookup-empty, occupied-empty, shelf-empty, since-made, since-image}
+use Rattle.shelf.proofs.Numbers.{others-all, all-others-so, putNumbers, findNumbers, put-leaves, remove-leaves, find-leaves, put-given, exactly-24, exactly-25, remove-given, find-given, remove-exactly-26, find-exactly-26}
+use Rattle.cabinet.specs.declared.Filed.{Filed}
+use Rattle.cabinet.specs.declared.Counted.{Counted}
+use Rattle.cabinet.specs.Cabinet.{Files}
+use Rattle.cabinet.specs.Steps.{isPlace, isSome, first, allPass, isPlaceAt, aloneAt}
+use Rattle.cabinet.proofs.Bridge.{first-none}
+use Rattle.cabinet.proofs.Cabinets.{places-are, width-is, Read, its, all-read, read-all, distinct-so, cabinet-so, none-there, some-there}
+use Rattle.promises.specs.Cabinet.{placeIn, Filled, Share, Shared, IsCabinet, withPlace, Refuses, PutSaid, There, RemoveSaid, FindSaid, Counts, Step, Ran, Gives, Remembers, begun, Cabinet}
+
+-- ---- a public key's names, and what a place holds
+
+abbrev namesOf : {r : Bytes} → Key r → Names
+namesOf q = named (name (q .who)) (manufacturer (q .names)) (mid (q .names))
+
+abbrev heldBy : {b : Bytes} → Filled b → Held
+heldBy q = record { names = namesOf (q .key); gnt = gntOf (q .key); text = q .text }
+
+share-names : (j k : Kind) (fs gs : List Bytes) → Share j fs k gs ↔ (named (name j) (manufacturer fs) (mid fs) ≡ named (name k) (manufacturer gs) (mid gs))
+share-names j k fs gs = (λ (a, b, c). rw (a, b, c), λ e. (name-inj j k cc, cc, cc))
+
+shared-names : {a b : Bytes} (p : Key a) (q : Key b) → Shared p q ↔ (namesOf p ≡ namesOf q)
+shared-names p q = share-names (p .who) (q .who) (p .names) (q .names)
+
+-- what is read from a key is its names and its GNT
+key-reads : {r : Bytes} (p : Key r) {k : Names} {g : Bytes} → reads r ≡ about k g → (namesOf p ≡ k) × (gntOf p ≡ g)
+key-reads {r} p e = let f = sym (reads-accepted r p) ∙ e in (cc, cc)
+
+zeros-place : encode free ≡ replicate 1024 0
+unfolding encode width
+zeros-place = refl
+
+filled-encode : {b : Bytes} (q : Filled b) → encode (held (heldBy q)) ≡ b
+unfolding encode width
+filled-encode q = sym (q .so)
+
+filled-good : {b : Bytes} (q : Filled b) → Good (held (heldBy q))
+filled-good q = reads-accepted (q .text) (q .key)
+
+-- ---- bytes whose places are ps
+
+module _ {s : Bytes} {ps : List shelves.Place} (R : Read s ps) (j : ℕ) (l : j < 64) where
+  decodes : decode (placeIn s j) ≡ some (getD ps j free)
+  decodes = let (e, g) = R .at j l in ap decode (sym e) ∙ decode-encode (getD ps j free) g
+
+  filled-place : (q : Filled (placeIn s j)) → getD ps j free ≡ held (heldBy q)
+  filled-place q =
+      let e = sym decodes ∙ ap decode (sym (filled-encode q)) ∙ decode-encode (held (heldBy q)) (filled-good q) in
+      cc
+
+  free-place : placeIn s j ≡ replicate 1024 0 → getD ps j free ≡ free
+  free-place f = let e = sym decodes ∙ ap decode (f ∙ sym zeros-place) ∙ decode-encode free tt in cc
+
+  place-filled : (h : Held) → getD ps j free ≡ held h → (q : Filled (placeIn s j)) × (heldBy q ≡ h)
+  unfolding encode width
+  place-filled h e =
+      let (b, g) = R .at j l in
+      let g′ : reads (h .text) ≡ about (h .names) (h .gnt) = subst Good e g in
+      let k = held-of (h .text) (h .names) (h .gnt) g′ .key in
+      let (n, m) = key-reads k g′ in
+      (record { text = h .text; key = k; so = sym b ∙ ap encode e }, ap₂ (λ (x : Names) (y : Bytes). record { names = x; gnt = y; text = h .text }) n m)
+
+  place-free : getD ps j free ≡ free → placeIn s j ≡ replicate 1024 0
+  place-free e = sym (R .at j l .0) ∙ ap encode e ∙ zeros-place
+
+is-cabinet : (s : Bytes) (ps : List shelves.Place) → shelf s ≡ some ps → Read s ps → IsCabinet s
+is-cabinet s ps e R =
+    record {
+      long = R .long;
+      each = λ j l. go j l (getD ps j free) refl;
+      apart = λ i j a b p q sh.
+          distinct-once ps (shelf-some s ps e .1 .apart) i j (heldBy p) (heldBy q) (omega (arith, R .number)) (omega (arith, R .number)) (filled-place R i a p) (filled-place R j b q)
+          (shared-names (p .key) (q .key) .0 sh);
+    }
+  where
+    go : (j : ℕ) → j < 64 → (p : shelves.Place) → getD ps j free ≡ p → (placeIn s j ≡ replicate 1024 0) ⊎ Filled (placeIn s j)
+    go j l free f = inl (place-free R j l f)
+    go j l (held h) f = inr (place-filled R j l h f .0)
+
+pass-all : (t : ℕ → Bool) → ((i : ℕ) → i < 64 → t i ≡ true) → allPass t ≡ true
+pass-all t h = eq-eqb (first (λ i. not (t i)) 64 0) 64 (first-none (λ i. not (t i)) 64 0 (λ j a b. ap not (h j (omega arith))))
+
+of-cabinet : (s : Bytes) → IsCabinet s → (ps : List shelves.Place) × (shelf s ≡ some ps) × Read s ps
+of-cabinet s c = some-there s (read (its s) refl (sym all ∙ all-read s))
+  where
+    all : allPass (isPlaceAt s) ≡ true
+    all =
+        pass-all (isPlaceAt s) (λ i l.
+        ⊎-elim (λ z. ap isPlace (ap decode (z ∙ sym zeros-place) ∙ decode-encode free tt)) (λ q. ap isPlace (ap decode (sym (filled-encode q)) ∙ decode-encode (held (heldBy q)) (filled-good q))) (c .each i l))
+
+    once : (ps : List shelves.Place) → Read s ps → Once ps
+    once ps R i j g h a b x y n =
+        let i< : i < 64 = omega (arith, R .number) in
+        let j< : j < 64 = omega (arith, R .number) in
+        let (p, u) = place-filled R i i< g x in
+        let (q, v) = place-filled R j j< h y in
+        c .apart i j i< j< p q (shared-names (p .key) (q .key) .1 (ap (λ (z : Held). z .names) u ∙ n ∙ sym (ap (λ (z : Held). z .names) v)))
+
+    read : (o : Option (List shelves.Place)) → its s ≡ o → true ≡ isSome o → true ≡ isSome (shelf s)
+    read none e f = let z : _≡_ {A = ℕ} 0 1 = cc in absurd (omega arith)
+    read (some ps) e f =
+        let R = read-all s ps (c .long) e in
+        sym (distinct-so R ∙ distinct-true ps (once-distinct ps (once ps R))) ∙ cabinet-so s (c .long) (sym all)
+      where
+        distinct-true : (qs : List shelves.Place) → T (distinct qs) → distinct qs ≡ true
+        distinct-true qs t = T-true (distinct qs) t
+
+-- bytes are one, or none
+either : {X : Type 0} (s : Bytes) → ((ps : List shelves.Place) → shelf s ≡ some ps → Read s ps → IsCabinet s → X) → (shelf s ≡ none → (IsCabinet s → ⊥) → X) → X
+either {X} s f g = go (isSome (shelf s)) refl
+  where
+    go : (b : Bool) → isSome (shelf s) ≡ b → X
+    go true e = let (ps, q, R) = some-there s (sym e) in f ps q R (is-cabinet s ps q R)
+    go false e =
+        g (none-there s (sym e)) (λ c. let (ps, q, R) = of-cabinet s c in let z = sym (none-there s (sym e)) ∙ q in let w : _≡_ {A = ℕ} 0 1 = cc in omega arith)
+
+-- ---- 23, and what a refusal leaves
+
+listed : (ns : List ℕ) (n m : ℕ) → T (oneOf ns n) → T (not (oneOf ns m)) → n ≢ m
+listed ns n m t u e = T-not (oneOf ns m) (rw e at t) u
+
+exactly-23 : (s : Bytes) (n : ℕ) → (shelf s ≡ none → n ≡ notCabinet) → ((ps : List shelves.Place) → shelf s ≡ some ps → n ≢ notCabinet) → (n ≡ notCabinet) ↔ (IsCabinet s → ⊥)
+exactly-23 s n f g = (λ e c. let (ps, q, R) = of-cabinet s c in g ps q e, λ h. either s (λ ps q R c. absurd (h c)) (λ q c. f q))
+
+number-of : {x : Result} {after : Bytes} {r : Filed} → Files x after r → r .no ≡ x .no
+number-of w = ap (λ (y : Filed). y .no) (w .said)
+
+result-so : {x y : Result} {after : Bytes} {r : Filed} → Files x after r → x ≡ y → (r ≡ record { no = y .no; field = y .field }) × (after ≡ y .bytes)
+result-so w e = (w .said ∙ ap (λ (z : Result). record { no = z .no; field = z .field }) e, w .left ∙ ap (λ (z : Result). z .bytes) e)
+
+done-so : {x : Result} {after out : Bytes} {r : Filed} → Files x after r → x ≡ record { no = 0; field = 0; bytes = out } → (r .no ≡ 0) × (after ≡ out)
+done-so w e = let (a, b) = result-so w e in (ap (λ (y : Filed). y .no) a, b)
+
+-- ---- put
+
+-- the record that shares the three with a key, by its place
+module _ {s : Bytes} {ps : List shelves.Place} (e : shelf s ≡ some ps) (R : Read s ps) where
+  apart-so : T (distinct ps)
+  apart-so = shelf-some s ps e .1 .apart
+
+  -- what is in place j is found, and there
+  at-place : (j : ℕ) (l : j < 64) (q : Filled (placeIn s j)) (k : Names) → k ≡ namesOf (q .key) → (lookup k ps ≡ some (heldBy q)) × (lowest (holds k) ps ≡ j)
+  at-place j l q k n =
+      let (a, b) = lookup-at j ps (heldBy q) apart-so (omega (arith, R .number)) (filled-place R j l q) in
+      (ap (λ (x : Names). lookup x ps) n ∙ a, ap (λ (x : Names). lowest (holds x) ps) n ∙ b)
+
+  -- what is found is in a place
+  place-of : (k : Names) (h : Held) → lookup k ps ≡ some h → (j : ℕ) × (j < 64) × (q : Filled (placeIn s j)) × (heldBy q ≡ h) × (k ≡ namesOf (q .key))
+  place-of k h f =
+      let (j, l, g, n) = found-at k ps h f in
+      let l′ : j < 64 = omega (arith, R .number) in
+      let (q, u) = place-filled R j l′ h g in
+      (j, l′, q, u, sym (ap (λ (x : Held). x .names) u ∙ n))
+
+  none-found : (k : Names) → ((j : ℕ) → j < 64 → (q : Filled (placeIn s j)) → k ≡ namesOf (q .key) → ⊥) → lookup k ps ≡ none
+  none-found k f = go (lookup k ps) refl
+    where
+      go : (o : Option Held) → lookup k ps ≡ o → lookup k ps ≡ none
+      go none g = g
+      go (some h) g = let (j, l, q, u, n) = place-of k h g in absurd (f j l q n)
+
+stored-place : (s : Bytes) (j : ℕ) (k : Names) (g r : Bytes) → storedAt s j (entry k g r) ≡ withPlace s j (r ++ replicate (1024 - length r) 0)
+unfolding encode width
+stored-place s j k g r = refl
+
+emptied-place : (s : Bytes) (j : ℕ) → storedAt s j free ≡ withPlace s j (replicate 1024 0)
+unfolding encode width
+emptied-place s j = refl
+
+put-said : (s r after : Bytes) (x : Filed) → Files (putKey s r) after x → PutSaid s r after x
+put-said s r after x w =
+    record {
+      refuses = record {
+        no-cabinet =
+            exactly-23 s (x .no) (λ q. number-of w ∙ ap (λ (y : Result). y .no) (put-23 s r q))
+            (λ ps q n. listed putNumbers (putKey s r .no) notCabinet (put-given s r ps q) tt (sym (number-of w) ∙ n));
+        untouched = λ n. w .left ∙ put-leaves s r (λ z. n (number-of w ∙ z));
+      };
+      own = λ c n i e. let (ps, q, R) = of-cabinet s c in result-so w (put-own s ps q r n i (reads-refused r n i e)) .0;
+      not-later = λ c. let (ps, q, R) = of-cabinet s c in (later-to ps q R, later-from ps q R);
+      no-place = λ c. let (ps, q, R) = of-cabinet s c in (place-to ps q R, place-from ps q R);
+      replaces = λ c p j l f sh t.
+          let (ps, q, R) = of-cabinet s c in
+          let (a, b) = at-place q R j l f (namesOf p) (shared-names p (f .key) .0 sh) in
+          done-so w
+          (put-later s ps q r (namesOf p) (gntOf p) (reads-accepted r p) (heldBy f) a t (lowest-there (namesOf p) ps (heldBy f) a)
+          ∙ ap (λ (y : Bytes). record { no = 0; field = 0; bytes = y }) (ap (λ (i : ℕ). storedAt s i (entry (namesOf p) (gntOf p) r)) b ∙ stored-place s j (namesOf p) (gntOf p) r));
+      first = λ c p f j l z low.
+          let (ps, q, R) = of-cabinet s c in
+          let b : lowest isFree ps ≡ j =
+          lowest-free-at j ps (omega (arith, R .number)) (free-place R j l z) (λ i m. let i< : i < 64 = omega arith in (heldBy (low i m), filled-place R i i< (low i m))) in
+          done-so w
+          (put-first s ps q r (namesOf p) (gntOf p) (reads-accepted r p) (none-found q R (namesOf p) (λ i m g n. f i m g (shared-names p (g .key) .1 n))) (omega (arith, b, R .number))
+          ∙ ap (λ (y : Bytes). record { no = 0; field = 0; bytes = y }) (ap (λ (i : ℕ). storedAt s i (entry (namesOf p) (gntOf p) r)) b ∙ stored-place s j (namesOf p) (gntOf p) r));
+    }
+  where
+    later-to : (ps : List shelves.Place) → shelf s ≡ some ps → Read s ps → x .no ≡ notLater
+        → (p : Key r) × (j : ℕ) × (j < 64) × (q : Filled (placeIn s j)) × Shared p (q .key) × (later (gntOf p) (gntOf (q .key)) ≡ false)
+    later-to ps e R n =
+        let (k, g, h, a, f, t) = exactly-24 s r ps e .0 (sym (number-of w) ∙ n) in
+        let p = held-of r k g a .key in
+        let (u, v) = key-reads p a in
+        let (j, l, q, o, m) = place-of e R k h f in
+        (p, j, l, q, shared-names p (q .key) .1 (u ∙ m), ap₂ later v (ap (λ (y : Held). y .gnt) o) ∙ t)
+
+    later-from : (ps : List shelves.Place) → shelf s ≡ some ps → Read s ps
+        → (p : Key r) × (j : ℕ) × (j < 64) × (q : Filled (placeIn s j)) × Shared p (q .key) × (later (gntOf p) (gntOf (q .key)) ≡ false) → x .no ≡ notLater
+    later-from ps e R (p, j, l, q, sh, t) =
+        let (a, b) = at-place e R j l q (namesOf p) (shared-names p (q .key) .0 sh) in
+        number-of w ∙ exactly-24 s r ps e .1 (namesOf p, gntOf p, heldBy q, reads-accepted r p, a, t)
+
+    place-to : (ps : List shelves.Place) → shelf s ≡ some ps → Read s ps → x .no ≡ noPlace → (p : Key r) × ((j : ℕ) → j < 64 → (q : Filled (placeIn s j)) × (Shared p (q .key) → ⊥))
+    place-to ps e R n =
+        let (k, g, a, o) = exactly-25 s r ps e .0 (sym (number-of w) ∙ n) in
+        let p = held-of r k g a .key in
+        let (u, v) = key-reads p a in (
+          p,
+          λ j l.
+              let (h, y, d) = others-all k ps (o ∙ places-are ∙ sym (R .number)) j (omega (arith, R .number)) in
+              let (q, z) = place-filled R j l h y in
+              (q, λ sh. d (sym u ∙ shared-names p (q .key) .0 sh ∙ ap (λ (b : Held). b .names) z)),
+        )
+
+    place-from : (ps : List shelves.Place) → shelf s ≡ some ps → Read s ps → (p : Key r) × ((j : ℕ) → j < 64 → (q : Filled (placeIn s j)) × (Shared p (q .key) → ⊥)) → x .no ≡ noPlace
+    place-from ps e R (p, f) =
+        let o : others (namesOf p) ps ≡ length ps =
+        all-others-so (namesOf p) ps (λ j l.
+        let l′ : j < 64 = omega (arith, R .number) in
+        let (q, d) = f j l′ in
+        (heldBy q, filled-place R j l′ q, λ n. d (shared-names p (q .key) .1 n))) in
+        number-of w ∙ exactly-25 s r ps e .1 (namesOf p, gntOf p, reads-accepted r p, o ∙ R .number ∙ sym places-are)
+
+-- ---- remove and find
+
+abbrev askedNames : Kind → List Bytes → Names
+askedNames who fs = named (name who) (manufacturer fs) (mid fs)
+
+-- an accepted identity of which nothing is there, said in two ways
+abbrev Nowhere : Bytes → Bytes → Type 0
+Nowhere s i = (who : Kind) × (fs : List Bytes) × (readIdentity i ≡ accepted who fs) × ((j : ℕ) → There s who fs j → ⊥)
+
+module _ (s i : Bytes) {ps : List shelves.Place} (e : shelf s ≡ some ps) (R : Read s ps) where
+  nowhere-so : (k : Names) (g : Bytes) → asks i ≡ about k g → lookup k ps ≡ none → Nowhere s i
+  nowhere-so k g a f =
+      let q = asked i k g a in (
+        q .who,
+        q .fields,
+        q .known,
+        λ j (l, p, sh).
+            let n = share-names (q .who) (p .key .who) (q .fields) (p .key .names) .0 sh in
+            let (b, c) = at-place e R j l p k (q .names-so ∙ n) in
+            let z = sym f ∙ b in
+            let w : _≡_ {A = ℕ} 0 1 = cc in omega arith,
+      )
+
+  nothing-so : (who : Kind) (fs : List Bytes) → ((j : ℕ) → There s who fs j → ⊥) → lookup (askedNames who fs) ps ≡ none
+  nothing-so who fs f = none-found e R (askedNames who fs) (λ j l q n. f j (l, q, share-names who (q .key .who) fs (q .key .names) .1 n))
+
+  there-so : (who : Kind) (fs : List Bytes) (j : ℕ) (t : There s who fs j) → (lookup (askedNames who fs) ps ≡ some (heldBy (t .1))) × (lowest (holds (askedNames who fs)) ps ≡ j)
+  there-so who fs j (l, q, sh) = at-place e R j l q (askedNames who fs) (share-names who (q .key .who) fs (q .key .names) .0 sh)
+
+remove-said : (s i after : Bytes) (x : Filed) → Files (removeKey s i) after x → RemoveSaid s i after x
+remove-said s i after x w =
+    record {
+      refuses = record {
+        no-cabinet =
+            exactly-23 s (x .no) (λ q. number-of w ∙ ap (λ (y : Result). y .no) (remove-23 s i q))
+            (λ ps q n. listed findNumbers (removeKey s i .no) notCabinet (remove-given s i ps q) tt (sym (number-of w) ∙ n));
+        untouched = λ n. w .left ∙ remove-leaves s i (λ z. n (number-of w ∙ z));
+      };
+      own = λ c n j e. let (ps, q, R) = of-cabinet s c in result-so w (remove-own s ps q i n j (asks-refused i n j e)) .0;
+      not-there = λ c.
+          let (ps, q, R) = of-cabinet s c in (
+            λ n. let (k, g, a, f) = remove-exactly-26 s i ps q .0 (sym (number-of w) ∙ n) in nowhere-so s i q R k g a f,
+            λ (who, fs, h, f). number-of w ∙ remove-exactly-26 s i ps q .1 (askedNames who fs, gnt fs, asks-accepted i h, nothing-so s i q R who fs f),
+          );
+      removes = λ c who fs h j t.
+          let (ps, q, R) = of-cabinet s c in
+          let (a, b) = there-so s i q R who fs j t in
+          done-so w
+          (remove-some s ps q i (askedNames who fs) (gnt fs) (asks-accepted i h) (heldBy (t .1)) a (lowest-there (askedNames who fs) ps (heldBy (t .1)) a)
+          ∙ ap (λ (y : Bytes). record { no = 0; field = 0; bytes = y }) (ap (λ (m : ℕ). storedAt s m free) b ∙ emptied-place s j));
+    }
+
+-- of the definition, then of what a call answered
+find-so : (s i : Bytes) → let x = findKey s i in FindSaid s i (x .no) (x .field) (x .start) (x .text)
+find-so s i =
+    record {
+      no-cabinet = exactly-23 s (findKey s i .no) (λ q. ap (λ (y : Finding). y .no) (find-23 s i q)) (λ ps q. listed findNumbers (findKey s i .no) notCabinet (find-given s i ps q) tt);
+      own = λ c n j e.
+          let (ps, q, R) = of-cabinet s c in
+          let f = find-own s ps q i n j (asks-refused i n j e) in
+          (ap (λ (y : Finding). y .no) f, ap (λ (y : Finding). y .field) f);
+      not-there = λ c.
+          let (ps, q, R) = of-cabinet s c in (
+            λ n. let (k, g, a, f) = find-exactly-26 s i ps q .0 n in nowhere-so s i q R k g a f,
+            λ (who, fs, h, f). find-exactly-26 s i ps q .1 (askedNames who fs, gnt fs, asks-accepted i h, nothing-so s i q R who fs f),
+          );
+      found = λ c who fs h j t.
+          let (ps, q, R) = of-cabinet s c in
+          let (a, b) = there-so s i q R who fs j t in
+          let f = find-some s ps q i (askedNames who fs) (gnt fs) (asks-accepted i h) (heldBy (t .1)) a in
+          (ap (λ (y : Finding). y .no) f, ap (λ (y : Finding). y .start) f ∙ ap₂ (λ (m n : ℕ). m * n) b width-is, ap (λ (y : Finding). y .text) f);
+      nothing = find-leaves s i;
+    }
+
+-- ---- making, asking and counting
+
+make-said : (s after : Bytes) (r : Filed) → Files (makeCabinet s) after r
+    → (length s ≡ 65536 → (r .no ≡ 0) × (after ≡ replicate 65536 0)) × (length s ≢ 65536 → (r .no ≡ notCabinet) × (after ≡ s))
+unfolding makeCabinet places width
+make-said s after r w = (
+  λ l. done-so w (rw (eq-eqb (length s) 65536 l)),
+  λ l. let (a, b) = result-so w (make-other l) in (ap (λ (y : Filed). y .no) a, b),
+)
+  where
+    make-other : length s ≢ 65536 → makeCabinet s ≡ leaving s notCabinet 0
+    make-other l = rw (ne-eqb (length s) 65536 l)
+
+check-so : (s : Bytes) → ((checkCabinet s ≡ 0) ↔ IsCabinet s) × ((checkCabinet s ≡ notCabinet) ↔ (IsCabinet s → ⊥))
+unfolding checkCabinet countKeys
+check-so s = (
+  (
+    λ z. either s (λ ps q R c. c) (λ q c. absurd (let n = sym (ap (λ (o : Option (List shelves.Place)). countIn o .no) q) ∙ z in omega arith)),
+    λ c. let (ps, q, R) = of-cabinet s c in ap (λ (o : Option (List shelves.Place)). countIn o .no) q,
+  ),
+  exactly-23 s (countKeys s .no) (λ q. ap (λ (o : Option (List shelves.Place)). countIn o .no) q)
+      (λ ps q n. let m = sym (ap (λ (o : Option (List shelves.Place)). countIn o .no) q) ∙ n in omega arith),
+)
+
+-- ---- any list of calls
+
+-- a call of the code is a call of the history
+step-call : (m n : Moment) → Step m n → (c : Call) × (n ≡ afterCall c m)
+unfolding afterCall
+step-call m n (inl (κs, (a, (r, (s, (p, (e, f))))))) = (
+  putting (now (a .1 .0)),
+  f ∙ ap₂ (λ (k : ℕ) (x : Bytes). record { bytes = x; events = cond (eqb k 0) (onto (putEvent (now (a .1 .0)) (reads (now (a .1 .0)))) (m .events)) (m .events) }) (number-of p) (p .left)
+      ∙ ap (λ (x : Bytes). noted (putEvent (now (a .1 .0)) (reads (now (a .1 .0)))) (putKey x (now (a .1 .0))) (m .events)) e,
+)
+step-call m n (inr (inl (κs, (a, (r, (s, (p, (e, f)))))))) = (
+  removing (now (a .1 .0)),
+  f ∙ ap₂ (λ (k : ℕ) (x : Bytes). record { bytes = x; events = cond (eqb k 0) (onto (removeEvent (asks (now (a .1 .0)))) (m .events)) (m .events) }) (number-of p) (p .left)
+      ∙ ap (λ (x : Bytes). noted (removeEvent (asks (now (a .1 .0)))) (removeKey x (now (a .1 .0))) (m .events)) e,
+)
+step-call m n (inr (inr (κs, (a, (r, (s, (p, (e, f)))))))) = (finding (now (a .1 .0)), f)
+
+ran-calls : (k : ℕ) (m n : Moment) → Ran k m n → (cs : List Call) × (n ≡ run cs m)
+unfolding run
+ran-calls zero m n e = ([], e)
+ran-calls (suc k) m n (l, s, r) =
+    let (c, e) = step-call m l s in
+    let (cs, f) = ran-calls k l n r in
+    (c ∷ cs, f ∙ ap (run cs) e)
+
+kept-remembers : (before : Names → Option Bytes) (many : ℕ) (m : Moment) → Kept before many m → Remembers before many m
+unfolding countKeys findKey
+kept-remembers before many m H =
+    record {
+      number = λ κs a r s p e.
+          let q = here (now (a .0)) e in
+          let f = p ∙ ap (λ (o : Option (List shelves.Place)). record { no = countIn o .no; count = countIn o .count }) q in
+          (ap (λ (x : Counted). x .no) f, ap (λ (x : Counted). x .count + removals (m .events)) f ∙ H .counts);
+      finds = λ κs a r s p e k g f.
+          let q : findKey (now (a .0)) (now (a .1 .0)) ≡ foundAt (lowest (holds k) (H .its-places)) (lookup k (H .its-places)) = rw (here (now (a .0)) e, f) in
+          gives (lookup k (H .its-places)) (lowest (holds k) (H .its-places)) (lastPut before k (m .events)) (H .looks k)
+          (p .its-no ∙ ap (λ (x : Finding). x .no) q) (p .its-part .holds ∙ ap (λ (x : Finding). x .text) q);
+    }
+  where
+    here : (x : Bytes) → x ≡ m .bytes → shelf x ≡ some (H .its-places)
+    here x e = ap shelf (e ∙ H .bytes-are) ∙ shelf-image (H .its-places) (H .shelved)
+
+    gives : (o : Option Held) (j : ℕ) (l : Option Bytes) → textOf o ≡ l → {part : Bytes} {n : ℕ} → n ≡ foundAt j o .no → part ≡ foundAt j o .text → Gives l part n
+    gives none j none e a b = a
+    gives none j (some t) e a b = let z : _≡_ {A = ℕ} 0 1 = cc in absurd (omega arith)
+    gives (some h) j none e a b = let z : _≡_ {A = ℕ} 0 1 = cc in absurd (omega arith)
+    gives (some h) j (some t) e a b = let f : h .text ≡ t = cc in (a, b ∙ f)
+
+-- since it was made
+since-empty : (s after : Bytes) (r : Filed) → Files (makeCabinet s) after r → r .no ≡ 0 → (n : ℕ) (m : Moment) → Ran n (begun after) m → Remembers nowhere 0 m
+unfolding places width
+since-empty s after r w z n m t =
+    let (cs, e) = ran-calls n (begun after) m t in
+    kept-remembers nowhere 0 m (subst (Kept nowhere 0) (sym (e ∙ ap (λ (x : Bytes). run cs (begun x)) (w .left))) (since-made s long cs))
+  where
+    long : length s ≡ places * width
+    long = by-test (eqb (length s) 65536) (λ u. eqb→eq (length s) 65536 u) (λ u. absurd (let q = sym z ∙ make-said s after r w .1 (λ y. T-not (eqb (length s) 65536) (yes-eqb y) u) .0 in omega arith))
+
+-- ---- the empty cabinet, and one record in it
+
+zeros-shelf : shelf (replicate 65536 0) ≡ some (replicate places free)
+unfolding places width
+zeros-shelf = shelf-empty
+
+pub empty-cabinet : IsCabinet (replicate 65536 0)
+empty-cabinet = let (ps, q, R) = some-there (replicate 65536 0) (sym (ap isSome zeros-shelf)) in is-cabinet (replicate 65536 0) ps q R
+
+module _ (r : Bytes) (p : Key r) where
+  pub first-done : putKey (replicate 65536 0) r .no ≡ 0
+  unfolding places
+  first-done =
+      ap (λ (y : Result). y .no)
+      (put-first (replicate 65536 0) (replicate places free) zeros-shelf r (namesOf p) (gntOf p) (reads-accepted r p) (lookup-empty places (namesOf p)) (omega arith))
+
+  -- put again, it is not later
+  pub again : (s : Bytes) → s ≡ putKey (replicate 65536 0) r .bytes → IsCabinet s × (putKey s r .no ≡ notLater)
+  unfolding run afterCall
+  again s e =
+      let H = kept-run nowhere 0 (putting r ∷ []) (begun (replicate 65536 0)) start in
+      let bytes : s ≡ image (H .its-places) = e ∙ H .bytes-are in
+      let here : shelf s ≡ some (H .its-places) = ap shelf bytes ∙ shelf-image (H .its-places) (H .shelved) in
+      let (ps, q, R) = some-there s (sym (ap isSome here)) in
+      let look : heldIn (H .its-places) (namesOf p) ≡ some r = H .looks (namesOf p) ∙ last in
+      (is-cabinet s ps q R, exactly-24 s r (H .its-places) here .1 (found (H .its-places) (lookup (namesOf p) (H .its-places)) refl look (H .shelved .good)))
+    where
+      start : Kept nowhere 0 (begun (replicate 65536 0))
+      start = record {
+        its-places = replicate places free;
+        shelved = shelved-empty;
+        bytes-are = sym (shelf-some (replicate 65536 0) (replicate places free) zeros-shelf .0);
+        looks = λ k. ap textOf (lookup-empty places k);
+        counts = omega (arith, occupied-empty places);
+      }
+
+      last : lastPut nowhere (namesOf p) (run (putting r ∷ []) (begun (replicate 65536 0)) .events) ≡ some r
+      last = rw (first-done, reads-accepted r p) (cond-yes (sameNames (namesOf p) (namesOf p)) (some r) none (names-refl (namesOf p)))
+
+      found : (ps : List shelves.Place) (o : Option Held) → lookup (namesOf p) ps ≡ o → textOf o ≡ some r → AllGood ps
+          → (k : Names) × (g : Bytes) × (h : Held) × (reads r ≡ about k g) × (lookup k ps ≡ some h) × (later g (h .gnt) ≡ false)
+      found ps none f t a = let z : _≡_ {A = ℕ} 0 1 = cc in absurd (omega arith)
+      found ps (some h) f t a =
+          let text : h .text ≡ r = cc in
+          let good : reads (h .text) ≡ about (h .names) (h .gnt) = lookup-good (namesOf p) ps h a f in
+          let (n, m) = key-reads p (ap reads (sym text) ∙ good) in
+          (namesOf p, gntOf p, h, reads-accepted r p, f, ap (later (gntOf p)) (sym m) ∙ later-itself (gntOf p))
+
+pub cabinet : Cabinet
+cabinet =
+    record {
+      made = λ κs a r s p. make-said (now (a .0)) (now (s .0)) r p;
+      checked = λ κs a r s p. rw p (check-so (now (a .0)));
+      put = λ κs a r s p. put-said (now (a .0)) (now (a .1 .0)) (now (s .0)) r p;
+      removed = λ κs a r s p. remove-said (now (a .0)) (now (a .1 .0)) (now (s .0)) r p;
+      place = λ κs a r s p. rw (p .bytes, p .said) (find-so (now (a .0)) (now (a .1 .0)));
+      found = λ κs a r s p. (
+        findKey (now (a .0)) (now (a .1 .0)) .start,
+        record { stands = p .its-part .stands; holds = refl },
+        rw (p .its-part .holds, p .its-no, p .its-field) (find-so (now (a .0)) (now (a .1 .0))),
+      );
+      history = λ κs a r s p. since-empty (now (a .0)) (now (s .0)) r p;
+      from-image = λ s c.
+          let (ps, q, R) = of-cabinet s c in (
+            ps,
+            q,
+            λ n m t.
+                let (cs, e) = ran-calls n (begun s) m t in
+                kept-remembers (heldIn ps) (occupied ps) m (subst (Kept (heldIn ps) (occupied ps)) (sym e) (since-image s ps q cs)),
+          );
+    }

@@ -1,0 +1,159 @@
+-- The centre's key cabinet: document 02, E8. What a cabinet is, what each call answers and leaves, and what holds after any list of calls.
+-- Assumes nothing.
+use Prim.Native.Nat.{ℕ, zero, suc, _+_, _-_, _*_, _<_}
+use mathlib.Core.Path.{_≡_}
+use mathlib.Core.Logic.{_↔_, _⊎_, _≢_}
+use mathlib.Core.Bool.{true, false, cond}
+use mathlib.Core.Option.{Option, none, some}
+use mathlib.Core.List.{List, [], _++_}
+use lib.ListN.{length, take, drop, replicate}
+use lib.Dec.{eqb}
+use denote.Ref.{now}
+use Rattle.text.specs.Text.{Bytes}
+use Rattle.text.specs.Part.{Part}
+use Rattle.text.specs.Later.{later}
+use Rattle.numbers.specs.Numbers.{notCabinet, notLater, noPlace, notThere}
+use Rattle.format.specs.Kinds.{Kind, pubkeyKinds}
+use Rattle.format.specs.Read.{accepted, refused, readIdentity, readOf}
+use Rattle.subjects.specs.Subjects.{manufacturer, mid}
+use Rattle.subjects.specs.Keys.{Key, gntOf}
+use Rattle.shelf.specs.Places as shelf-places
+use Rattle.shelf.specs.Places.{Names, occupied}
+use Rattle.shelf.specs.Cabinet.{about, asks, reads, shelf}
+use Rattle.shelf.specs.History.{Event, lastPut, firstPuts, removals, nowhere, heldIn, Moment, putEvent, removeEvent, onto}
+use Rattle.cabinet.specs.declared.Filed.{Filed}
+use Rattle.cabinet.specs.declared.Counted.{Counted}
+use Rattle.cabinet.proofs.make_cabinet.Reads as make-cabinet
+use Rattle.cabinet.proofs.check_cabinet.Reads as check-cabinet
+use Rattle.cabinet.proofs.count_keys.Reads as count-keys
+use Rattle.cabinet.proofs.put_key.Reads as put-key
+use Rattle.cabinet.proofs.remove_key.Reads as remove-key
+use Rattle.cabinet.proofs.key_place.Reads as key-place
+use Rattle.cabinet.proofs.find_key.Reads as find-key
+use Rattle.promises.specs.Calls.{Holds, SomeCall}
+
+-- ---- what a cabinet is
+
+-- place j, from 0
+abbrev pub placeIn : Bytes → ℕ → Bytes
+placeIn s j = take 1024 (drop (j * 1024) s)
+
+-- the bytes b of a place are an accepted public key and zeros after it
+pub record Filled (b : Bytes) : Type 0 where
+  pub text : Bytes
+  pub key : Key text
+  pub so : b ≡ text ++ replicate (1024 - length text) 0
+
+-- two identities have one kind, Manufacturer and MID
+abbrev pub Share : Kind → List Bytes → Kind → List Bytes → Type 0
+Share j fs k gs = (j ≡ k) × (manufacturer fs ≡ manufacturer gs) × (mid fs ≡ mid gs)
+
+-- and two public keys share those three
+abbrev pub Shared : {a b : Bytes} → Key a → Key b → Type 0
+Shared p q = Share (p .who) (p .names) (q .who) (q .names)
+
+pub record IsCabinet (s : Bytes) : Type 0 where
+  pub long : length s ≡ 65536
+  pub each : (j : ℕ) → j < 64 → (placeIn s j ≡ replicate 1024 0) ⊎ Filled (placeIn s j)
+  pub apart : (i j : ℕ) → i < 64 → j < 64 → (p : Filled (placeIn s i)) (q : Filled (placeIn s j)) → Shared (p .key) (q .key) → i ≡ j
+
+-- the bytes s with v in place j, and every other byte as it was
+abbrev pub withPlace : Bytes → ℕ → Bytes → Bytes
+withPlace s j v = (take (j * 1024) s ++ v) ++ drop (j * 1024 + 1024) s
+
+-- ---- the calls: the bytes that were lent, what else was, the bytes afterwards, and the answer
+
+-- 23 exactly for bytes that are no cabinet, and a refused call leaves all of them
+pub record Refuses (s after : Bytes) (no : ℕ) : Type 0 where
+  pub no-cabinet : (no ≡ notCabinet) ↔ (IsCabinet s → ⊥)
+  pub untouched : no ≢ 0 → after ≡ s
+
+pub record PutSaid (s r after : Bytes) (x : Filed) : Type 0 where
+  pub refuses : Refuses s after (x .no)
+  -- the record's own numbers before 24 and 25
+  pub own : IsCabinet s → (n i : ℕ) → readOf pubkeyKinds r ≡ refused n i → x ≡ record { no = n; field = i }
+  -- 24 exactly where a record that shares the three is there, and the GNT is not later: earlier or equal
+  pub not-later : IsCabinet s
+      → (x .no ≡ notLater) ↔ ((p : Key r) × (j : ℕ) × (j < 64) × (q : Filled (placeIn s j)) × Shared p (q .key) × (later (gntOf p) (gntOf (q .key)) ≡ false))
+  -- 25 exactly where 64 records of other subjects are there
+  pub no-place : IsCabinet s → (x .no ≡ noPlace) ↔ ((p : Key r) × ((j : ℕ) → j < 64 → (q : Filled (placeIn s j)) × (Shared p (q .key) → ⊥)))
+  -- a replacement stays in its place
+  pub replaces : IsCabinet s → (p : Key r) (j : ℕ) → j < 64 → (q : Filled (placeIn s j)) → Shared p (q .key) → later (gntOf p) (gntOf (q .key)) ≡ true
+      → (x .no ≡ 0) × (after ≡ withPlace s j (r ++ replicate (1024 - length r) 0))
+  -- a first put takes the lowest free place
+  pub first : IsCabinet s → (p : Key r) → ((j : ℕ) → j < 64 → (q : Filled (placeIn s j)) → Shared p (q .key) → ⊥)
+      → (j : ℕ) → j < 64 → placeIn s j ≡ replicate 1024 0 → ((i : ℕ) → i < j → Filled (placeIn s i))
+      → (x .no ≡ 0) × (after ≡ withPlace s j (r ++ replicate (1024 - length r) 0))
+
+-- a record of the names of an accepted identity is in place j; GNT and Fingerprint of the identity may differ
+abbrev pub There : Bytes → Kind → List Bytes → ℕ → Type 0
+There s who fs j = (j < 64) × (q : Filled (placeIn s j)) × Share who fs (q .key .who) (q .key .names)
+
+pub record RemoveSaid (s i after : Bytes) (x : Filed) : Type 0 where
+  pub refuses : Refuses s after (x .no)
+  pub own : IsCabinet s → (n j : ℕ) → readIdentity i ≡ refused n j → x ≡ record { no = n; field = j }
+  -- 26 exactly where nothing of its names is there
+  pub not-there : IsCabinet s
+      → (x .no ≡ notThere) ↔ ((who : Kind) × (fs : List Bytes) × (readIdentity i ≡ accepted who fs) × ((j : ℕ) → There s who fs j → ⊥))
+  -- and else the place is all zeros
+  pub removes : IsCabinet s → (who : Kind) (fs : List Bytes) → readIdentity i ≡ accepted who fs → (j : ℕ) → There s who fs j
+      → (x .no ≡ 0) × (after ≡ withPlace s j (replicate 1024 0))
+
+pub record FindSaid (s i : Bytes) (no field start : ℕ) (text : Bytes) : Type 0 where
+  pub no-cabinet : (no ≡ notCabinet) ↔ (IsCabinet s → ⊥)
+  pub own : IsCabinet s → (n j : ℕ) → readIdentity i ≡ refused n j → (no ≡ n) × (field ≡ j)
+  pub not-there : IsCabinet s
+      → (no ≡ notThere) ↔ ((who : Kind) × (fs : List Bytes) × (readIdentity i ≡ accepted who fs) × ((j : ℕ) → There s who fs j → ⊥))
+  -- the record in its place
+  pub found : IsCabinet s → (who : Kind) (fs : List Bytes) → readIdentity i ≡ accepted who fs → (j : ℕ) (t : There s who fs j)
+      → (no ≡ 0) × (start ≡ j * 1024) × (text ≡ t .1 .text)
+  -- demand 1
+  pub nothing : no ≢ 0 → (start ≡ 0) × (text ≡ [])
+
+-- ---- any list of calls of the code
+
+-- one call took the moment m to n: it was lent the bytes of m, and an event counts where it answered 0
+abbrev pub Counts : Moment → Moment → Option Event → ℕ → Bytes → Type 0
+Counts m n e number after = n ≡ record { bytes = after; events = cond (eqb number 0) (onto e (m .events)) (m .events) }
+
+abbrev pub Step : Moment → Moment → Type 0
+Step m n =
+    SomeCall put-key.Post (λ κs a r s. (now (a .0) ≡ m .bytes) × Counts m n (putEvent (now (a .1 .0)) (reads (now (a .1 .0)))) (r .no) (now (s .0)))
+    ⊎ SomeCall remove-key.Post (λ κs a r s. (now (a .0) ≡ m .bytes) × Counts m n (removeEvent (asks (now (a .1 .0)))) (r .no) (now (s .0)))
+    ⊎ SomeCall find-key.Post (λ κs a r s. (now (a .0) ≡ m .bytes) × (n ≡ m))
+
+-- so many calls, one after another
+abbrev pub Ran : ℕ → Moment → Moment → Type 0
+Ran zero m n = n ≡ m
+Ran (suc k) m n = (l : Moment) × Step m l × Ran k l n
+
+abbrev pub Gives : Option Bytes → Bytes → ℕ → Type 0
+Gives none part number = number ≡ notThere
+Gives (some t) part number = (number ≡ 0) × (part ≡ t)
+
+-- at the moment m, where so many records were there `before` the calls
+pub record Remembers (before : Names → Option Bytes) (many : ℕ) (m : Moment) : Type 0 where
+  -- the occupied places number what was there and the accepted first puts, less the accepted removals
+  pub number : Holds count-keys.Post (λ κs a r s. now (a .0) ≡ m .bytes → (r .no ≡ 0) × (r .count + removals (m .events) ≡ many + firstPuts before (m .events)))
+  -- find gives the last accepted put that was not removed: the very bytes that were put
+  pub finds : Holds find-key.Post
+      (λ κs a r s. now (a .0) ≡ m .bytes → (k : Names) (g : Bytes) → asks (now (a .1 .0)) ≡ about k g → Gives (lastPut before k (m .events)) (now r) (now (s .1 .1 .0)))
+
+abbrev pub begun : Bytes → Moment
+begun s = record { bytes = s; events = [] }
+
+pub record Cabinet : Type 0 where
+  pub made : Holds make-cabinet.Post
+      (λ κs a r s. (length (now (a .0)) ≡ 65536 → (r .no ≡ 0) × (now (s .0) ≡ replicate 65536 0))
+      × (length (now (a .0)) ≢ 65536 → (r .no ≡ notCabinet) × (now (s .0) ≡ now (a .0))))
+  pub checked : Holds check-cabinet.Post (λ κs a r s. ((r .no ≡ 0) ↔ IsCabinet (now (a .0))) × ((r .no ≡ notCabinet) ↔ (IsCabinet (now (a .0)) → ⊥)))
+  pub put : Holds put-key.Post (λ κs a r s. PutSaid (now (a .0)) (now (a .1 .0)) (now (s .0)) r)
+  pub removed : Holds remove-key.Post (λ κs a r s. RemoveSaid (now (a .0)) (now (a .1 .0)) (now (s .0)) r)
+  pub place : Holds key-place.Post (λ κs a r s. FindSaid (now (a .0)) (now (a .1 .0)) (r .no) (r .field) (r .start) (take (r .len) (drop (r .start) (now (a .0)))))
+  -- what is found is a part of the lent bytes
+  pub found : Holds find-key.Post
+      (λ κs a r s. (start : ℕ) × Part (a .0) start (now r) r × FindSaid (now (a .0)) (now (a .1 .0)) (now (s .1 .1 .0)) (now (s .1 .1 .1 .0)) start (now r))
+  -- the history, since it was made empty
+  pub history : Holds make-cabinet.Post (λ κs a r s. r .no ≡ 0 → (n : ℕ) (m : Moment) → Ran n (begun (now (s .0))) m → Remembers nowhere 0 m)
+  -- and from any image that is a cabinet
+  pub from-image : (s : Bytes) → IsCabinet s → (ps : List shelf-places.Place) × (shelf s ≡ some ps) × ((n : ℕ) (m : Moment) → Ran n (begun s) m → Remembers (heldIn ps) (occupied ps) m)
