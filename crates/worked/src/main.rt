@@ -2,10 +2,11 @@
 // the records of STS 600-4-2's Appendix A (000), step by step, through the public calls alone. Standard input has three lines
 // for a step: where it stands and what it is; a call with what it is lent, with a tab between them, because an attribute may
 // have spaces; the value known. In a text by mail, which comes last, and in the value known of it, a tab stands for a line
-// feed. The program prints each step with the value that the library gives, says of each whether it agrees, and at last how
-// many do. docs/VECTORS.md tells where each value was taken from.
+// feed. A step of the key cabinet has many calls, on one cabinet. The program prints each step with the value that the library
+// gives, says of each whether it agrees, and at last how many do. docs/VECTORS.md tells where each value was taken from.
 mod calls;
 mod confirmations;
+mod filing;
 mod say;
 mod writing;
 
@@ -44,10 +45,10 @@ fn run_step(title: &[u8], step: &[u8], known: &[u8]) -> usize {
 
 // Room for the input, which has no more lines than it has bytes. The length is stated because a proof that looked at this
 // many zeros would be slow.
-const ROOM: usize = 262144;
+const ROOM: usize = 524288;
 
 fn room() -> [u8; ROOM]
-    ensures { λ r. ⌜ 262144 ≡ length r ⌝ }
+    ensures { λ r. ⌜ 524288 ≡ length r ⌝ }
 {
     [0; ROOM]
 }
