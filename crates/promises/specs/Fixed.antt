@@ -4,6 +4,7 @@
 -- Assumes nothing.
 use Prim.Native.Char.{code}
 use mathlib.Core.Bool.{Bool, true, false}
+use mathlib.Core.Option.{Option, none, some}
 use mathlib.Core.List.{List, [], _∷_, _++_}
 use lib.ListN.{take, drop, replicate, set}
 use Rattle.numbers.specs.Numbers.{tooLong, unknownKind, missingCheck, wrongCheck, wrongCount, wrongText, wrongIdentity, unpaired, wrongKind, shortOutput, unfinished, missingItem, notAlike, wrongAttributes, wrongFingerprint, wrongZ, otherRequest, wrongTag, missingTrailer, wrongHash, missingBegins, missingEnds}
@@ -33,9 +34,9 @@ use Rattle.confirm.specs.declared.Confirmed.{Confirmed}
 use Rattle.sha1.specs.Sha1.{sha1}
 use Rattle.trailed.specs.Trailed.{trailer, readTrailed, trailedAt, writeTrailed}
 use Rattle.mail.specs.Mail.{guarded, writeMail, readMail}
+use Rattle.shelf.specs.Places as shelf
 use Rattle.shelf.specs.Places.{named}
 use Rattle.shelf.specs.Cabinet.{Reading, about, declined, asks, reads, decode}
-use Rattle.cabinet.specs.Steps.{isPlace}
 use Rattle.promises.specs.Values.{Value, number, bytes, test, types, admitted}
 use Rattle.promises.specs.Worked.{manufacturerId, moduleIdFields, moduleId, centreId, manufacturerKeyFields, manufacturerKey, moduleKeyFields, moduleKey, centreKeyFields, centreKey, requestFields, request, responseFields, response, keyAttributes, keyFields, key, longAttributes}
 
@@ -561,6 +562,10 @@ letters =
 abbrev pub readingSaid : Reading → Bytes
 readingSaid (about (named kind maker id) g) = joined (code ":") (kind ∷ maker ∷ id ∷ g ∷ [])
 readingSaid (declined n i) = n ∷ i ∷ []
+
+abbrev pub isPlace : Option shelf.Place → Bool
+isPlace none = false
+isPlace (some p) = true
 
 -- the bytes of a place that begins so, and zeros
 abbrev pub padded : Bytes → Bytes
