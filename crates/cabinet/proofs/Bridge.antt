@@ -2,19 +2,19 @@
 -- Assumes nothing.
 use Prim.Native.Nat.{ℕ, zero, suc, _+_, _-_, _*_, _≤_, _<_}
 use mathlib.Core.Path.{_≡_, refl, sym, ap, ap₂, _∙_}
-use mathlib.Core.Bool.{Bool, true, false, not, cond, _&&_}
+use mathlib.Core.Bool.{Bool, false, not, cond}
 use mathlib.Core.Option.{Option, none, some}
 use mathlib.Core.List.{List, [], _∷_}
 use native.Mathlib.Omega.{arith}
 use native.Mathlib.Nat.{suc-mul, zero-mul, zero-add, add-comm}
-use lib.ListN.{length, take, drop, getD, length-drop}
+use lib.ListN.{length, take, drop, getD}
 use lib.Seq.{drop-drop}
-use lib.Dec.{T, eqb, eqb→eq}
+use lib.Dec.{eqb, eqb→eq}
 use mir.Facts.{T-not, yes-eqb}
 use borrow.Author.Tests.{eq-eqb, ne-eqb}
 use Rattle.text.specs.Text.{Bytes}
 use Rattle.text.proofs.Tests.{T-true, T-false, by-test}
-use Rattle.shelf.specs.Places.{Names, Held, Place, free, held, isFree, holds, lookup, lowest, occupied, missing, alone, distinct}
+use Rattle.shelf.specs.Places.{Names, Place, free, held, holds, lookup, lowest, missing, alone, distinct}
 use Rattle.shelf.specs.Cabinet.{decode, decodeAll, parts, both}
 use Rattle.shelf.proofs.Images.{both-some}
 use Rattle.cabinet.specs.Steps.{isPlace, isSome, partAt, first, isPlaceAt}

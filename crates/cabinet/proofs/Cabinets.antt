@@ -9,20 +9,19 @@ use mathlib.Core.List.{List, [], _∷_, _++_}
 use native.Mathlib.Omega.{arith}
 use native.Mathlib.Numerals.{add-one}
 use native.Mathlib.Nat.{add-zero}
-use lib.ListN.{length, take, drop, getD, drop-of-length-le, length-drop}
+use lib.ListN.{length, drop, getD, drop-of-length-le, length-drop}
 use lib.Seq.{getD-take, getD-drop, drop-cons}
 use lib.Dec.{T, eqb, eqb→eq}
 use mir.Facts.{and-yes, T-not, yes-eqb}
 use borrow.Author.Tests.{eq-eqb, ne-eqb}
 use Rattle.text.specs.Text.{Bytes, without}
 use Rattle.text.proofs.Tests.{T-true, T-false, by-test}
-use Rattle.subjects.specs.Keys.{subject}
-use Rattle.shelf.specs.Places.{Names, Held, Place, free, held, isFree, holds, lookup, lowest, occupied, missing, alone, distinct}
-use Rattle.shelf.specs.Cabinet.{places, width, reads, about, zeros, encode, decode, parts, decodeAll, provided, whereDistinct, shelf}
+use Rattle.shelf.specs.Places.{Names, Held, Place, free, held, isFree, holds, lowest, occupied, alone, distinct}
+use Rattle.shelf.specs.Cabinet.{places, width, zeros, encode, parts, decodeAll, provided, whereDistinct, shelf}
 use Rattle.shelf.proofs.Readings.{fitting}
-use Rattle.shelf.proofs.Images.{Good, AllGood, decode-some, parts-some, provided-some, distinct-some}
+use Rattle.shelf.proofs.Images.{Good, decode-some, parts-some, provided-some, distinct-some}
 use Rattle.cabinet.specs.Steps.{isSome, isPlaceAt, partAt, namesIn, subjectAt, startsSo, first, firstFrom, allPass, hasNames, isFreeAt, aloneAt, occupiedOf}
-use Rattle.cabinet.proofs.Names.{namesText, Clean, clean, names-taken, free-names, key-so, its-subject, subject-taken, held-names}
+use Rattle.cabinet.proofs.Names.{namesText, Clean, clean, names-taken, free-names, its-subject, subject-taken, held-names}
 use Rattle.cabinet.proofs.Bridge.{first-same, lowest-drop, missing-lowest, aloneIn, distinct-first, all-places, place-at}
 
 -- ---- the numbers of a cabinet

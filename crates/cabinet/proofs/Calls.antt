@@ -3,19 +3,17 @@
 use Prim.Native.Nat.{ℕ, zero, suc, _+_, _-_, _*_, _≤_, _<_}
 use mathlib.Core.Path.{_≡_, refl, sym, ap, ap₂, _∙_, subst}
 use mathlib.Core.Logic.{_≢_}
-use mathlib.Core.Bool.{Bool, true, false, cond}
+use mathlib.Core.Bool.{Bool, true, false}
 use mathlib.Core.Option.{Option, none, some}
-use mathlib.Core.List.{List, [], _∷_, _++_}
+use mathlib.Core.List.{List, _++_}
 use native.Mathlib.Omega.{arith}
-use lib.ListN.{length, take, drop, getD, length-take, length-drop}
-use lib.Dec.{T, eqb}
+use lib.ListN.{length, take, drop, getD}
 use denote.Ref.{RefT, ptr, now}
 use mir.Facts.{yes-eqb}
 use borrow.Author.Tests.{eq-eqb, ne-eqb}
 use Rattle.text.specs.Text.{Bytes}
 use Rattle.text.specs.Later.{later}
 use Rattle.text.specs.Part.{Part}
-use Rattle.numbers.specs.Numbers.{notCabinet, notLater, noPlace, notThere}
 use Rattle.format.specs.Kinds.{name, identityKinds, pubkeyKinds}
 use Rattle.format.specs.Build.{Built}
 use Rattle.format.specs.Read.{Outcome, accepted, refused, readIdentity, readOf}
@@ -31,20 +29,19 @@ use Rattle.subjects.specs.Subjects.{manufacturer, mid, gnt}
 use Rattle.subjects.specs.Keys.{subject}
 use Rattle.subjects.proofs.Keys.{key, its-field}
 use Rattle.shelf.specs.Places as shelf-places
-use Rattle.shelf.specs.Places.{Names, named, Held, free, held, isFree, holds, contents, lookup, lowest, missing}
-use Rattle.shelf.specs.Cabinet.{nothing, places, width, about, declined, asks, reads, zeros, encode, shelf, entry, Result, leaving, makeCabinet, putKey, removeKey, Finding, findKey, countIn, countKeys, checkCabinet}
-use Rattle.shelf.proofs.Places.{lookup-lowest, lowest-passes, lowest-most, missing-none, free-lowest, no-free-lowest}
-use Rattle.shelf.proofs.Readings.{Asked, asked, asks-accepted, asks-refused, reads-accepted, reads-refused, held-of, fitting}
+use Rattle.shelf.specs.Places.{Names, named, Held, free, held, isFree, holds, contents, lookup, lowest}
+use Rattle.shelf.specs.Cabinet.{nothing, places, width, about, declined, asks, reads, zeros, encode, shelf, entry, Result, makeCabinet, putKey, removeKey, Finding, findKey, countIn, countKeys, checkCabinet}
+use Rattle.shelf.proofs.Places.{lookup-lowest, lowest-passes, lowest-most, missing-none}
+use Rattle.shelf.proofs.Readings.{Asked, asked, asks-accepted, asks-refused, reads-accepted, reads-refused, fitting}
 use Rattle.shelf.proofs.Images.{Good, text-back, shelf-some}
 use Rattle.shelf.proofs.Stores.{storedAt, found-part, put-23, put-own, put-later, put-not-later, put-first, put-full, remove-23, remove-own, remove-some, remove-none, find-23, find-own, find-some, find-none}
 use Rattle.cabinet.specs.declared.Filed.{Filed}
-use Rattle.cabinet.specs.declared.Counted.{Counted}
 use Rattle.cabinet.specs.Cabinet.{Files, checked, counted, FindSaid, FindPart}
-use Rattle.cabinet.specs.Steps.{isSome, partAt, withPart, namesIn, isLaterThan, firstFrom, hasNames, isFreeAt, occupiedOf, Sized, PlaceIn, Writing}
-use Rattle.cabinet.proofs.Names.{namesText, Clean, clean, names-taken, held-later}
+use Rattle.cabinet.specs.Steps.{isSome, partAt, withPart, namesIn, isLaterThan, firstFrom, hasNames, isFreeAt, occupiedOf}
+use Rattle.cabinet.proofs.Names.{clean, names-taken, held-later}
 use Rattle.cabinet.proofs.Bridge.{missing-lowest}
 use Rattle.cabinet.proofs.Decoding.{text-end}
-use Rattle.cabinet.proofs.Cabinets.{places-are, width-is, Read, lowest-names, lowest-free, occupied-so, none-there, some-there}
+use Rattle.cabinet.proofs.Cabinets.{Read, lowest-names, lowest-free, occupied-so, none-there, some-there}
 
 files-of : (x : Result) {n i : ℕ} {out : Bytes} {r : Filed} → x ≡ record { no = n; field = i; bytes = out } → r ≡ record { no = n; field = i } → Files x out r
 files-of x e f = record { said = f ∙ sym (ap (λ (y : Result). record { no = y .no; field = y .field }) e); left = sym (ap (λ (y : Result). y .bytes) e) }

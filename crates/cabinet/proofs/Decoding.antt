@@ -1,19 +1,18 @@
 -- Whether bytes are a place of a cabinet, as the code asks it.
 -- Assumes nothing.
-use Prim.Native.Nat.{ℕ, zero, suc, _+_, _-_, _≤_}
+use Prim.Native.Nat.{ℕ, zero, suc, _-_, _≤_}
 use mathlib.Core.Path.{_≡_, refl, sym, ap, ap₂, _∙_}
-use mathlib.Core.Bool.{Bool, true, false, not, cond, _&&_}
-use mathlib.Core.Option.{Option, none, some}
-use mathlib.Core.List.{List, [], _∷_, _++_}
+use mathlib.Core.Bool.{Bool, true, false}
+use mathlib.Core.List.{[], _∷_, _++_}
 use native.Mathlib.Omega.{arith}
 use native.Mathlib.Nat.{zero-add}
-use lib.ListN.{length, take, drop, getD, length-drop, length-take, take-append-drop}
+use lib.ListN.{length, take, drop, length-drop, length-take, take-append-drop}
 use lib.Seq.{drop-append-seam, take-all}
 use lib.Dec.{T, eqb, eqb→eq}
 use mir.Facts.{and-yes}
-use borrow.Author.Tests.{eq-eqb, ne-eqb}
-use Rattle.text.specs.Text.{Bytes, same, every}
-use Rattle.text.proofs.Tests.{T-true, T-false, true-T, by-test, same→eq, same-true, same-false}
+use borrow.Author.Tests.{ne-eqb}
+use Rattle.text.specs.Text.{Bytes, every}
+use Rattle.text.proofs.Tests.{true-T, same-true, same-false}
 use Rattle.format.specs.Kinds.{pubkeyKinds}
 use Rattle.format.specs.Build.{Built}
 use Rattle.format.specs.Read.{Outcome, accepted, refused, readOf}
@@ -25,8 +24,7 @@ use Rattle.reading.specs.Reading.{answerOf}
 use Rattle.reading.specs.declared.Answer.{Answer}
 use Rattle.frame.specs.Frame.{nextMark}
 use Rattle.subjects.proofs.Keys.{key}
-use Rattle.shelf.specs.Places.{Place, free, held}
-use Rattle.shelf.specs.Cabinet.{width, Reading, about, declined, reads, zeros, encode, whole, decodeAs, decode}
+use Rattle.shelf.specs.Cabinet.{width, Reading, about, declined, reads, zeros, encode, decodeAs, decode}
 use Rattle.shelf.proofs.Readings.{reads-accepted, reads-refused}
 use Rattle.shelf.proofs.Images.{upTo-zeros}
 use Rattle.cabinet.specs.Steps.{isZero, isPlace}

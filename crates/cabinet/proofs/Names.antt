@@ -3,7 +3,7 @@
 -- Assumes nothing.
 use Prim.Native.Nat.{ℕ, zero, suc, _-_}
 use Prim.Native.Char.{code}
-use mathlib.Core.Path.{_≡_, refl, sym, ap, ap₂, _∙_}
+use mathlib.Core.Path.{_≡_, refl, sym, ap, _∙_}
 use mathlib.Core.Logic.{_≢_}
 use mathlib.Core.Bool.{Bool, true, false, not, _&&_}
 use mathlib.Core.List.{List, [], _∷_, _++_, append-assoc}
@@ -11,30 +11,29 @@ use native.Mathlib.Omega.{arith}
 use lib.ListN.{length, take, drop, getD, length-append}
 use lib.Seq.{take-append-seam, drop-append-seam}
 use lib.Dec.{T, eqb, eqb-refl, eqb→eq}
-use mir.Facts.{and-yes, no-eqb}
+use mir.Facts.{and-yes}
 use borrow.Author.Tests.{eq-eqb, ne-eqb, le-leb}
 use Rattle.crc16.specs.Crc.{crcOf}
-use Rattle.text.specs.Text.{Bytes, same, without, after, isTimestamp}
+use Rattle.text.specs.Text.{Bytes, same, without}
 use Rattle.text.specs.Base16.{checkText}
 use Rattle.text.specs.Later.{later}
-use Rattle.text.proofs.Tests.{T-true, T-false, by-test, and-stop}
+use Rattle.text.proofs.Tests.{T-true, T-false, by-test}
 use Rattle.text.proofs.Types.{plain-without, timestamp-looks}
 use Rattle.text.proofs.Later.{later-by-bytes}
-use Rattle.format.specs.Kinds.{Kind, name, mark, fieldsOf, identityKinds, pubkeyKinds}
+use Rattle.format.specs.Kinds.{Kind, name, mark, identityKinds, pubkeyKinds}
 use Rattle.format.specs.Build.{joined, WithoutAll, withCheck, recordOf, IsIdentity, Built}
-use Rattle.format.specs.Read.{cut, readOf}
+use Rattle.format.specs.Read.{cut}
 use Rattle.format.proofs.Table.{every-kind, all-among, identity-row, pubkey-row, name-plain, mark-no-character}
 use Rattle.format.proofs.Parts.{joined-append, cut-parts}
 use Rattle.format.proofs.Fields.{record-clean}
 use Rattle.format.proofs.Exactly.{identity-exact, identity-tame, read-exact, its-count}
 use Rattle.frame.specs.Frame.{partOf, partStart}
-use Rattle.subjects.specs.Subjects.{manufacturer, mid, gnt, identityPart}
+use Rattle.subjects.specs.Subjects.{manufacturer, mid, gnt}
 use Rattle.subjects.specs.Keys.{subject, Key}
 use Rattle.subjects.proofs.Subjects.{identity-field}
-use Rattle.shelf.specs.Places.{Names, named, sameNames, Held, Place, free, held, holds}
+use Rattle.shelf.specs.Places.{Names, named, sameNames, Held, held}
 use Rattle.shelf.specs.Cabinet.{width, reads, about, zeros, encode}
 use Rattle.shelf.proofs.Readings.{Asked, held-of, asked-gnt}
-use Rattle.shelf.proofs.Images.{Good}
 use Rattle.cabinet.specs.Steps.{namesIn, subjectAt, startsSo, isLaterThan}
 
 -- ---- fronts

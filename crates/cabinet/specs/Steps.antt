@@ -7,7 +7,7 @@ use mathlib.Core.Bool.{Bool, true, false, not, cond}
 use mathlib.Core.Option.{Option, none, some}
 use mathlib.Core.List.{List, [], _++_}
 use lib.ListN.{length, take, drop, getD}
-use lib.Dec.{T, leb, eqb}
+use lib.Dec.{leb, eqb}
 use Rattle.text.specs.Text.{Bytes, same, after}
 use Rattle.frame.specs.Frame.{partOf, partStart}
 use Rattle.subjects.specs.Subjects.{identityPart}

@@ -1,18 +1,19 @@
 // The centre's key cabinet: document 02, E8. 64 places of 1,024 bytes in 65,536 lent bytes; each is all zeros, or an accepted public key and zeros after it,
 // and no two records share Subject kind, Manufacturer and MID. Every call takes any bytes and asks first whether they are a cabinet; none has a `requires`.
 // Two accepted public keys share the three names exactly where their Subjects begin alike, up to the third ':', so names are compared where they stand.
+mod writing;
+
 ghost use mathlib.Core.Path.{_≡_};
-ghost use mathlib.Core.List.{_++_};
 ghost use Prim.Native.Nat.{_+_, _-_, _≤_, _<_};
-ghost use lib.ListN.{length, getD};
+ghost use lib.ListN.{length};
 ghost use Rattle.text.specs.Text.{every};
 ghost use Rattle.places.specs.Places.{fieldAt};
 ghost use Rattle.format.specs.Kinds.{pubkeyKinds};
 ghost use Rattle.format.specs.Read.{readOf};
 ghost use Rattle.reading.specs.Reading.{answerOf};
-ghost use Rattle.shelf.specs.Cabinet.{zeros, decode, shelf, makeCabinet, putKey, removeKey, findKey};
+ghost use Rattle.shelf.specs.Cabinet.{decode, shelf, makeCabinet, putKey, removeKey, findKey};
 ghost use Rattle.cabinet.specs.Cabinet.{Files, counted, checked, FindSaid, FindPart};
-ghost use Rattle.cabinet.specs.Steps.{isZero, isPlace, isSome, partAt, withPart, namesIn, subjectAt, startsSo, isLaterThan, firstFrom, allPass, hasNames, isPlaceAt, isFreeAt, aloneAt, occupiedOf, Sized, PlaceIn, Writing};
+ghost use Rattle.cabinet.specs.Steps.{isZero, isPlace, isSome, partAt, namesIn, subjectAt, startsSo, isLaterThan, firstFrom, allPass, hasNames, isPlaceAt, isFreeAt, aloneAt, occupiedOf, Sized, PlaceIn};
 
 pub const PLACES: usize = 64;
 
@@ -225,40 +226,6 @@ fn occupied_in(cabinet: &[u8]) -> usize
     count
 }
 
-// ---- writing
-
-// Byte j of the text, and zeros after it.
-fn byte_of(text: &[u8], j: usize) -> u8
-    ensures { λ r. ⌜ r ≡ getD (now (text .entry)) j 0 ⌝ }
-{
-    if j < text.len() {
-        return text[j];
-    }
-    0
-}
-
-// The text, and zeros after it, in the lent bytes.
-fn fill(out: &mut [u8], text: &[u8])
-    requires { ⌜ length (now text) ≤ length (now out) ⌝ }
-    ensures { λ r. ⌜ now (out .exit) ≡ now (text .entry) ++ zeros (length (now (out .entry)) - length (now (text .entry))) ⌝ }
-{
-    let mut j = 0;
-    while j < out.len() {
-        out[j] = byte_of(text, j);
-        j += 1;
-    }
-}
-
-// The text, and zeros after it, in place i.
-fn write_place(cabinet: &mut [u8], i: usize, text: &[u8])
-    requires { ⌜ Writing (now cabinet) i (now text) ⌝ }
-    ensures { λ r. ⌜ now (cabinet .exit) ≡ withPart (now (cabinet .entry)) i (now (text .entry) ++ zeros (1024 - length (now (text .entry)))) ⌝ }
-{
-    let start = i * WIDTH;
-    let end = start + WIDTH;
-    fill(&mut cabinet[start..end], text);
-}
-
 // ---- the calls
 
 // Makes the lent bytes an empty cabinet: 23 where they are not SIZE.
@@ -269,7 +236,7 @@ pub fn make_cabinet(cabinet: &mut [u8]) -> Filed
         return file(numbers::NOT_CABINET, 0);
     }
     let none = [0u8; 1];
-    fill(cabinet, &none[0..0]);
+    writing::fill(cabinet, &none[0..0]);
     file(numbers::ACCEPTED, 0)
 }
 
@@ -336,14 +303,14 @@ pub fn put_key(cabinet: &mut [u8], record: &[u8]) -> Filed
         if !is_later_than(subject, place_at(cabinet, its)) {
             return file(numbers::NOT_LATER, 0);
         }
-        write_place(cabinet, its, record);
+        writing::write_place(cabinet, its, record);
         return file(numbers::ACCEPTED, 0);
     }
     let free = free_at(cabinet);
     if free == PLACES {
         return file(numbers::NO_PLACE, 0);
     }
-    write_place(cabinet, free, record);
+    writing::write_place(cabinet, free, record);
     file(numbers::ACCEPTED, 0)
 }
 
@@ -363,7 +330,7 @@ pub fn remove_key(cabinet: &mut [u8], identity: &[u8]) -> Filed
     if its == PLACES {
         return file(numbers::NOT_THERE, 0);
     }
-    write_place(cabinet, its, &identity[0..0]);
+    writing::write_place(cabinet, its, &identity[0..0]);
     file(numbers::ACCEPTED, 0)
 }
 

@@ -1,13 +1,13 @@
 -- The promises about the key cabinet, from the laws of shelf and cabinet.
 -- Assumes nothing.
-use Prim.Native.Nat.{ℕ, zero, suc, _+_, _-_, _*_, _≤_, _<_}
+use Prim.Native.Nat.{ℕ, zero, suc, _+_, _-_, _*_, _<_}
 use mathlib.Core.Path.{_≡_, refl, sym, ap, ap₂, _∙_, subst}
 use mathlib.Core.Logic.{_↔_, _⊎_, inl, inr, ⊎-elim, _≢_}
 use mathlib.Core.Bool.{Bool, true, false, not, cond}
 use mathlib.Core.Option.{Option, none, some}
 use mathlib.Core.List.{List, [], _∷_, _++_}
 use native.Mathlib.Omega.{arith}
-use lib.ListN.{length, take, drop, getD, replicate}
+use lib.ListN.{length, getD, replicate}
 use lib.Dec.{T, eqb, eqb→eq}
 use mir.Facts.{T-not, yes-eqb}
 use borrow.Author.Tests.{eq-eqb, ne-eqb}
@@ -16,17 +16,17 @@ use Rattle.text.specs.Text.{Bytes, oneOf}
 use Rattle.text.specs.Later.{later}
 use Rattle.text.proofs.Tests.{T-true, by-test, cond-yes}
 use Rattle.text.proofs.Later.{later-itself}
-use Rattle.numbers.specs.Numbers.{notCabinet, notLater, noPlace, notThere}
-use Rattle.format.specs.Kinds.{Kind, name, pubkeyKinds}
-use Rattle.format.specs.Read.{accepted, refused, readIdentity, readOf}
+use Rattle.numbers.specs.Numbers.{notCabinet, notLater, noPlace}
+use Rattle.format.specs.Kinds.{Kind, name}
+use Rattle.format.specs.Read.{accepted, readIdentity}
 use Rattle.format.proofs.Table.{name-inj}
 use Rattle.fields.specs.declared.Place.{Place}
 use Rattle.subjects.specs.Subjects.{manufacturer, mid, gnt}
 use Rattle.subjects.specs.Keys.{Key, gntOf}
 use Rattle.shelf.specs.Places as shelves
 use Rattle.shelf.specs.Places.{Names, named, sameNames, Held, free, held, isFree, holds, lookup, lowest, occupied, distinct, others}
-use Rattle.shelf.specs.Cabinet.{places, width, about, declined, asks, reads, zeros, encode, decode, shelf, image, entry, Result, leaving, Finding, nothing, foundAt, makeCabinet, putKey, removeKey, findKey, countIn, countKeys, checkCabinet}
-use Rattle.shelf.specs.History.{Event, lastPut, firstPuts, removals, nowhere, textOf, heldIn, Call, putting, removing, finding, Moment, putEvent, removeEvent, onto, noted, afterCall, run}
+use Rattle.shelf.specs.Cabinet.{places, width, about, asks, reads, encode, decode, shelf, image, entry, Result, leaving, Finding, nothing, foundAt, makeCabinet, putKey, removeKey, findKey, countIn, countKeys, checkCabinet}
+use Rattle.shelf.specs.History.{lastPut, removals, nowhere, textOf, heldIn, Call, putting, removing, finding, Moment, putEvent, removeEvent, onto, noted, afterCall, run}
 use Rattle.shelf.proofs.Places.{names-refl, found-at, Once, distinct-once, once-distinct, lookup-at, lowest-there, lowest-free-at}
 use Rattle.shelf.proofs.Readings.{asks-accepted, asks-refused, asked, reads-accepted, reads-refused, held-of}
 use Rattle.shelf.proofs.Images.{Good, AllGood, lookup-good, decode-encode, shelf-image, shelf-some}
@@ -36,10 +36,10 @@ use Rattle.shelf.proofs.Numbers.{others-all, all-others-so, putNumbers, findNum
 use Rattle.cabinet.specs.declared.Filed.{Filed}
 use Rattle.cabinet.specs.declared.Counted.{Counted}
 use Rattle.cabinet.specs.Cabinet.{Files}
-use Rattle.cabinet.specs.Steps.{isPlace, isSome, first, allPass, isPlaceAt, aloneAt}
+use Rattle.cabinet.specs.Steps.{isPlace, isSome, first, allPass, isPlaceAt}
 use Rattle.cabinet.proofs.Bridge.{first-none}
 use Rattle.cabinet.proofs.Cabinets.{places-are, width-is, Read, its, all-read, read-all, distinct-so, cabinet-so, none-there, some-there}
-use Rattle.promises.specs.Cabinet.{placeIn, Filled, Share, Shared, IsCabinet, withPlace, Refuses, PutSaid, There, RemoveSaid, FindSaid, Counts, Step, Ran, Gives, Remembers, begun, Cabinet}
+use Rattle.promises.specs.Cabinet.{placeIn, Filled, Share, Shared, IsCabinet, withPlace, PutSaid, There, RemoveSaid, FindSaid, Step, Ran, Gives, Remembers, begun, Cabinet}
 
 -- ---- a public key's names, and what a place holds
 

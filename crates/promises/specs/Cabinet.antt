@@ -22,7 +22,6 @@ use Rattle.shelf.specs.Places.{Names, occupied}
 use Rattle.shelf.specs.Cabinet.{about, asks, reads, shelf}
 use Rattle.shelf.specs.History.{Event, lastPut, firstPuts, removals, nowhere, heldIn, Moment, putEvent, removeEvent, onto}
 use Rattle.cabinet.specs.declared.Filed.{Filed}
-use Rattle.cabinet.specs.declared.Counted.{Counted}
 use Rattle.cabinet.proofs.make_cabinet.Reads as make-cabinet
 use Rattle.cabinet.proofs.check_cabinet.Reads as check-cabinet
 use Rattle.cabinet.proofs.count_keys.Reads as count-keys

@@ -14,7 +14,7 @@ use mir.Facts.{no-eqb}
 use Rattle.text.specs.Text.{Bytes}
 use Rattle.text.specs.Later.{later}
 use Rattle.text.proofs.Tests.{T-true, T-false, by-test, cond-yes, cond-no}
-use Rattle.shelf.specs.Places.{Names, sameNames, Held, Place, free, held, isFree, holds, contents, lookup, change, occupied, anyFree, missing, distinct}
+use Rattle.shelf.specs.Places.{Names, sameNames, Held, Place, free, held, isFree, holds, lookup, change, occupied, anyFree, distinct}
 use Rattle.shelf.specs.Cabinet.{places, width, Reading, about, declined, asks, reads, zeros, encode, shelf, image, Change, done, refuse, entry, putAt, putRead, removeAt, removeRead, Result, told, onPlaces, makeCabinet, putKey, removeKey}
 use Rattle.shelf.specs.History.{Event, stored, removed, lastPut, isNothing, firstPuts, removals, nowhere, textOf, heldIn, Call, putting, removing, finding, checking, counting, Moment, putEvent, removeEvent, noted, afterCall, run}
 use Rattle.shelf.proofs.Places.{lookup-change, lookup-fill, distinct-change, distinct-fill, occupied-fill, occupied-replace, occupied-remove, length-change}

@@ -10,9 +10,8 @@ use native.Mathlib.Nat.{suc-mul, zero-mul, add-comm}
 use lib.ListN.{length, take, drop, length-append, length-replicate, length-drop, take-append-drop}
 use lib.Seq.{take-at, drop-at}
 use lib.Dec.{T, eqb, eqb→eq, eqb-refl}
-use mir.Facts.{and-yes}
 use Rattle.text.specs.Text.{Bytes, same, without}
-use Rattle.text.proofs.Tests.{T-false, by-test, cond-yes, cond-no, same→eq, same-refl}
+use Rattle.text.proofs.Tests.{by-test, cond-yes, cond-no, same→eq, same-refl}
 use Rattle.format.specs.Files.{upTo}
 use Rattle.format.proofs.Lines.{upTo-first}
 use Rattle.shelf.specs.Places.{Names, Held, Place, free, held, holds, contents, lookup, distinct}

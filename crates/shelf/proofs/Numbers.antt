@@ -3,7 +3,7 @@
 use Prim.Native.Nat.{ℕ, zero, suc, _+_, _≤_, _<_}
 use mathlib.Core.Path.{_≡_, refl, sym, ap, _∙_}
 use mathlib.Core.Logic.{_↔_, _≢_}
-use mathlib.Core.Bool.{Bool, true, false, not, cond, _||_}
+use mathlib.Core.Bool.{Bool, false, not, cond, _||_}
 use mathlib.Core.Option.{Option, none, some}
 use mathlib.Core.List.{List, [], _∷_}
 use native.Mathlib.Omega.{arith}
@@ -12,9 +12,9 @@ use lib.Dec.{T, eqb}
 use Rattle.text.specs.Text.{Bytes, oneOf}
 use Rattle.text.specs.Later.{later}
 use Rattle.text.proofs.Tests.{T-true, T-false, by-test, or-right}
-use Rattle.numbers.specs.Numbers.{notCabinet, notLater, noPlace, notThere}
+use Rattle.numbers.specs.Numbers.{notLater, noPlace, notThere}
 use Rattle.shelf.specs.Places.{Names, sameNames, Held, Place, free, held, isFree, holds, lookup, lowest, anyFree, others}
-use Rattle.shelf.specs.Cabinet.{places, Reading, about, declined, asks, reads, shelf, Change, done, refuse, putAt, putRead, removeAt, removeRead, told, onPlaces, putKey, removeKey, Finding, nothing, foundAt, findRead, findIn, findKey}
+use Rattle.shelf.specs.Cabinet.{places, Reading, about, declined, asks, reads, shelf, Change, done, refuse, putAt, putRead, removeAt, removeRead, told, onPlaces, putKey, removeKey, foundAt, findRead, findIn, findKey}
 use Rattle.shelf.proofs.Places.{clash, names-eq, eq-names, lookup-there, none-not-holds}
 use Rattle.shelf.proofs.Readings.{ownNumbers, reads-own, asks-own, not-own}
 use Rattle.shelf.proofs.Images.{Shelved, shelf-some}

@@ -211,21 +211,6 @@ occupied-remove k (held g ∷ ps) n =
     let e = occupied-remove k ps (λ x. n (lookup-there k (held g) ps t ∙ x)) in
     rw (T-false (sameNames k (g .names)) t) (omega arith))
 
-pub occupied-most : (ps : List Place) → occupied ps ≤ length ps
-occupied-most [] = omega arith
-occupied-most (free ∷ ps) = let h = occupied-most ps in omega arith
-occupied-most (held g ∷ ps) = let h = occupied-most ps in omega arith
-
-pub full : (ps : List Place) → T (not (anyFree ps)) → occupied ps ≡ length ps
-full [] f = refl
-full (free ∷ ps) f = absurd f
-full (held g ∷ ps) f = let e = full ps f in omega arith
-
-pub not-full : (ps : List Place) → T (anyFree ps) → occupied ps < length ps
-not-full [] f = absurd f
-not-full (free ∷ ps) f = let h = occupied-most ps in omega arith
-not-full (held g ∷ ps) f = let h = not-full ps f in omega arith
-
 pub length-change : (t : Place → Bool) (q : Place) (ps : List Place) → length (change t q ps) ≡ length ps
 length-change t q [] = refl
 length-change t q (p ∷ ps) =

@@ -12,20 +12,20 @@ use lib.Dec.{T, eqb, eqb→eq}
 use mir.Facts.{or-yes}
 use Rattle.text.specs.Text.{Bytes, oneOf, allOf, without, isTimestamp}
 use Rattle.format.specs.Kinds.{Kind, name, mark, fieldsOf, pubkeyKinds, identityKinds}
-use Rattle.format.specs.Build.{recordOf, IsIdentity}
+use Rattle.format.specs.Build.{IsIdentity}
 use Rattle.format.specs.Read.{Outcome, accepted, refused, nobody, readIdentity, readOf}
 use Rattle.format.proofs.Table.{every-kind, absent}
 use Rattle.format.proofs.Parts.{record-length, record-without}
 use Rattle.format.proofs.Fields.{fields-clean}
 use Rattle.format.proofs.Exactly.{identity-tame, identity-says, read-exact, read-says, built-length}
 use Rattle.format.proofs.Outcomes.{Honest}
-use Rattle.format.proofs.Refusals.{Gives, over-given}
+use Rattle.format.proofs.Refusals.{over-given}
 use Rattle.subjects.specs.Subjects.{manufacturer, mid, gnt}
 use Rattle.subjects.specs.Keys.{subject, Key}
 use Rattle.subjects.proofs.Keys.{key}
 use Rattle.subjects.proofs.Subjects.{identity-gnt}
 use Rattle.shelf.specs.Places.{Names, named}
-use Rattle.shelf.specs.Cabinet.{width, Reading, about, declined, askedBy, asks, readBy, reads}
+use Rattle.shelf.specs.Cabinet.{width, about, declined, askedBy, asks, readBy, reads}
 use Rattle.shelf.proofs.Places.{clash}
 
 -- ---- of an identity

@@ -1,21 +1,20 @@
 -- What each call leaves, by places: a change at one place is a store of its bytes there, and of nothing else.
 -- Assumes nothing.
 use Prim.Native.Nat.{ℕ, zero, suc, _+_, _*_, _≤_, _<_}
-use mathlib.Core.Path.{_≡_, refl, sym, ap, ap₂, _∙_}
-use mathlib.Core.Bool.{Bool, true, false, not, cond}
-use mathlib.Core.Option.{Option, none, some}
+use mathlib.Core.Path.{_≡_, sym, ap, ap₂, _∙_}
+use mathlib.Core.Bool.{Bool, true, false}
+use mathlib.Core.Option.{none, some}
 use mathlib.Core.List.{List, [], _∷_, _++_, append-assoc}
 use native.Mathlib.Omega.{arith}
 use native.Mathlib.Nat.{suc-mul, zero-mul, zero-add, add-comm}
 use lib.ListN.{length, take, drop, set}
 use lib.Seq.{drop-at, take-append-add, drop-append-add, drop-drop, take-append-seam}
-use lib.Dec.{T}
 use Rattle.text.specs.Text.{Bytes}
 use Rattle.text.specs.Later.{later}
 use Rattle.text.proofs.Tests.{T-true, T-false, by-test}
 use Rattle.numbers.specs.Numbers.{notCabinet, notLater, noPlace, notThere}
 use Rattle.shelf.specs.Places.{Names, Held, Place, free, held, isFree, holds, contents, lookup, change, lowest, anyFree}
-use Rattle.shelf.specs.Cabinet.{width, Reading, about, declined, asks, reads, zeros, encode, shelf, image, Change, done, refuse, entry, putAt, removeAt, Result, leaving, told, putKey, removeKey, Finding, nothing, findKey}
+use Rattle.shelf.specs.Cabinet.{width, about, declined, asks, reads, encode, shelf, image, entry, putAt, removeAt, Result, leaving, told, putKey, removeKey, nothing, findKey}
 use Rattle.shelf.proofs.Places.{change-set, free-lowest, no-free-lowest, lookup-here, lookup-there}
 use Rattle.shelf.proofs.Images.{AllGood, length-encode, shelf-some}
 

@@ -1,12 +1,12 @@
--- `cabinet::fill` meets its contract.
+-- `cabinet::writing::fill` meets its contract.
 -- Assumes nothing.
 use Prim.Native.Nat.{_-_}
 use native.Mathlib.Omega.{arith}
 use lib.ListN.{length}
 use Rattle.cabinet.proofs.Bytes.{Filled, filled-none, filled-length, filled-more, filled-all}
 use borrow.Author.Needs.{needs}
-use Rattle.cabinet.proofs.fill.Statement.{statement}
-use Rattle.cabinet.proofs.fill.Tie as tie
+use Rattle.cabinet.proofs.writing.fill.Statement.{statement}
+use Rattle.cabinet.proofs.writing.fill.Tie as tie
 
 abbrev Inv-loop : tie.InvT-loop
 Inv-loop out₀ text j₀ out j = Filled out₀ text out j

@@ -1,10 +1,10 @@
--- `cabinet::write_place` meets its contract.
+-- `cabinet::writing::write_place` meets its contract.
 -- Assumes nothing.
 use native.Mathlib.Omega.{arith}
 use Rattle.cabinet.proofs.Bytes.{place-written}
 use borrow.Author.Needs.{needs}
-use Rattle.cabinet.proofs.write_place.Statement.{statement}
-use Rattle.cabinet.proofs.write_place.Tie as tie
+use Rattle.cabinet.proofs.writing.write_place.Statement.{statement}
+use Rattle.cabinet.proofs.writing.write_place.Tie as tie
 
 mul-start : tie.Need-mul-start
 mul-start c = omega (arith, c .before .before .pre .place)

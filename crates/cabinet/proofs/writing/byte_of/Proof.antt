@@ -1,12 +1,12 @@
--- `cabinet::byte_of` meets its contract.
+-- `cabinet::writing::byte_of` meets its contract.
 -- Assumes nothing.
 use Prim.Native.Nat.{_≤_}
 use mathlib.Core.Path.{sym}
 use native.Mathlib.Omega.{arith}
 use lib.ListN.{length, List·getD-eq-default}
 use borrow.Author.Needs.{needs}
-use Rattle.cabinet.proofs.byte_of.Statement.{statement}
-use Rattle.cabinet.proofs.byte_of.Tie as tie
+use Rattle.cabinet.proofs.writing.byte_of.Statement.{statement}
+use Rattle.cabinet.proofs.writing.byte_of.Tie as tie
 
 shared-slice-read-result : tie.Need-shared-slice-read-result
 shared-slice-read-result c = search needs
