@@ -1,15 +1,16 @@
 -- The loops over a cabinet's places, and over bytes: each looks for the first that passes a test.
 -- Assumes nothing.
-use Prim.Native.Nat.{ℕ, suc, _+_, _-_, _*_, _≤_, _<_}
+use Prim.Native.Nat.{ℕ, zero, suc, _+_, _-_, _≤_, _<_}
 use mathlib.Core.Path.{_≡_, refl, sym, ap, _∙_}
 use mathlib.Core.Bool.{Bool, true, false, not, cond}
 use native.Mathlib.Omega.{arith}
 use native.Mathlib.Numerals.{add-one}
 use lib.ListN.{length, drop, getD, drop-of-length-le}
 use lib.Seq.{drop-cons}
-use borrow.Author.Tests.{eq-eqb, ne-eqb}
+use borrow.Author.Tests.{eq-eqb, ne-eqb, not-true}
+use Rattle.text.proofs.Tests.{T-true, T-false, by-test}
 use Rattle.text.specs.Text.{Bytes, every}
-use Rattle.cabinet.specs.Steps.{isZero, first, firstFrom, allPass, isFreeAt, occupiedOf}
+use Rattle.cabinet.specs.Steps.{isZero, first, firstFrom, allPass, isFreeAt, isHeldAt, occupiedOf}
 
 -- ---- the first place that passes the test
 
@@ -51,31 +52,70 @@ passed-all t {i} k l = let f = sought-end k l in let w = k .within in sym (eq-eq
 
 -- ---- how many are occupied
 
-pub record Tallied (s : Bytes) (i count : ℕ) : Type 0 where
-  pub within : i ≤ 64
-  pub few : count ≤ i
-  pub so-far : count + occupiedOf s (64 - i) i ≡ occupiedOf s 64 0
+first-after : (t : ℕ → Bool) (n i : ℕ) → i ≤ first t n i
+unfolding first
+first-after t zero i = omega arith
+first-after t (suc n) i =
+    by-test (t i)
+    (λ h. rw (T-true (t i) h) (omega arith))
+    (λ h. rw (T-false (t i) h) (omega (arith, first-after t n (suc i))))
 
-pub tallied-none : (s : Bytes) → Tallied s 0 0
-tallied-none s = record { within = omega arith; few = omega arith; so-far = omega arith }
+first-passes : (t : ℕ → Bool) (n i : ℕ) → first t n i < i + n → t (first t n i) ≡ true
+unfolding first
+first-passes t zero i l = absurd (omega arith)
+first-passes t (suc n) i l =
+    by-test (t i)
+    (λ h. rw (T-true (t i) h) (T-true (t i) h))
+    (λ h.
+    let m : first t n (suc i) < i + suc n = rw (T-false (t i) h) at l in
+    rw (T-false (t i) h) (first-passes t n (suc i) (omega arith)))
 
-tally : (s : Bytes) (i : ℕ) → i < 64 → occupiedOf s (64 - i) i ≡ cond (isFreeAt s i) 0 1 + occupiedOf s (64 - (i + 1)) (i + 1)
+-- no place before the first that is occupied is counted
+tally-skip : (s : Bytes) (n i : ℕ) → occupiedOf s n i ≡ occupiedOf s (i + n - first (isHeldAt s) n i) (first (isHeldAt s) n i)
+unfolding first occupiedOf
+tally-skip s zero i = let e : i + 0 - i ≡ 0 = omega arith in rw e
+tally-skip s (suc n) i =
+    by-test (isFreeAt s i)
+    (λ h. let e : i + suc n ≡ suc i + n = omega arith in rw (T-true (isFreeAt s i) h, e) (omega (arith, tally-skip s n (suc i))))
+    (λ h. let e : i + suc n - i ≡ suc n = omega arith in rw (T-false (isFreeAt s i) h, e) (rw (T-false (isFreeAt s i) h)))
+
+-- the next that is occupied is at place `at`, and so many are before it
+pub record Tallied (s : Bytes) (at count : ℕ) : Type 0 where
+  pub few : count ≤ at
+  pub here : at < 64 → isHeldAt s at ≡ true
+  pub so-far : count + occupiedOf s (64 - at) at ≡ occupiedOf s 64 0
+
+-- from place i on, behind so many
+tallied-from : (s : Bytes) (i count : ℕ) → i ≤ 64 → count ≤ i → count + occupiedOf s (64 - i) i ≡ occupiedOf s 64 0 → {at : ℕ} → at ≡ firstFrom (isHeldAt s) i → Tallied s at count
+tallied-from s i count l f e {at} a =
+    let n : i + (64 - i) ≡ 64 = omega arith in
+    let skip : occupiedOf s (64 - i) i ≡ occupiedOf s (64 - at) at = tally-skip s (64 - i) i ∙ rw (n, ← a) in
+    record {
+      few = omega (arith, first-after (isHeldAt s) (64 - i) i);
+      here = λ m. rw a (first-passes (isHeldAt s) (64 - i) i (omega (arith, a)));
+      so-far = omega (arith, e);
+    }
+
+pub tallied-none : (s : Bytes) {at : ℕ} → at ≡ firstFrom (isHeldAt s) 0 → Tallied s at 0
+tallied-none s a = tallied-from s 0 0 (omega arith) (omega arith) (omega arith) a
+
+tally-one : (s : Bytes) (at : ℕ) → at < 64 → isHeldAt s at ≡ true → occupiedOf s (64 - at) at ≡ 1 + occupiedOf s (64 - (at + 1)) (at + 1)
 unfolding occupiedOf
-tally s i l = let e : 64 - i ≡ suc (64 - suc i) = omega arith in rw (e, add-one i)
+tally-one s at l h =
+    let e : 64 - at ≡ suc (64 - (at + 1)) = omega arith in
+    rw (e, not-true (isFreeAt s at) h, add-one at)
 
-pub tallied-more : {s : Bytes} {i count : ℕ} → Tallied s i count → i < 64 → (getD s (i * 1024) 0 ≡ 0 → ⊥) → Tallied s (i + 1) (count + 1)
-tallied-more {s} {i} {count} k l n =
-    let e : occupiedOf s (64 - i) i ≡ 1 + occupiedOf s (64 - (i + 1)) (i + 1) = tally s i l ∙ rw (ne-eqb (getD s (i * 1024) 0) 0 n) in
-    record { within = omega arith; few = omega (arith, k .few); so-far = omega (arith, k .so-far) }
+pub tallied-more : (s : Bytes) {at count next : ℕ} → Tallied s at count → at < 64 → next ≡ firstFrom (isHeldAt s) (at + 1) → Tallied s next (count + 1)
+tallied-more s {at} {count} k l a =
+    let one = tally-one s at l (k .here l) in
+    tallied-from s (at + 1) (count + 1) (omega arith) (omega (arith, k .few)) (omega (arith, k .so-far)) a
 
-pub tallied-free : {s : Bytes} {i count : ℕ} → Tallied s i count → i < 64 → getD s (i * 1024) 0 ≡ 0 → Tallied s (i + 1) count
-tallied-free {s} {i} {count} k l n =
-    let e : occupiedOf s (64 - i) i ≡ 0 + occupiedOf s (64 - (i + 1)) (i + 1) = tally s i l ∙ rw (eq-eqb (getD s (i * 1024) 0) 0 n) in
-    record { within = omega arith; few = omega (arith, k .few); so-far = omega (arith, k .so-far) }
+pub next-after : (s : Bytes) {at next : ℕ} → next ≡ firstFrom (isHeldAt s) (at + 1) → at < next
+next-after s {at} a = omega (arith, first-after (isHeldAt s) (64 - (at + 1)) (at + 1))
 
-pub tallied-all : {s : Bytes} {i count : ℕ} → Tallied s i count → 64 ≤ i → count ≡ occupiedOf s 64 0
+pub tallied-all : {s : Bytes} {at count : ℕ} → Tallied s at count → 64 ≤ at → count ≡ occupiedOf s 64 0
 unfolding occupiedOf
-tallied-all {s} {i} {count} k l = let e : 64 - i ≡ 0 = omega arith in sym (sym (k .so-far) ∙ rw e (omega arith))
+tallied-all {s} {at} {count} k l = let e : 64 - at ≡ 0 = omega arith in sym (sym (k .so-far) ∙ rw e (omega arith))
 
 -- ---- all bytes are zeros
 

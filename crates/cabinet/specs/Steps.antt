@@ -77,6 +77,9 @@ isPlaceAt s i = isPlace (decode (partAt s i))
 abbrev pub isFreeAt : Bytes → ℕ → Bool
 isFreeAt s i = isZero (getD s (i * 1024) 0)
 
+abbrev pub isHeldAt : Bytes → ℕ → Bool
+isHeldAt s i = not (isFreeAt s i)
+
 -- no later place begins with the names of place i
 unfoldable pub aloneAt : Bytes → ℕ → Bool
 aloneAt s i = cond (isFreeAt s i) true (eqb (firstFrom (hasNames s (namesIn (subjectAt (partAt s i)))) (i + 1)) 64)

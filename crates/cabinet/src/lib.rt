@@ -13,7 +13,7 @@ ghost use Rattle.format.specs.Read.{readOf};
 ghost use Rattle.reading.specs.Reading.{answerOf};
 ghost use Rattle.shelf.specs.Cabinet.{decode, shelf, makeCabinet, putKey, removeKey, findKey};
 ghost use Rattle.cabinet.specs.Cabinet.{Files, counted, checked, FindSaid, FindPart};
-ghost use Rattle.cabinet.specs.Steps.{isZero, isPlace, isSome, partAt, namesIn, subjectAt, startsSo, isLaterThan, firstFrom, allPass, hasNames, isPlaceAt, isFreeAt, aloneAt, occupiedOf, Sized, PlaceIn};
+ghost use Rattle.cabinet.specs.Steps.{isZero, isPlace, isSome, partAt, namesIn, subjectAt, startsSo, isLaterThan, firstFrom, allPass, hasNames, isPlaceAt, isFreeAt, isHeldAt, aloneAt, occupiedOf, Sized, PlaceIn};
 
 pub const PLACES: usize = 64;
 
@@ -210,18 +210,32 @@ fn free_at(cabinet: &[u8]) -> usize
     i
 }
 
-// How many places are occupied.
+// The lowest occupied place at or after `from`, or PLACES.
+fn occupied_from(cabinet: &[u8], from: usize) -> usize
+    requires { ⌜ Sized (now cabinet) × (from ≤ 64) ⌝ }
+    ensures { λ r. ⌜ r ≡ firstFrom (isHeldAt (now (cabinet .entry))) from ⌝ }
+{
+    let mut at = from;
+    while at < PLACES {
+        if cabinet[at * WIDTH] != 0 {
+            return at;
+        }
+        at += 1;
+    }
+    at
+}
+
+// How many places are occupied, each looked for behind the one before it: of a loop that looked at them all LLVM would make
+// a wide one, with a constant.
 fn occupied_in(cabinet: &[u8]) -> usize
     requires { ⌜ Sized (now cabinet) ⌝ }
     ensures { λ r. ⌜ r ≡ occupiedOf (now (cabinet .entry)) 64 0 ⌝ }
 {
     let mut count = 0;
-    let mut i = 0;
-    while i < PLACES {
-        if cabinet[i * WIDTH] != 0 {
-            count += 1;
-        }
-        i += 1;
+    let mut at = occupied_from(cabinet, 0);
+    while at < PLACES {
+        count += 1;
+        at = occupied_from(cabinet, at + 1);
     }
     count
 }
