@@ -1,4 +1,4 @@
-//! The centre's key cabinet, held against the plain one in `held/cabinet.rs`.
+//! The centre's key cabinet, held against that of `compare/` and the plain one in `held/cabinet.rs`.
 
 mod held;
 
@@ -8,7 +8,7 @@ use compare::sample::{self, Fault, PublicKey, Signed, Subject};
 use compare::text::PRINT_DIGITS;
 use compare::worked::{worked, IDENTITIES, RECORDS};
 use held::cabinet::{asked, names, own, Both, Held, NOT_LATER, NOT_THERE, NO_CABINET, NO_PLACE};
-use held::{first, lent, numbers, place, rounds, Seen};
+use held::{expected, first, lent, numbers, place, rounds, Seen};
 use obscurlane::{
     check_cabinet, count_keys, find_key, make_cabinet, put_key, remove_key, Cabinet, Reason,
     Record, CABINET_PLACES, CABINET_SIZE, CABINET_WIDTH,
@@ -292,6 +292,7 @@ fn expect_no_cabinet(bytes: &mut [u8], what: &str) {
     let before = bytes.to_vec();
     assert_eq!(numbers(check_cabinet(bytes)), Err(NO_CABINET), "{what}");
     assert_eq!(numbers(count_keys(bytes)), Err(NO_CABINET), "{what}");
+    assert_eq!(expected(compare::cabinet::check(bytes)), Err(NO_CABINET), "{what}");
     for text in [worked("PUBKEY_SM"), worked("ID_SM"), worked("ID_KMC"), Vec::new()] {
         assert_eq!(numbers(find_key(bytes, &text)), Err(NO_CABINET), "{what}");
         assert_eq!(numbers(put_key(bytes, &text)), Err(NO_CABINET), "{what}");

@@ -1,5 +1,5 @@
-//! The key cabinet, held against a plain one that is written here: 64 places, each with the names, the GNT and the record that it
-//! has. What is read, `compare/` reads.
+//! The key cabinet, held against that of `compare/`, which is given the same bytes, and against a plain one that is written here and
+//! keeps its own account: 64 places, each with the names, the GNT and the record that it has. What is read, `compare/` reads.
 
 use super::{expected, lent, numbers, place, Numbers};
 use compare::kind::Kind;
@@ -106,7 +106,7 @@ pub fn asked(bytes: &[u8]) -> Result<Names, Numbers> {
     Ok((read.kind, read.fields[0].to_vec(), read.fields[1].to_vec()))
 }
 
-/// The library's cabinet and the plain one; each call is made on both, and a cabinet of `compare/` goes beside them here.
+/// The library's cabinet and the plain one; each call is made on both, and on a copy of the bytes by `compare/`.
 pub struct Both {
     pub bytes: Vec<u8>,
     pub model: Model,
@@ -128,8 +128,11 @@ impl Both {
     }
 
     pub fn put(&mut self, record: &[u8]) -> Result<(), Numbers> {
+        let mut beside = self.bytes.clone();
+        let compared = expected(compare::cabinet::put(&mut beside, record));
         let mut cabinet = Cabinet::open(&mut self.bytes).expect("a cabinet");
         let answer = numbers(cabinet.put(record));
+        assert_eq!((answer, self.bytes == beside), (compared, true), "{record:?}");
         let wanted = own(record).and_then(|()| self.model.put(record));
         assert_eq!(answer, wanted, "{record:?}");
         self.agree();
@@ -137,8 +140,11 @@ impl Both {
     }
 
     pub fn remove(&mut self, identity: &[u8]) -> Result<(), Numbers> {
+        let mut beside = self.bytes.clone();
+        let compared = expected(compare::cabinet::remove(&mut beside, identity));
         let mut cabinet = Cabinet::open(&mut self.bytes).expect("a cabinet");
         let answer = numbers(cabinet.remove(identity));
+        assert_eq!((answer, self.bytes == beside), (compared, true), "{identity:?}");
         let wanted = asked(identity).and_then(|names| self.model.remove(&names));
         assert_eq!(answer, wanted, "{identity:?}");
         self.agree();
@@ -153,6 +159,8 @@ impl Both {
         let wanted = wanted.map(|(start, len)| &self.bytes[start..start + len]);
         let found = numbers(find_key(&self.bytes, identity));
         assert_eq!(found.map(place), wanted.map(place), "{identity:?}");
+        let compared = expected(compare::cabinet::find(&self.bytes, identity));
+        assert_eq!(found.map(place), compared.map(place), "{identity:?}");
         let found = found.map(<[u8]>::to_vec);
         let cabinet = Cabinet::open(&mut self.bytes).expect("a cabinet");
         assert_eq!(numbers(cabinet.find(identity)).map(<[u8]>::to_vec), found);
