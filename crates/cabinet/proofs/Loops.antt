@@ -2,11 +2,14 @@
 -- Assumes nothing.
 use Prim.Native.Nat.{ℕ, zero, suc, _+_, _-_, _≤_, _<_}
 use mathlib.Core.Path.{_≡_, refl, sym, ap, _∙_}
-use mathlib.Core.Bool.{Bool, true, false, not, cond}
+use mathlib.Core.Bool.{Bool, true, false, not, cond, _&&_, and-true, and-assoc}
 use native.Mathlib.Omega.{arith}
 use native.Mathlib.Numerals.{add-one}
 use lib.ListN.{length, drop, getD, drop-of-length-le}
 use lib.Seq.{drop-cons}
+use lib.Bits.{bitOr, bitAnd, or-add-and, and-le-r, or-zero-l}
+use lib.Dec.{eqb, eqb→eq}
+use mir.Facts.{T-not, yes-eqb}
 use borrow.Author.Tests.{eq-eqb, ne-eqb, not-true}
 use Rattle.text.proofs.Tests.{T-true, T-false, by-test}
 use Rattle.text.specs.Text.{Bytes, every}
@@ -117,21 +120,26 @@ pub tallied-all : {s : Bytes} {at count : ℕ} → Tallied s at count → 64 ≤
 unfolding occupiedOf
 tallied-all {s} {at} {count} k l = let e : 64 - at ≡ 0 = omega arith in sym (sym (k .so-far) ∙ rw e (omega arith))
 
--- ---- all bytes are zeros
+-- ---- all bytes are zeros: what was seen before i is in d
 
-pub record Zeros (s : Bytes) (i : ℕ) : Type 0 where
-  pub within : i ≤ length s
-  pub so-far : every isZero s ≡ every isZero (drop i s)
+or-zero : (d c : ℕ) → eqb (bitOr d c) 0 ≡ (eqb d 0 && eqb c 0)
+or-zero d c =
+    by-test (eqb d 0)
+    (λ t. rw (eqb→eq d 0 t, or-zero-l))
+    (λ t. rw (T-false (eqb d 0) t) (ne-eqb (bitOr d c) 0 (λ z. T-not (eqb d 0) (yes-eqb (none-left (bitOr d c) (bitAnd d c) d c (or-add-and d c) (and-le-r d c) z)) t)))
+  where
+    none-left : (o n a b : ℕ) → o + n ≡ a + b → n ≤ b → o ≡ 0 → a ≡ 0
+    none-left o n a b e q z = omega arith
 
-pub zeros-none : (s : Bytes) → Zeros s 0
-zeros-none s = record { within = omega arith; so-far = refl }
+abbrev pub Zeros : Bytes → ℕ → ℕ → Type 0
+Zeros s d i = every isZero s ≡ (eqb d 0 && every isZero (drop i s))
 
-pub zeros-more : {s : Bytes} {i : ℕ} → Zeros s i → i < length s → getD s i 0 ≡ 0 → Zeros s (i + 1)
-zeros-more {s} {i} z l e =
-    record { within = omega arith; so-far = z .so-far ∙ rw (drop-cons s i 0 l, eq-eqb (getD s i 0) 0 e, add-one i) }
+pub zeros-more : (s : Bytes) (d : ℕ) {i : ℕ} → Zeros s d i → i < length s → Zeros s (bitOr d (getD s i 0)) (i + 1)
+zeros-more s d {i} z l =
+    let c = getD s i 0 in
+    let rest = every isZero (drop (suc i) s) in
+    let one : every isZero (drop i s) ≡ (eqb c 0 && rest) = rw (drop-cons s i 0 l) in
+    z ∙ ap (λ (r : Bool). eqb d 0 && r) one ∙ sym (and-assoc (eqb d 0) (eqb c 0) rest) ∙ rw (or-zero d c, add-one)
 
-pub zeros-not : {s : Bytes} {i : ℕ} → Zeros s i → i < length s → (getD s i 0 ≡ 0 → ⊥) → false ≡ every isZero s
-zeros-not {s} {i} z l n = sym (z .so-far ∙ rw (drop-cons s i 0 l, ne-eqb (getD s i 0) 0 n))
-
-pub zeros-end : {s : Bytes} {i : ℕ} → Zeros s i → length s ≤ i → true ≡ every isZero s
-zeros-end {s} {i} z l = sym (z .so-far ∙ ap (every isZero) (drop-of-length-le s l))
+pub zeros-all : (s : Bytes) (d : ℕ) {i : ℕ} → Zeros s d i → length s ≤ i → eqb d 0 ≡ every isZero s
+zeros-all s d {i} z l = sym (z ∙ rw (drop-of-length-le s {i = i} l) (and-true (eqb d 0)))

@@ -44,17 +44,17 @@ fn file(no: u8, field: u8) -> Filed
 
 // ---- one place
 
+// All bytes are zeros. They are looked at to the end, because LLVM takes many at a time where no byte can end the loop.
 fn are_zeros(s: &[u8]) -> bool
     ensures { λ r. ⌜ r ≡ every isZero (now (s .entry)) ⌝ }
 {
+    let mut seen = 0u8;
     let mut i = 0;
     while i < s.len() {
-        if s[i] != 0 {
-            return false;
-        }
+        seen = seen | s[i];
         i += 1;
     }
-    true
+    seen == 0
 }
 
 // Reads public keys alone: the rows from ECDSA to before REQ.
