@@ -7,7 +7,7 @@ use mathlib.Core.Bool.{Bool, true, false}
 use mathlib.Core.Option.{Option, none, some}
 use mathlib.Core.List.{List, [], _∷_, _++_}
 use lib.ListN.{take, drop, replicate, set}
-use Rattle.numbers.specs.Numbers.{tooLong, unknownKind, missingCheck, wrongCheck, wrongCount, wrongText, wrongIdentity, unpaired, wrongKind, shortOutput, unfinished, missingItem, notAlike, wrongAttributes, wrongFingerprint, wrongZ, otherRequest, wrongTag, missingTrailer, wrongHash, missingBegins, missingEnds}
+use Rattle.numbers.specs.Numbers.{tooLong, unknownKind, missingCheck, wrongCheck, wrongCount, wrongText, wrongIdentity, unpaired, wrongKind, shortOutput, unfinished, missingItem, notAlike, wrongAttributes, wrongFingerprint, wrongZ, otherRequest, wrongTag, missingTrailer, wrongHash, missingBegins, missingEnds, notCabinet, notLater, noPlace, notThere}
 use Rattle.text.specs.Text.{Bytes, ascii, isIdent, isTimestamp, isHex, isPrintable, Ident, Timestamp, Point, Sig, Mac, Print, Protected, Hex, isOf}
 use Rattle.text.specs.Base16.{base16}
 use Rattle.sha384.specs.Sha384.{sha384}
@@ -157,8 +157,8 @@ said o = answer o ∷ place o ∷ []
 
 unfoldable pub numbers : List Value
 numbers =
-    bytes (tooLong ∷ unknownKind ∷ missingCheck ∷ wrongCheck ∷ wrongCount ∷ wrongText ∷ wrongIdentity ∷ unpaired ∷ wrongKind ∷ shortOutput ∷ unfinished ∷ missingItem ∷ notAlike ∷ wrongAttributes ∷ wrongFingerprint ∷ wrongZ ∷ otherRequest ∷ wrongTag ∷ missingTrailer ∷ wrongHash ∷ missingBegins ∷ missingEnds ∷ [])
-    (1 ∷ 2 ∷ 3 ∷ 4 ∷ 5 ∷ 6 ∷ 7 ∷ 8 ∷ 9 ∷ 10 ∷ 11 ∷ 12 ∷ 13 ∷ 14 ∷ 15 ∷ 16 ∷ 17 ∷ 18 ∷ 19 ∷ 20 ∷ 21 ∷ 22 ∷ [])
+    bytes (tooLong ∷ unknownKind ∷ missingCheck ∷ wrongCheck ∷ wrongCount ∷ wrongText ∷ wrongIdentity ∷ unpaired ∷ wrongKind ∷ shortOutput ∷ unfinished ∷ missingItem ∷ notAlike ∷ wrongAttributes ∷ wrongFingerprint ∷ wrongZ ∷ otherRequest ∷ wrongTag ∷ missingTrailer ∷ wrongHash ∷ missingBegins ∷ missingEnds ∷ notCabinet ∷ notLater ∷ noPlace ∷ notThere ∷ [])
+    (1 ∷ 2 ∷ 3 ∷ 4 ∷ 5 ∷ 6 ∷ 7 ∷ 8 ∷ 9 ∷ 10 ∷ 11 ∷ 12 ∷ 13 ∷ 14 ∷ 15 ∷ 16 ∷ 17 ∷ 18 ∷ 19 ∷ 20 ∷ 21 ∷ 22 ∷ 23 ∷ 24 ∷ 25 ∷ 26 ∷ [])
     ∷ bytes (said (readRecord (ascii "PK.ECDH.1"))) (2 ∷ 0 ∷ [])
     ∷ bytes (said (readRecord (ascii "PK.ECDH.1:x"))) (2 ∷ 0 ∷ [])
     ∷ bytes (said (readRecord moduleId)) (2 ∷ 0 ∷ [])
