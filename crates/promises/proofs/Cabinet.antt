@@ -26,7 +26,7 @@ use Rattle.subjects.specs.Keys.{Key, gntOf}
 use Rattle.shelf.specs.Places as shelves
 use Rattle.shelf.specs.Places.{Names, named, sameNames, Held, free, held, isFree, holds, lookup, lowest, occupied, distinct, others}
 use Rattle.shelf.specs.Cabinet.{places, width, about, asks, reads, encode, decode, shelf, image, entry, Result, leaving, Finding, nothing, foundAt, makeCabinet, putKey, removeKey, findKey, countIn, countKeys, checkCabinet}
-use Rattle.shelf.specs.History.{lastPut, removals, nowhere, textOf, heldIn, Call, putting, removing, finding, Moment, putEvent, removeEvent, onto, noted, afterCall, run}
+use Rattle.shelf.specs.History.{lastPut, removals, nowhere, textOf, heldIn, Call, putting, removing, finding, checking, counting, Moment, putEvent, removeEvent, onto, noted, afterCall, run}
 use Rattle.shelf.proofs.Places.{names-refl, found-at, Once, distinct-once, once-distinct, lookup-at, lowest-there, lowest-free-at}
 use Rattle.shelf.proofs.Readings.{asks-accepted, asks-refused, asked, reads-accepted, reads-refused, held-of}
 use Rattle.shelf.proofs.Images.{Good, AllGood, lookup-good, decode-encode, shelf-image, shelf-some}
@@ -361,6 +361,14 @@ check-so s = (
       (λ ps q n. let m = sym (ap (λ (o : Option (List shelves.Place)). countIn o .no) q) ∙ n in omega arith),
 )
 
+count-so : (s : Bytes) → ((countKeys s .no ≡ 0) ↔ IsCabinet s) × ((countKeys s .no ≡ notCabinet) ↔ (IsCabinet s → ⊥)) × (countKeys s .no ≢ 0 → countKeys s .count ≡ 0)
+unfolding checkCabinet countKeys
+count-so s = let (a, b) = check-so s in (a, b, go (shelf s))
+  where
+    go : (o : Option (List shelves.Place)) → countIn o .no ≢ 0 → countIn o .count ≡ 0
+    go none n = refl
+    go (some ps) n = absurd (n refl)
+
 -- ---- any list of calls
 
 -- a call of the code is a call of the history
@@ -376,7 +384,10 @@ step-call m n (inr (inl (κs, (a, (r, (s, (p, (e, f)))))))) = (
   f ∙ ap₂ (λ (k : ℕ) (x : Bytes). record { bytes = x; events = cond (eqb k 0) (onto (removeEvent (asks (now (a .1 .0)))) (m .events)) (m .events) }) (number-of p) (p .left)
       ∙ ap (λ (x : Bytes). noted (removeEvent (asks (now (a .1 .0)))) (removeKey x (now (a .1 .0))) (m .events)) e,
 )
-step-call m n (inr (inr (κs, (a, (r, (s, (p, (e, f)))))))) = (finding (now (a .1 .0)), f)
+step-call m n (inr (inr (inl (κs, (a, (r, (s, (p, (e, f))))))))) = (finding (now (a .1 .0)), f)
+step-call m n (inr (inr (inr (inl (κs, (a, (r, (s, (p, (e, f)))))))))) = (finding (now (a .1 .0)), f)
+step-call m n (inr (inr (inr (inr (inl (κs, (a, (r, (s, (p, (e, f))))))))))) = (checking, f)
+step-call m n (inr (inr (inr (inr (inr (κs, (a, (r, (s, (p, (e, f))))))))))) = (counting, f)
 
 ran-calls : (k : ℕ) (m n : Moment) → Ran k m n → (cs : List Call) × (n ≡ run cs m)
 unfolding run
@@ -472,6 +483,7 @@ cabinet =
     record {
       made = λ κs a r s p. make-said (now (a .0)) (now (s .0)) r p;
       checked = λ κs a r s p. rw p (check-so (now (a .0)));
+      counted = λ κs a r s p. rw p (count-so (now (a .0)));
       put = λ κs a r s p. put-said (now (a .0)) (now (a .1 .0)) (now (s .0)) r p;
       removed = λ κs a r s p. remove-said (now (a .0)) (now (a .1 .0)) (now (s .0)) r p;
       place = λ κs a r s p. rw (p .bytes, p .said) (find-so (now (a .0)) (now (a .1 .0)));

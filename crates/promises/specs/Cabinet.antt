@@ -111,7 +111,7 @@ pub record FindSaid (s i : Bytes) (no field start : ℕ) (text : Bytes) : Type 0
 
 -- ---- any list of calls of the code
 
--- one call took the moment m to n: it was lent the bytes of m, and an event counts where it answered 0
+-- one call took the moment m to n: it was lent the bytes of m, and a put or a removal counts where it answered 0; the others are lent the bytes to look at
 abbrev pub Counts : Moment → Moment → Option Event → ℕ → Bytes → Type 0
 Counts m n e number after = n ≡ record { bytes = after; events = cond (eqb number 0) (onto e (m .events)) (m .events) }
 
@@ -120,6 +120,9 @@ Step m n =
     SomeCall put-key.Post (λ κs a r s. (now (a .0) ≡ m .bytes) × Counts m n (putEvent (now (a .1 .0)) (reads (now (a .1 .0)))) (r .no) (now (s .0)))
     ⊎ SomeCall remove-key.Post (λ κs a r s. (now (a .0) ≡ m .bytes) × Counts m n (removeEvent (asks (now (a .1 .0)))) (r .no) (now (s .0)))
     ⊎ SomeCall find-key.Post (λ κs a r s. (now (a .0) ≡ m .bytes) × (n ≡ m))
+    ⊎ SomeCall key-place.Post (λ κs a r s. (now (a .0) ≡ m .bytes) × (n ≡ m))
+    ⊎ SomeCall check-cabinet.Post (λ κs a r s. (now (a .0) ≡ m .bytes) × (n ≡ m))
+    ⊎ SomeCall count-keys.Post (λ κs a r s. (now (a .0) ≡ m .bytes) × (n ≡ m))
 
 -- so many calls, one after another
 abbrev pub Ran : ℕ → Moment → Moment → Type 0
@@ -146,6 +149,8 @@ pub record Cabinet : Type 0 where
       (λ κs a r s. (length (now (a .0)) ≡ 65536 → (r .no ≡ 0) × (now (s .0) ≡ replicate 65536 0))
       × (length (now (a .0)) ≢ 65536 → (r .no ≡ notCabinet) × (now (s .0) ≡ now (a .0))))
   pub checked : Holds check-cabinet.Post (λ κs a r s. ((r .no ≡ 0) ↔ IsCabinet (now (a .0))) × ((r .no ≡ notCabinet) ↔ (IsCabinet (now (a .0)) → ⊥)))
+  pub counted : Holds count-keys.Post
+      (λ κs a r s. ((r .no ≡ 0) ↔ IsCabinet (now (a .0))) × ((r .no ≡ notCabinet) ↔ (IsCabinet (now (a .0)) → ⊥)) × (r .no ≢ 0 → r .count ≡ 0))
   pub put : Holds put-key.Post (λ κs a r s. PutSaid (now (a .0)) (now (a .1 .0)) (now (s .0)) r)
   pub removed : Holds remove-key.Post (λ κs a r s. RemoveSaid (now (a .0)) (now (a .1 .0)) (now (s .0)) r)
   pub place : Holds key-place.Post (λ κs a r s. FindSaid (now (a .0)) (now (a .1 .0)) (r .no) (r .field) (r .start) (take (r .len) (drop (r .start) (now (a .0)))))
