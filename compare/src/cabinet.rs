@@ -1,33 +1,41 @@
-//! Request E8: the centre's key cabinet, 64 places of 1,024 bytes in 65,536 lent bytes.
+//! Requests E8 and E9: the centre's key cabinet, 64 places of 1,024 bytes in 65,536 lent bytes.
 //!
-//! A place is all zeros, or holds an accepted public key and zeros behind it. No two records share the
-//! kind, Manufacturer and MID of their Subjects. All other bytes are no cabinet.
+//! A place is all zeros, or holds an accepted public key, zeros behind it, and in its last eight bytes the
+//! number of the key's Expiry, in big endian and two's complement. No two records share the kind, Manufacturer
+//! and MID of their Subjects. All other bytes are no cabinet.
 
 use crate::kind::Kind;
-use crate::newer::{subject_of_key, Subject};
+use crate::moment::expiry_in;
+use crate::newer::{subject_in, subject_of_key, Subject};
+use crate::record::read;
 use crate::refusal::Refusal;
 
 /// How many places there are.
 pub const PLACES: usize = 64;
 /// The bytes of a place.
 pub const WIDTH: usize = 1024;
+/// Where the number of Expiry begins in a place: its last eight bytes.
+pub const NUMBER_AT: usize = WIDTH - 8;
 /// The bytes of a cabinet.
 pub const SIZE: usize = PLACES * WIDTH;
 
-/// What an occupied place holds: the record, and what is read from its Subject.
+/// What an occupied place holds: the record, and what is read from its Subject and its Expiry.
 #[derive(Clone, Debug, PartialEq, Eq)]
 struct Held {
     /// Kind, Manufacturer and MID.
     entity: (Kind, Vec<u8>, Vec<u8>),
     gnt: Vec<u8>,
+    expiry: i64,
     record: Vec<u8>,
 }
 
 impl Held {
     fn of(record: &[u8]) -> Result<Held, Refusal> {
-        let Subject { entity: (kind, manufacturer, mid), gnt } = subject_of_key(record)?;
+        let key = read(record, &Kind::PUBLIC_KEYS)?;
+        let Subject { entity: (kind, manufacturer, mid), gnt } = subject_in(&key);
         let entity = (kind, manufacturer.to_vec(), mid.to_vec());
-        Ok(Held { entity, gnt: gnt.to_vec(), record: record.to_vec() })
+        let expiry = expiry_in(&key);
+        Ok(Held { entity, gnt: gnt.to_vec(), expiry, record: record.to_vec() })
     }
 
     fn is_of(&self, (kind, manufacturer, mid): (Kind, &[u8], &[u8])) -> bool {
@@ -65,8 +73,11 @@ impl Cabinet {
     /// The bytes of this cabinet.
     pub fn bytes(&self) -> Vec<u8> {
         let place = |held: &Option<Held>| {
-            let mut bytes = held.as_ref().map_or(Vec::new(), |held| held.record.clone());
-            bytes.resize(WIDTH, 0);
+            let mut bytes = [0; WIDTH];
+            if let Some(Held { record, expiry, .. }) = held {
+                bytes[..record.len()].copy_from_slice(record);
+                bytes[NUMBER_AT..].copy_from_slice(&expiry.to_be_bytes());
+            }
             bytes
         };
         self.places.iter().flat_map(place).collect()
@@ -110,15 +121,17 @@ impl Cabinet {
 }
 
 /// What a place holds, and none where its bytes may not stand in one. The record is what stands before the
-/// first zero.
+/// first zero; no key is so long that there is none before the number.
 fn read_place(bytes: &[u8]) -> Option<Option<Held>> {
-    let end = bytes.iter().position(|&byte| byte == 0).unwrap_or(bytes.len());
-    let (record, rest) = bytes.split_at(end);
-    match rest.iter().all(|&byte| byte == 0) {
-        false => None,
-        true if record.is_empty() => Some(None),
-        true => Held::of(record).ok().map(Some),
+    if bytes.iter().all(|&byte| byte == 0) {
+        return Some(None);
     }
+    let (front, number) = bytes.split_last_chunk()?;
+    let end = front.iter().position(|&byte| byte == 0)?;
+    let (record, rest) = front.split_at(end);
+    let held = Held::of(record).ok()?;
+    let is_right = held.expiry == i64::from_be_bytes(*number);
+    (is_right && rest.iter().all(|&byte| byte == 0)).then_some(Some(held))
 }
 
 /// Makes the lent bytes an empty cabinet.
@@ -169,17 +182,26 @@ mod tests {
     use super::*;
     use crate::worked::worked;
 
+    /// Of the module's key: 99991231T115959Z.
+    const EXPIRY: i64 = 252_676_411_199;
+
     #[test]
-    fn a_place_is_all_zeros_or_a_public_key_and_zeros() {
+    fn a_place_is_all_zeros_or_a_public_key_zeros_and_its_number() {
         let key = worked("PUBKEY_SM");
-        let place = |bytes: &[u8]| {
+        let with = |bytes: &[u8], number: i64| {
             let mut place = bytes.to_vec();
-            place.resize(WIDTH, 0);
+            place.resize(NUMBER_AT, 0);
+            place.extend(number.to_be_bytes());
             read_place(&place)
         };
-        assert_eq!(place(b""), Some(None));
+        let place = |bytes: &[u8]| with(bytes, EXPIRY);
+        assert_eq!(with(b"", 0), Some(None));
+        assert_eq!(place(b""), None);
         let held = place(&key).flatten().expect("a key");
         assert_eq!((held.record, held.gnt), (key.clone(), b"20180120T090000Z".to_vec()));
+        for other in [0, EXPIRY - 1, EXPIRY + 1, -EXPIRY, EXPIRY.swap_bytes(), !EXPIRY] {
+            assert_eq!(with(&key, other), None);
+        }
         assert_eq!(held.entity, (Kind::Smid, b"Prism".to_vec(), b"06000001".to_vec()));
         for other in [
             [&key[..], b"\0\x01"].concat(),

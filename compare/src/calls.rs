@@ -5,8 +5,8 @@ use compare::crc::crc16;
 use compare::sha1::sha1;
 use compare::sha384::sha384;
 use compare::{
-    agreement, attributes, build, confirm, file, fingerprint, hmac, mail, newer, record, text,
-    trailed,
+    agreement, attributes, build, confirm, file, fingerprint, hmac, mail, moment, newer, record,
+    text, trailed,
 };
 
 /// One call of the library.
@@ -113,6 +113,8 @@ calls! {
     KeyPlace "key_place" Case::filed;
     FindKey "find_key" Case::filed;
     Filing "make_cabinet,check_cabinet,count_keys,put_key,remove_key,key_place,find_key" Case::history;
+    MomentOf "moment_of" |case| case.moment(moment::moment_of(&case.a));
+    ExpiryOf "expiry_of" |case| case.expiry(moment::expiry_of(&case.a));
 }
 
 impl Op {

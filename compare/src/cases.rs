@@ -42,6 +42,14 @@ pub struct Answer {
 }
 
 impl Answer {
+    /// The answer, and seconds behind it, with their sign. As a number they are what seven bytes say, two's
+    /// complement, so that 100 more is a number of eight too.
+    fn with_seconds(mut self, seconds: i64) -> Answer {
+        self.line.extend(format!(" {seconds}").into_bytes());
+        self.numbers.push(seconds.rem_euclid(1 << 56) as u64);
+        self
+    }
+
     /// An answer in one number: its only one, or 100 times the first and the second.
     fn brief(&self) -> u64 {
         match self.numbers[..] {
@@ -193,6 +201,16 @@ impl Case {
         self.outcome(b"", choice.answer, &[choice.which])
     }
 
+    /// The answer of the date call: whether the text is a TIMESTAMP, and its seconds, 0 with any other.
+    pub fn moment(&self, moment: Option<i64>) -> Answer {
+        self.flag(moment.is_some()).with_seconds(moment.unwrap_or(0))
+    }
+
+    /// The answer of the call for Expiry: its seconds, 0 with a refusal.
+    pub fn expiry(&self, expiry: Result<i64, Refusal>) -> Answer {
+        self.outcome(b"", expiry, &[]).with_seconds(expiry.unwrap_or(0))
+    }
+
     /// The answer of a call that writes from the start of an output: the length, and the check of the
     /// whole output.
     pub fn output(&self, call: impl FnOnce(&mut [u8]) -> Result<usize, Refusal>) -> Answer {
@@ -328,6 +346,8 @@ mod tests {
         assert_eq!(Op::KeyPlace.number(), 52);
         assert_eq!(Op::FindKey.number(), 53);
         assert_eq!(Op::Filing.number(), 54);
+        assert_eq!(Op::MomentOf.number(), 55);
+        assert_eq!(Op::ExpiryOf.number(), 56);
     }
 
     #[test]
@@ -521,12 +541,20 @@ mod tests {
         assert_eq!(line(Op::ReadMail, 0, [&block[..493], no, no]), "read_mail  22 0 0 65535");
     }
 
+    /// The number of the centre's key, which expires at 20210110T120000Z: 884,433,600.
+    const NUMBER: [u8; 8] = [0, 0, 0, 0, 0x34, 0xB7, 0x62, 0xC0];
+
+    /// The place that holds the centre's key.
+    fn place_of(key: &[u8]) -> Vec<u8> {
+        [key, &vec![0; 1016 - key.len()], &NUMBER].concat()
+    }
+
     /// The check is that of all lent bytes; the steps stand in c and take their parts from a.
     #[test]
     fn a_cabinet_is_made_by_steps() {
         let (key, identity) = (worked("PUBKEY_KMC"), worked("ID_KMC"));
         let whole = Part { start: 0, end: key.len() };
-        let image = [&key[..], &vec![0; 65_536 - key.len()]].concat();
+        let image = [place_of(&key), vec![0; 63 * 1024]].concat();
         let (length, empty, with_key) = (key.len(), crc16(&[0; 65_536]), crc16(&image));
         let put = Step::Call(Op::PutKey, whole).bytes();
         let no: &[u8] = &[];
@@ -542,12 +570,15 @@ mod tests {
         ] {
             assert_eq!(line(op, n, parts), said);
         }
-        let write = Step::Write(whole, 63 * 1024).bytes();
-        let image = [&vec![0; 63 * 1024], &key[..], &vec![0; 1024 - length]].concat();
+        let text = [&key[..], &NUMBER].concat();
+        let number = Part { start: length, end: text.len() };
+        let write =
+            [(whole, 63 * 1024), (number, 65_528)].map(|(part, at)| Step::Write(part, at).bytes());
+        let image = [vec![0; 63 * 1024], place_of(&key)].concat();
         let check = crc16(&image);
-        let place = line(Op::KeyPlace, 65_536, [&key, &identity, &write]);
+        let place = line(Op::KeyPlace, 65_536, [&text, &identity, &write.concat()]);
         assert_eq!(place, format!("key_place 0 0 64512 {length} {check}"));
-        let found = line(Op::FindKey, 65_536, [&key, &identity, &write]);
+        let found = line(Op::FindKey, 65_536, [&text, &identity, &write.concat()]);
         assert_eq!(found, format!("find_key 0 0 {length} {} {check}", crc16(&key)));
     }
 
@@ -569,11 +600,26 @@ mod tests {
         ];
         let steps = steps.map(Step::bytes).concat();
         let said = line(Op::Filing, 0, [&text, b"", &steps]);
-        let image = [&key[..], &vec![0; 65_536 - key.len()]].concat();
+        let image = [place_of(&key), vec![0; 63 * 1024]].concat();
         let [with_key, empty] = [&image[..], &[0; 65_536]].map(crc16);
         let numbers = format!("0 0 24 0 0 0 0 {} 0 1 {with_key}", key.len());
         let label = Op::Filing.call().name();
         assert_eq!(said, format!("{label} {numbers} 0 0 26 0 0 65535 {empty}"));
+    }
+
+    #[test]
+    fn seconds_have_their_sign() {
+        let no: &[u8] = &[];
+        let moment = |text: &[u8]| line(Op::MomentOf, 0, [text, no, no]);
+        assert_eq!(moment(b"19930101T000000Z"), "moment_of 1 0");
+        assert_eq!(moment(b"19921231T235959Z"), "moment_of 1 -1");
+        assert_eq!(moment(b"00010101T000000Z"), "moment_of 1 -62861443200");
+        assert_eq!(moment(b"99991231T235959Z"), "moment_of 1 252676454399");
+        assert_eq!(moment(b"19930100T000000Z"), "moment_of 0 0");
+        let expiry = |record: &[u8]| line(Op::ExpiryOf, 0, [record, no, no]);
+        assert_eq!(expiry(&worked("PUBKEY_KMC")), "expiry_of 0 0 884433600");
+        assert_eq!(expiry(&worked("PUBKEY_SM")), "expiry_of 0 0 252676411199");
+        assert_eq!(expiry(&worked("VKLOADREQ")), "expiry_of 2 0 0");
     }
 
     #[test]
@@ -604,6 +650,19 @@ mod tests {
             .collect();
         let identity = line_of_every_byte(Op::Identity, [b"SMID.1:", b":", &checks]);
         assert_eq!(identity, "read_identity of every byte 0 500");
+    }
+
+    /// 100 more than the seconds, which are 2 to the 56th more where they are negative.
+    #[test]
+    fn a_moment_of_every_byte_has_its_seconds() {
+        let days = line_of_every_byte(Op::MomentOf, [b"1993010", b"T000000Z", &[]]);
+        let from = |day: u64| format!("{} {}", 48 + day, 100 + (day - 1) * 86_400);
+        let numbers: Vec<String> = (1..10).map(from).collect();
+        assert_eq!(days, format!("moment_of of every byte 0 0 {} 58 0", numbers.join(" ")));
+        let digits = line_of_every_byte(Op::MomentOf, [b"1992123", b"T235959Z", &[]]);
+        let below = (1u64 << 56) + 100;
+        let numbers = format!("48 {} 49 {} 50 0", below - 86_401, below - 1);
+        assert_eq!(digits, format!("moment_of of every byte 0 0 {numbers}"));
     }
 
     #[test]

@@ -1,7 +1,7 @@
 //! The chooser.
 
 use crate::kind::Kind;
-use crate::record::{read, read_identity};
+use crate::record::{read, read_identity, Record};
 use crate::refusal::Refusal;
 
 /// What the chooser and the cabinet look at in the Subject of a public key.
@@ -9,7 +9,7 @@ use crate::refusal::Refusal;
 pub(crate) struct Subject<'a> {
     /// Kind, Manufacturer and MID.
     pub(crate) entity: (Kind, &'a [u8], &'a [u8]),
-    /// The order of these texts is the order of the times.
+    /// The order of these texts is the order of the times, and of their numbers of seconds.
     pub(crate) gnt: &'a [u8],
 }
 
@@ -51,6 +51,10 @@ pub fn newer<'a>(first: &'a [u8], second: &'a [u8]) -> Result<&'a [u8], Refusal>
 
 /// The Subject of a public key.
 pub(crate) fn subject_of_key(public_key: &[u8]) -> Result<Subject<'_>, Refusal> {
-    let key = read(public_key, &Kind::PUBLIC_KEYS)?;
-    Ok(Subject::of(key.fields[0]).expect("an accepted key has an accepted Subject"))
+    read(public_key, &Kind::PUBLIC_KEYS).map(|key| subject_in(&key))
+}
+
+/// The same of a key that was accepted.
+pub(crate) fn subject_in<'a>(key: &Record<'a>) -> Subject<'a> {
+    Subject::of(key.fields[0]).expect("an accepted key has an accepted Subject")
 }

@@ -37,21 +37,37 @@ pub fn is_ident(text: &[u8]) -> bool {
 
 /// TIMESTAMP: `YYYYMMDDThhmmssZ`; there is no year 0000, and the day is one of its month.
 pub fn is_timestamp(text: &[u8]) -> bool {
+    timestamp(text).is_some()
+}
+
+/// A TIMESTAMP by its parts.
+pub(crate) struct Timestamp {
+    pub(crate) year: usize,
+    pub(crate) month: usize,
+    pub(crate) day: usize,
+    pub(crate) hour: usize,
+    pub(crate) minute: usize,
+    pub(crate) second: usize,
+}
+
+/// The parts of a text that is a TIMESTAMP.
+pub(crate) fn timestamp(text: &[u8]) -> Option<Timestamp> {
     let &[y1, y2, y3, y4, m1, m2, d1, d2, b'T', h1, h2, i1, i2, s1, s2, b'Z'] = text else {
-        return false;
+        return None;
     };
     let within = |digits: &[u8], least: usize, most: usize| {
         let number = decimal(digits).map(|number| number as usize);
         number.filter(|number| (least..=most).contains(number))
     };
-    let (Some(year), Some(month)) = (within(&[y1, y2, y3, y4], 1, 9999), within(&[m1, m2], 1, 12))
-    else {
-        return false;
-    };
-    within(&[d1, d2], 1, days_of(year, month)).is_some()
-        && within(&[h1, h2], 0, 23).is_some()
-        && within(&[i1, i2], 0, 59).is_some()
-        && within(&[s1, s2], 0, 59).is_some()
+    let (year, month) = (within(&[y1, y2, y3, y4], 1, 9999)?, within(&[m1, m2], 1, 12)?);
+    Some(Timestamp {
+        year,
+        month,
+        day: within(&[d1, d2], 1, days_of(year, month))?,
+        hour: within(&[h1, h2], 0, 23)?,
+        minute: within(&[i1, i2], 0, 59)?,
+        second: within(&[s1, s2], 0, 59)?,
+    })
 }
 
 /// The days of a month, 1 to 12, by the Gregorian calendar.

@@ -1,8 +1,9 @@
-//! The implementation held against request E8: what is a cabinet, where a key is put, and where numbers 23 to
-//! 26 stand.
+//! The implementation held against requests E8 and E9: what is a cabinet, where a key is put, where numbers 23 to
+//! 26 stand, and where the number of Expiry does.
 
-use compare::cabinet::{check, count, find, make, put, remove, PLACES, SIZE, WIDTH};
+use compare::cabinet::{check, count, find, make, put, remove, NUMBER_AT, PLACES, SIZE, WIDTH};
 use compare::kind::Kind;
+use compare::moment::moment_of;
 use compare::random::Random;
 use compare::refusal::Refusal;
 use compare::sample::{self, Fault, PublicKey, Signed, Subject};
@@ -17,12 +18,26 @@ fn empty() -> Vec<u8> {
 }
 
 /// A cabinet with these bytes at the start of places.
-fn image(places: &[(usize, &[u8])]) -> Vec<u8> {
+fn bare(places: &[(usize, &[u8])]) -> Vec<u8> {
     let mut lent = empty();
     for (place, bytes) in places {
         lent[place * WIDTH..][..bytes.len()].copy_from_slice(bytes);
     }
     lent
+}
+
+/// The same, with the number of what stands in them where Expiry does, if they leave room for it.
+fn image(places: &[(usize, &[u8])]) -> Vec<u8> {
+    let mut lent = bare(places);
+    for (place, bytes) in places.iter().filter(|(_, bytes)| bytes.len() <= NUMBER_AT) {
+        let expiry = bytes.split(|&byte| byte == b'|').nth(3).and_then(moment_of);
+        write_number(&mut lent, *place, expiry.unwrap_or(0));
+    }
+    lent
+}
+
+fn write_number(lent: &mut [u8], place: usize, number: i64) {
+    lent[place * WIDTH..][NUMBER_AT..WIDTH].copy_from_slice(&number.to_be_bytes());
 }
 
 /// A key of Subject number so many, with this GNT.
@@ -62,6 +77,9 @@ fn the_keys_of_document_003_are_put_found_and_removed() {
     // The signed key of the module has the GNT of the one without a signature.
     refuses(&lent, Refusal::NotLater, |lent| put(lent, &worked("PUBKEY_SM")));
     let [centre, manufacturer, module] = names.map(|(record, _)| worked(record));
+    for (place, number) in [884_433_600, 884_872_800, 252_676_411_199i64].into_iter().enumerate() {
+        assert_eq!(lent[place * WIDTH..][1016..1024], number.to_be_bytes());
+    }
     assert!(lent == image(&[(0, &centre), (1, &manufacturer), (2, &module)]));
     assert_eq!(remove(&mut lent, &worked("ID_KMC")), Ok(()));
     assert_eq!(remove(&mut lent, &worked("ID_SM")), Ok(()));
@@ -77,7 +95,7 @@ fn the_keys_of_document_003_are_put_found_and_removed() {
 
 #[test]
 fn a_cabinet_has_65_536_bytes() {
-    assert_eq!((PLACES, WIDTH, SIZE), (64, 1024, 65_536));
+    assert_eq!((PLACES, WIDTH, SIZE, NUMBER_AT), (64, 1024, 65_536, 1016));
     for length in [0, 1, 1024, 65_535, 65_537, 131_072] {
         let lent = vec![0; length];
         let (record, identity) = (worked("PUBKEY_SM"), worked("ID_SM"));
@@ -190,6 +208,112 @@ fn other_memory_is_no_cabinet() {
     }
 }
 
+/// Times at which a key may expire, and their numbers.
+const TIMES: [(&str, i64); 8] = [
+    ("00010101T000000Z", -62_861_443_200),
+    ("19000301T000000Z", -2_929_737_600),
+    ("19921231T235959Z", -1),
+    ("19930101T000000Z", 0),
+    ("19930101T000001Z", 1),
+    ("20000229T000000Z", 225_936_000),
+    ("24000229T000000Z", 12_848_716_800),
+    ("99991231T235959Z", 252_676_454_399),
+];
+
+/// A key of one Subject with this GNT that expires at this time.
+fn expiring(gnt: &str, expiry: &str) -> Vec<u8> {
+    let mut key = PublicKey::of_record(&worked("PUBKEY_SM"));
+    (key.subject.gnt, key.expiry) = (gnt.into(), expiry.into());
+    key.record()
+}
+
+/// After a put, a replacement and a removal, with zeros before it.
+#[test]
+fn the_number_of_expiry_stands_at_the_end_of_its_place() {
+    for (first, number) in TIMES {
+        let mut lent = empty();
+        let old = expiring("20180120T090000Z", first);
+        assert_eq!(put(&mut lent, &old), Ok(()));
+        let (place, behind) = lent.split_at(WIDTH);
+        assert_eq!(place[1016..], number.to_be_bytes());
+        assert!(place[old.len()..1016].iter().chain(behind).all(|&byte| byte == 0));
+        assert_eq!(place[..old.len()], old);
+        for (second, number) in TIMES {
+            let mut lent = lent.clone();
+            refuses(&lent, Refusal::NotLater, |lent| {
+                put(lent, &expiring("20180120T090000Z", second))
+            });
+            let new = expiring("20180120T090001Z", second);
+            assert_eq!(put(&mut lent, &new), Ok(()));
+            assert_eq!(lent[1016..1024], number.to_be_bytes());
+            assert_eq!((check(&lent), find(&lent, &worked("ID_SM"))), (Ok(()), Ok(&new[..])));
+            assert_eq!(remove(&mut lent, &worked("ID_SM")), Ok(()));
+            assert!(lent == empty());
+        }
+    }
+}
+
+#[test]
+fn another_number_than_that_of_the_text_is_no_cabinet() {
+    let (record, identity) = (worked("PUBKEY_KMC"), worked("ID_KMC"));
+    for (expiry, number) in TIMES {
+        let key = expiring("20180120T090000Z", expiry);
+        let right = image(&[(63, &key)]);
+        assert_eq!(check(&right), Ok(()));
+        let mut others = vec![number + 1, number - 1, number.swap_bytes(), -number, !number, 0];
+        others.extend([number & 0xFFFF_FFFF, number as i32 as i64, number + 725_846_400]);
+        others.extend(TIMES.map(|(_, number)| number));
+        others.extend((0..64).map(|bit| number ^ 1 << bit));
+        others.retain(|&other| other != number);
+        for other in others {
+            let mut lent = right.clone();
+            write_number(&mut lent, 63, other);
+            assert_eq!(check(&lent), Err(Refusal::NoCabinet), "{expiry} {other}");
+            assert_eq!(count(&lent), Err(Refusal::NoCabinet));
+        }
+        let mut lent = right;
+        write_number(&mut lent, 63, number + 1);
+        assert_eq!(find(&lent, &identity), Err(Refusal::NoCabinet));
+        refuses(&lent, Refusal::NoCabinet, |lent| put(lent, &record));
+        refuses(&lent, Refusal::NoCabinet, |lent| remove(lent, &identity));
+        write_number(&mut lent, 63, number);
+        assert_eq!(count(&lent), Ok(1));
+    }
+}
+
+/// An image without numbers, as request E8 had it, is a cabinet only where all of them are 0.
+#[test]
+fn an_image_without_numbers_is_none() {
+    for (expiry, number) in TIMES {
+        let lent = bare(&[(5, &expiring("20180120T090000Z", expiry))]);
+        assert_eq!(check(&lent).is_ok(), number == 0, "{expiry}");
+    }
+    let (key, other) = (expiring("20180120T090000Z", "19930101T000000Z"), worked("PUBKEY_KMC"));
+    assert_eq!(check(&bare(&[(5, &key), (6, &other)])), Err(Refusal::NoCabinet));
+}
+
+/// Nothing stands before the number but zeros, and nothing at all in a free place.
+#[test]
+fn what_is_not_the_record_or_its_number_is_zero() {
+    let key = expiring("20180120T090000Z", "20000229T000000Z");
+    let right = image(&[(0, &key)]);
+    for at in (key.len()..1016).chain(63 * WIDTH..SIZE) {
+        let mut lent = right.clone();
+        lent[at] = 1;
+        assert_eq!(check(&lent), Err(Refusal::NoCabinet), "{at}");
+    }
+    // Texts that go as far as the number and farther.
+    let mut random = Random::with_seed(7);
+    for length in [1015, 1016, 1017, 1023, 1024] {
+        let long = sample::padded(&mut random, Kind::PkEcdh, 4, length);
+        for mut lent in [bare(&[(0, &long)]), image(&[(0, &long)])] {
+            assert_eq!(check(&lent), Err(Refusal::NoCabinet));
+            write_number(&mut lent, 0, 225_936_000);
+            assert_eq!(check(&lent), Err(Refusal::NoCabinet));
+        }
+    }
+}
+
 #[test]
 fn an_identity_names_by_kind_manufacturer_and_mid() {
     let key = worked("PUBKEY_SM");
@@ -242,7 +366,7 @@ fn the_longest_key_fits() {
     for kind in Kind::PUBLIC_KEYS {
         let longest = sample::longest_record(&mut random, kind);
         assert_eq!(longest.len(), kind.longest());
-        assert!(longest.len() < WIDTH);
+        assert!(longest.len() < NUMBER_AT);
         let mut lent = empty();
         assert_eq!(put(&mut lent, &longest), Ok(()));
         assert_eq!(find(&lent, &identity(&longest)), Ok(&longest[..]));

@@ -1,12 +1,14 @@
-//! Request E8: the centre's key cabinet. Many calls one after another are in `histories.rs`.
+//! Request E8: the centre's key cabinet. Many calls one after another are in `histories.rs`, and the numbers in its
+//! places in `stored.rs`.
 
 use super::long::{Block, Part as LongPart, MORE};
-use super::pool::{write, Pool, SUBJECTS};
+use super::pool::{hold, write, Pool, SUBJECTS};
 use super::Plan;
 use crate::calls::Op;
 use crate::steps::{Part, Step};
-use compare::cabinet::{PLACES, SIZE, WIDTH};
+use compare::cabinet::{NUMBER_AT, PLACES, SIZE, WIDTH};
 use compare::kind::Kind;
+use compare::moment::moment_of;
 use compare::sample::{self, PublicKey, Subject};
 use compare::text::PRINT_DIGITS;
 use compare::worked::worked;
@@ -166,7 +168,7 @@ fn replacements(plan: &mut Plan, pool: &Pool) {
         let all = [keys.not_later[0], keys.first, keys.not_later[1], keys.later];
         for new in all {
             for old in all {
-                plan.file(pool, Op::PutKey, &[write(old, place)], pool.bytes(new));
+                plan.file(pool, Op::PutKey, &hold(old, place), pool.bytes(new));
             }
         }
     }
@@ -180,7 +182,7 @@ fn replacements(plan: &mut Plan, pool: &Pool) {
                 gnt[place] = digit;
                 let subject = Subject { gnt: gnt.clone(), ..key.subject.clone() };
                 let key = PublicKey { subject, ..key.clone() };
-                plan.file(pool, Op::PutKey, &[write(pool.worked[0], 5)], &key.record());
+                plan.file(pool, Op::PutKey, &hold(pool.worked[0], 5), &key.record());
             }
             gnt = b"20180110T120000Z".to_vec();
         }
@@ -190,7 +192,7 @@ fn replacements(plan: &mut Plan, pool: &Pool) {
 /// What is found by an identity: the same kind, Manufacturer and MID, whatever GNT and Fingerprint it has.
 fn names(plan: &mut Plan, pool: &Pool) {
     let subject = PublicKey::of_record(pool.bytes(pool.worked[3])).subject;
-    let steps = [write(pool.worked[3], 11), write(pool.worked[0], 12)];
+    let steps = [hold(pool.worked[3], 11), hold(pool.worked[0], 12)].concat();
     let mut named = |subject: Subject| {
         let print = sample::hex(&mut plan.random, PRINT_DIGITS);
         let identity = subject.identity(print);
@@ -258,53 +260,59 @@ fn images(plan: &mut Plan, pool: &Pool) {
     let line_feed = Part { start: key.end, end: key.end + 1 };
     let zero = Part { start: pool.zeros.start, end: pool.zeros.start + 1 };
     let at = |part, place: usize, byte: usize| Step::Write(part, place * WIDTH + byte);
+    // Keys in places, and more written over them.
+    let with = |keys: &[(Part, usize)], more: &[Step]| -> Vec<Step> {
+        let held = keys.iter().flat_map(|&(key, place)| hold(key, place));
+        held.chain(more.iter().copied()).collect()
+    };
     let mut images: Vec<Vec<Step>> = vec![
         // Something behind the zeros, and right behind the record.
-        vec![write(key, 0), at(letter, 0, length + 1)],
-        vec![write(key, 0), at(letter, 0, WIDTH - 1)],
-        vec![write(key, 63), at(letter, 63, WIDTH - 1)],
-        vec![write(key, 5), at(line_feed, 5, length)],
-        vec![write(pool.ones, 2), write(key, 2)],
+        with(&[(key, 0)], &[at(letter, 0, length + 1)]),
+        with(&[(key, 0)], &[at(letter, 0, NUMBER_AT - 1)]),
+        with(&[(key, 63)], &[at(letter, 63, NUMBER_AT - 1)]),
+        with(&[(key, 5)], &[at(line_feed, 5, length)]),
+        [&[write(pool.ones, 2)][..], &hold(key, 2)].concat(),
         // A free place that is none.
         vec![at(letter, 7, 0)],
         vec![at(letter, 7, WIDTH - 1)],
-        vec![write(key, 0), at(letter, 63, WIDTH - 1)],
+        with(&[(key, 0)], &[at(letter, 63, WIDTH - 1)]),
         // A record that begins with a zero, or not at the start of its place, or goes over its end.
-        vec![write(key, 3), at(zero, 3, 0)],
-        vec![at(key, 3, 1)],
-        vec![at(key, 3, WIDTH - 100)],
+        with(&[(key, 3)], &[at(zero, 3, 0)]),
+        vec![at(key, 3, 1), hold(key, 3)[1]],
+        vec![at(key, 3, WIDTH - 100), hold(key, 3)[1]],
         // A zero in it, and less than all of it.
-        vec![write(key, 3), at(zero, 3, length / 2)],
-        vec![write(key, 3), at(zero, 3, length - 1)],
+        with(&[(key, 3)], &[at(zero, 3, length / 2)]),
+        with(&[(key, 3)], &[at(zero, 3, length - 1)]),
         // A wrong check, and another letter.
-        vec![write(key, 3), at(letter, 3, length - 1)],
-        vec![write(key, 3), at(line_feed, 3, 40)],
+        with(&[(key, 3)], &[at(letter, 3, length - 1)]),
+        with(&[(key, 3)], &[at(line_feed, 3, 40)]),
         // A record twice; two keys of one Subject.
-        vec![write(key, 0), write(key, 1)],
-        vec![write(key, 0), write(key, 63)],
-        vec![write(key, 62), write(other, 30), write(key, 63)],
-        vec![write(key, 8), write(pool.keys[1].later, 9)],
-        vec![write(pool.worked[2], 20), write(pool.worked[3], 4)],
+        with(&[(key, 0), (key, 1)], &[]),
+        with(&[(key, 0), (key, 63)], &[]),
+        with(&[(key, 62), (other, 30), (key, 63)], &[]),
+        with(&[(key, 8), (pool.keys[1].later, 9)], &[]),
+        with(&[(pool.worked[2], 20), (pool.worked[3], 4)], &[]),
         // The last of all places.
-        [pool.lowest(63), vec![write(pool.keys[0].later, 63)]].concat(),
-        [pool.full(), vec![at(letter, 63, WIDTH - 1)]].concat(),
+        [&pool.lowest(63)[..], &hold(pool.keys[0].later, 63)].concat(),
+        [&pool.full()[..], &[at(letter, 63, NUMBER_AT - 1)]].concat(),
         (0..PLACES).map(|place| write(pool.ones, place)).collect(),
     ];
     // What is no public key, in a place: records of other kinds, an identity, and one with each fault.
     let fits = |part: &&Part| (1..=WIDTH).contains(&(part.end - part.start));
     let no_keys: Vec<Part> = pool.no_keys.iter().filter(fits).copied().collect();
-    images.extend(no_keys.iter().rev().take(6).map(|&part| vec![write(key, 0), write(part, 40)]));
+    images.extend(no_keys.iter().rev().take(6).map(|&part| with(&[(key, 0), (part, 40)], &[])));
     for image in &images {
         plan.file_all(pool, SIZE, image, [pool.record(70), pool.identity(1)]);
     }
     for &part in no_keys.iter().rev().skip(6) {
-        plan.file(pool, Op::CheckCabinet, &[write(part, 40)], b"");
+        plan.file(pool, Op::CheckCabinet, &hold(part, 40), b"");
     }
     // 23 before the refusals of what is put or named.
     plan.file_all(pool, SIZE, &images[0], [b"x", b"x"]);
     plan.file_all(pool, SIZE, &images[15], [pool.record(1), pool.identity(4)]);
     // Each damage made good again.
-    let again = [write(key, 0), at(letter, 0, WIDTH - 1), write(pool.zeros, 0), write(key, 0)];
+    let spoiled = with(&[(key, 0)], &[at(letter, 0, NUMBER_AT - 1)]);
+    let again = [&spoiled[..], &[write(pool.zeros, 0)], &hold(key, 0)].concat();
     plan.file_all(pool, SIZE, &again, [pool.record(70), pool.identity(1)]);
     plan.file(pool, Op::MakeCabinet, &images[0], b"");
 }
@@ -327,35 +335,45 @@ fn longest(plan: &mut Plan, pool: &Pool) {
         let identity = key.subject.identity(key.print.clone());
         plan.file(pool, Op::PutKey, &[], record);
         for place in [0, 63] {
-            plan.file_all(pool, SIZE, &[write(part, place)], [record, &identity]);
+            plan.file_all(pool, SIZE, &hold(part, place), [record, &identity]);
         }
-        let spoiled = [write(pool.ones, 1), write(part, 1)];
+        let spoiled = [&[write(pool.ones, 1)][..], &hold(part, 1)].concat();
         plan.file(pool, Op::CheckCabinet, &spoiled, b"");
     }
 }
 
-/// Every byte value in a place with a record: behind it, at the end, in its first byte, and in its names, with
-/// the check made right again; and in a free place.
+/// Every byte value in a place with a record: behind it, in its number, in its first byte, and in its names and its
+/// Expiry, with the check made right again; and in a free place. The number of the last sort is 0.
 fn every_byte(plan: &mut Plan) {
-    let key = worked("PUBKEY_KMC");
-    let mut place = key.clone();
-    place.resize(WIDTH, 0);
-    let behind = [0, key.len() - 1, key.len(), key.len() + 1, WIDTH - 2, WIDTH - 1];
-    for (index, byte) in behind.into_iter().enumerate() {
-        plan.every_byte(Op::CheckCabinet, [0, 63, 31][index % 3], &place, byte);
+    let key = PublicKey::of_record(&worked("PUBKEY_KMC"));
+    for (expiry, from) in [("20210110T120000Z", 0), ("19000301T000000Z", 1)] {
+        let key = PublicKey { expiry: expiry.into(), ..key.clone() }.record();
+        let place = [&key[..], &vec![0; NUMBER_AT - key.len()], &number_bytes(expiry)].concat();
+        let behind = [0, key.len() - 1, key.len(), key.len() + 1, NUMBER_AT - 2, NUMBER_AT - 1];
+        for (index, byte) in behind.into_iter().chain(NUMBER_AT..WIDTH).enumerate().skip(from) {
+            plan.every_byte(Op::CheckCabinet, [0, 63, 31][index % 3], &place, byte);
+        }
     }
-    for byte in [0, 1, WIDTH - 1] {
+    for byte in [0, 1, NUMBER_AT - 1, NUMBER_AT, WIDTH - 1] {
         plan.every_byte(Op::CheckCabinet, 63, &[0; WIDTH], byte);
     }
-    for byte in [3, 9, 40, 100] {
+    let expiry = b"19930101T000000Z".to_vec();
+    let key = PublicKey { expiry, ..key }.record();
+    let end = key.len() - 4 - "|||".len();
+    for byte in [3, 9, 40, 100].into_iter().chain(end - 16..end) {
         plan.every_byte_checked(Op::CheckCabinet, 2, &key, byte);
     }
+}
+
+/// The bytes of the number of a TIMESTAMP.
+fn number_bytes(timestamp: &str) -> [u8; 8] {
+    moment_of(timestamp.as_bytes()).expect("a TIMESTAMP").to_be_bytes()
 }
 
 /// Records and identities that are right only modulo [`MORE`], and lent bytes that are.
 fn long(plan: &mut Plan, pool: &Pool) {
     let block = Block::new();
-    let steps = [write(pool.worked[3], 1)];
+    let steps = hold(pool.worked[3], 1);
     for longer in block.longer(LongPart::Key) {
         plan.file(pool, Op::PutKey, &steps, &longer);
     }
@@ -381,10 +399,8 @@ fn damaged(plan: &mut Plan, pool: &Pool) {
             _ => plan.random.between(end - start, WIDTH - 1),
         };
         let with = plan.random.below(pool.text.len());
-        let steps = [
-            write(pool.keys[subject].first, place),
-            Step::Write(Part { start: with, end: with + 1 }, place * WIDTH + byte),
-        ];
+        let other = Step::Write(Part { start: with, end: with + 1 }, place * WIDTH + byte);
+        let steps = [&hold(pool.keys[subject].first, place)[..], &[other]].concat();
         let op = [Op::CheckCabinet, Op::CountKeys, Op::FindKey][turn / 3 % 3];
         plan.file(pool, op, &steps, pool.identity(subject));
     }

@@ -227,7 +227,7 @@ fn mistaken(key: &PublicKey) -> Vec<Vec<u8>> {
 
 /// What can be wrong with the parts of a signed key before its Fingerprint is looked at: 6 of Q, Expiry
 /// and Signature, 7 of Subject and Issuer, 8 for either that is empty, and 9 of the Issuer.
-const WRONG_PARTS: [fn(&mut PublicKey); 11] = [
+pub(super) const WRONG_PARTS: [fn(&mut PublicKey); 11] = [
     |key| key.q[0] = b'1',
     |key| *key.q.last_mut().expect("a digit") = b'g',
     |key| key.expiry = b"20230431T000000Z".to_vec(),

@@ -8,6 +8,7 @@ mod building;
 mod cabinets;
 mod confirmations;
 mod dates;
+mod expiries;
 mod fields;
 mod files;
 mod fingerprints;
@@ -18,11 +19,13 @@ mod hmacs;
 mod lists;
 mod long;
 mod mail;
+mod moments;
 mod newer;
 mod places;
 mod pool;
 mod reading;
 mod sha1;
+mod stored;
 mod trailed_files;
 mod trailers;
 mod types;
@@ -69,6 +72,9 @@ pub fn all() -> Vec<Case> {
         guards::add,
         cabinets::add,
         histories::add,
+        moments::add,
+        expiries::add,
+        stored::add,
     ];
     let mut plan = Plan { cases: Vec::new(), random: Random::with_seed(0) };
     for (seed, add) in (1..).zip(groups) {

@@ -1,11 +1,12 @@
-//! What the steps of cabinets take: records and identities of many Subjects, and what is none, one behind the
-//! other in one text. So the case file has each of them once.
+//! What the steps of cabinets take: records, each with the number of its Expiry behind it, and identities of many
+//! Subjects, and what is none, one behind the other in one text. So the case file has each of them once.
 
 use super::Plan;
 use crate::calls::Op;
 use crate::steps::{Part, Step};
-use compare::cabinet::{PLACES, SIZE, WIDTH};
+use compare::cabinet::{NUMBER_AT, PLACES, SIZE, WIDTH};
 use compare::kind::Kind;
+use compare::moment::moment_of;
 use compare::random::Random;
 use compare::sample::{self, Fault, PublicKey, Signed, Subject};
 use compare::text::PRINT_DIGITS;
@@ -53,25 +54,25 @@ impl Pool {
         let subjects = subjects(&mut random);
         let mut text = Text::default();
         let first: Vec<Part> =
-            subjects.iter().map(|subject| text.add(short_key(&mut random, subject))).collect();
+            subjects.iter().map(|subject| text.add_key(short_key(&mut random, subject))).collect();
         let mut keys = Vec::new();
         for (index, (subject, first)) in subjects.into_iter().zip(first).enumerate() {
             let [before, at, after] = TIMES[index % TIMES.len()]
                 .map(|gnt| Subject { gnt: gnt.into(), ..subject.clone() });
-            let later = text.add(short_key(&mut random, &after));
+            let later = text.add_key(short_key(&mut random, &after));
             let others = if index % 6 == 0 { vec![before, at] } else { Vec::new() };
             let not_later =
-                others.iter().map(|other| text.add(short_key(&mut random, other))).collect();
+                others.iter().map(|other| text.add_key(short_key(&mut random, other))).collect();
             let gnt = sample::timestamp(&mut random);
             let print = sample::hex(&mut random, PRINT_DIGITS);
             let identity = text.add(Subject { gnt, ..subject }.identity(print));
             keys.push(Keys { first, later, not_later, identity });
         }
         let worked = ["PUBKEY_KMC", "PUBKEY_MAN", "PUBKEY_SM_NOSIG", "PUBKEY_SM"]
-            .map(|name| text.add(worked(name)));
+            .map(|name| text.add_key(worked(name)));
         let longest =
-            Kind::PUBLIC_KEYS.map(|kind| text.add(sample::longest_record(&mut random, kind)));
-        let no_keys = no_keys(&mut random).into_iter().map(|bytes| text.add(bytes)).collect();
+            Kind::PUBLIC_KEYS.map(|kind| text.add_key(sample::longest_record(&mut random, kind)));
+        let no_keys = no_keys(&mut random).into_iter().map(|bytes| text.add_key(bytes)).collect();
         let no_identities =
             no_identities(&mut random).into_iter().map(|bytes| text.add(bytes)).collect();
         let [ones, zeros] = [0xFF, 0].map(|byte| text.add(vec![byte; WIDTH]));
@@ -95,8 +96,8 @@ impl Pool {
 
     /// Steps that write the first records of these Subjects, each into its place.
     pub(super) fn shelf(&self, places: impl IntoIterator<Item = (usize, usize)>) -> Vec<Step> {
-        let write = |(subject, place): (usize, usize)| write(self.keys[subject].first, place);
-        places.into_iter().map(write).collect()
+        let hold = |(subject, place): (usize, usize)| hold(self.keys[subject].first, place);
+        places.into_iter().flat_map(hold).collect()
     }
 
     /// So many Subjects in the lowest places, by writing.
@@ -114,49 +115,93 @@ pub(super) fn write(part: Part, place: usize) -> Step {
     Step::Write(part, place * WIDTH)
 }
 
+/// The steps that write a key of such a text to the start of a place, and its number to the end.
+pub(super) fn hold(key: Part, place: usize) -> [Step; 2] {
+    [write(key, place), number(number_of(key), place)]
+}
+
+/// The step that writes a number to the end of a place.
+pub(super) fn number(part: Part, place: usize) -> Step {
+    Step::Write(part, place * WIDTH + NUMBER_AT)
+}
+
+/// The number that stands behind a key.
+fn number_of(key: Part) -> Part {
+    let start = key.end + 1;
+    Part { start, end: start + WIDTH - NUMBER_AT }
+}
+
+impl AsRef<[u8]> for Pool {
+    fn as_ref(&self) -> &[u8] {
+        &self.text
+    }
+}
+
 impl Plan {
-    /// A call on the cabinet that these steps make.
-    pub(super) fn file(&mut self, pool: &Pool, op: Op, steps: &[Step], b: &[u8]) {
-        self.file_in(SIZE, pool, op, steps, b);
+    /// A call on the cabinet that these steps make, which take their parts from a text.
+    pub(super) fn file(&mut self, text: &impl AsRef<[u8]>, op: Op, steps: &[Step], b: &[u8]) {
+        self.file_in(SIZE, text, op, steps, b);
     }
 
     /// The same, with so many bytes lent.
-    pub(super) fn file_in(&mut self, room: usize, pool: &Pool, op: Op, steps: &[Step], b: &[u8]) {
+    pub(super) fn file_in(
+        &mut self,
+        room: usize,
+        text: &impl AsRef<[u8]>,
+        op: Op,
+        steps: &[Step],
+        b: &[u8],
+    ) {
         let end = steps.iter().map(|step| step.part().end).max().unwrap_or(0);
         let c = steps.iter().flat_map(|step| step.bytes()).collect();
-        self.case(op, room as u64, pool.text[..end].to_vec(), b.to_vec(), c);
+        self.case(op, room as u64, text.as_ref()[..end].to_vec(), b.to_vec(), c);
     }
 
     /// Every call but the making one on what these steps made: the put of a record, and the others of an
     /// identity.
     pub(super) fn file_all(
         &mut self,
-        pool: &Pool,
+        text: &impl AsRef<[u8]>,
         room: usize,
         steps: &[Step],
         [record, identity]: [&[u8]; 2],
     ) {
         for op in [Op::CheckCabinet, Op::CountKeys] {
-            self.file_in(room, pool, op, steps, b"");
+            self.file_in(room, text, op, steps, b"");
         }
-        self.file_in(room, pool, Op::PutKey, steps, record);
+        self.file_in(room, text, Op::PutKey, steps, record);
         for op in [Op::RemoveKey, Op::KeyPlace, Op::FindKey] {
-            self.file_in(room, pool, op, steps, identity);
+            self.file_in(room, text, op, steps, identity);
         }
     }
 }
 
 /// Parts one behind the other, each in a line.
 #[derive(Default)]
-struct Text(Vec<u8>);
+pub(super) struct Text(pub(super) Vec<u8>);
 
 impl Text {
-    fn add(&mut self, bytes: Vec<u8>) -> Part {
+    pub(super) fn add(&mut self, bytes: impl AsRef<[u8]>) -> Part {
         let start = self.0.len();
-        self.0.extend(bytes);
+        self.0.extend(bytes.as_ref());
         let end = self.0.len();
         self.0.push(b'\n');
         Part { start, end }
+    }
+
+    /// The same, and in the next line the number of its Expiry; 0 where none stands there.
+    pub(super) fn add_key(&mut self, record: Vec<u8>) -> Part {
+        let expiry = record.split(|&byte| byte == b'|').nth(3).unwrap_or_default();
+        let number = moment_of(expiry).unwrap_or(0);
+        let part = self.add(record);
+        self.add(number.to_be_bytes());
+        part
+    }
+}
+
+impl AsRef<[u8]> for Text {
+    fn as_ref(&self) -> &[u8] {
+        &self.0
     }
 }
 
@@ -242,5 +287,21 @@ mod tests {
                 assert_eq!(cabinet.find(pool.identity(subject)), Ok(place), "{subject}");
             }
         }
+    }
+
+    /// What is written is what is put.
+    #[test]
+    fn a_key_of_the_pool_is_held_with_its_number() {
+        let pool = Pool::new();
+        let mut cabinet = Cabinet::empty();
+        let mut lent = vec![0; SIZE];
+        for (place, keys) in pool.keys[..PLACES].iter().enumerate() {
+            assert_eq!(cabinet.put(pool.bytes(keys.first)), Ok(()));
+            for step in hold(keys.first, place) {
+                let Step::Write(part, at) = step else { unreachable!("a key is written") };
+                lent[at..][..part.end - part.start].copy_from_slice(pool.bytes(part));
+            }
+        }
+        assert!(lent == cabinet.bytes());
     }
 }

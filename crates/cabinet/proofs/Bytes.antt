@@ -8,7 +8,7 @@ use mathlib.Core.List.{[], _∷_, _++_, append-assoc, append-nil}
 use native.Mathlib.Omega.{arith}
 use native.Mathlib.Numerals.{add-one}
 use lib.ListN.{length, take, drop, getD, set, length-append, length-take, length-drop, drop-of-length-le, List·getD-eq-default}
-use lib.Seq.{drop-drop, take-all, length-take-le, paste, paste-zero, paste-suc, length-paste}
+use lib.Seq.{drop-drop, take-all, take-at, length-take-le, paste, paste-zero, paste-suc, length-paste}
 use lib.Dec.{eqb}
 use borrow.Author.Tests.{ne-eqb, le-leb, lt-leb}
 use borrow.Rule.Slice.PartMut.{putMid}
@@ -17,7 +17,7 @@ use Rattle.text.proofs.Tests.{same-false}
 use Rattle.frame.specs.Frame.{partStart}
 use Rattle.shelf.specs.Cabinet.{zeros}
 use Rattle.shelf.proofs.Images.{length-zeros}
-use Rattle.cabinet.specs.Steps.{partAt, withPart, namesIn, startsSo, Writing}
+use Rattle.cabinet.specs.Steps.{partAt, withPart, filledWith, namesIn, startsSo, Fits, Writing}
 
 -- ---- place i
 
@@ -85,15 +85,44 @@ filled-all {o} {t} {out} {j} f l =
     ∙ ap₂ (λ (x y : Bytes). x ++ y) (take-all j w (omega arith)) (drop-of-length-le o {i = 0 + j} (omega arith))
     ∙ append-nil w
 
+-- ---- a place of two parts
+
+module _ {p t v : Bytes} (w : Fits p t v) where
+  length-front : length (padded 1016 t) ≡ 1016
+  length-front = length-padded 1016 t (w .short)
+
+  -- what is left to be written after the text
+  abbrev half : Bytes
+  half = padded 1016 t ++ drop 1016 p
+
+  pub front-written : {y : Bytes} → y ≡ padded (length (take (1016 - 0) p)) t → putMid 0 (1016 - 0) p y ≡ half
+  front-written e = ap (λ (x : Bytes). x ++ drop 1016 p) (e ∙ ap (λ (n : ℕ). padded n t) (length-take-le 1016 p (omega (arith, w .long))))
+
+  pub length-half : length half ≡ 1024
+  length-half = length-append (padded 1016 t) (drop 1016 p) ∙ omega (arith, length-front, length-drop 1016 p, w .long)
+
+  pub back-written : {q y : Bytes} → q ≡ half → y ≡ padded (length (take (1024 - 1016) (drop 1016 q))) v → putMid 1016 (1024 - 1016) q y ≡ filledWith t v
+  back-written {q} {y} e f =
+      let eight : length (take 8 (drop 1016 q)) ≡ 8 = length-take-le 8 (drop 1016 q) (omega (arith, length-drop 1016 q, ap length e, length-half)) in
+      let front : take 1016 q ≡ padded 1016 t = ap (take 1016) e ∙ take-at (padded 1016 t) (drop 1016 p) 1016 length-front in
+      let none-left : drop 8 (drop 1016 q) ≡ [] = drop-of-length-le (drop 1016 q) {i = 8} (omega (arith, length-drop 1016 q, ap length e, length-half)) in
+      ap₂ (λ (x z : Bytes). x ++ (y ++ z)) front none-left
+      ∙ ap (λ (x : Bytes). padded 1016 t ++ x) (append-nil y ∙ f ∙ ap (λ (n : ℕ). padded n v) eight)
+
+length-filled : (t v : Bytes) → length t ≤ 1016 → length v ≤ 8 → length (filledWith t v) ≡ 1024
+length-filled t v h k = length-append (padded 1016 t) (padded 8 v) ∙ ap₂ _+_ (length-padded 1016 t h) (length-padded 8 v k)
+
+pub fits-taken : {s : Bytes} {i : ℕ} {t v : Bytes} → Writing s i t v → Fits (taken s i) t v
+fits-taken {s} {i} w = record { long = ap length (taken-part s i) ∙ length-part s i (w .long) (w .place); short = w .short; eight = w .eight }
+
 -- the part that was lent for place i comes back as ys
-pub place-written : {s : Bytes} {i : ℕ} {t ys : Bytes} → Writing s i t → ys ≡ t ++ zeros (length (taken s i) - length t)
-    → putMid (i * 1024) (i * 1024 + 1024 - i * 1024) s ys ≡ withPart s i (t ++ zeros (1024 - length t))
-place-written {s} {i} {t} {ys} w e =
+pub place-written : {s : Bytes} {i : ℕ} {t v ys : Bytes} → Writing s i t v → ys ≡ filledWith t v
+    → putMid (i * 1024) (i * 1024 + 1024 - i * 1024) s ys ≡ withPart s i (filledWith t v)
+place-written {s} {i} {t} {v} {ys} w e =
     let n : i * 1024 + 1024 - i * 1024 ≡ 1024 = omega arith in
-    let f : ys ≡ t ++ zeros (1024 - length t) = e ∙ ap (λ (m : ℕ). t ++ zeros (m - length t)) (ap length (taken-part s i) ∙ length-part s i (w .long) (w .place)) in
-    ap₂ (λ (m : ℕ) (y : Bytes). putMid (i * 1024) m s y) n f
-    ∙ ap (λ (x : Bytes). take (i * 1024) s ++ ((t ++ zeros (1024 - length t)) ++ x)) (drop-drop 1024 (i * 1024) s)
-    ∙ sym (append-assoc (take (i * 1024) s) (t ++ zeros (1024 - length t)) (drop (i * 1024 + 1024) s))
+    ap₂ (λ (m : ℕ) (y : Bytes). putMid (i * 1024) m s y) n e
+    ∙ ap (λ (x : Bytes). take (i * 1024) s ++ (filledWith t v ++ x)) (drop-drop 1024 (i * 1024) s)
+    ∙ sym (append-assoc (take (i * 1024) s) (filledWith t v) (drop (i * 1024 + 1024) s))
 
 -- ---- the names in a text
 

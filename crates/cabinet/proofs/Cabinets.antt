@@ -17,7 +17,7 @@ use borrow.Author.Tests.{eq-eqb, ne-eqb}
 use Rattle.text.specs.Text.{Bytes, without}
 use Rattle.text.proofs.Tests.{T-true, T-false, by-test}
 use Rattle.shelf.specs.Places.{Names, Held, Place, free, held, isFree, holds, lowest, occupied, alone, distinct}
-use Rattle.shelf.specs.Cabinet.{places, width, zeros, encode, parts, decodeAll, provided, whereDistinct, shelf}
+use Rattle.shelf.specs.Cabinet.{places, width, numberAt, numberOf, zeros, encode, parts, decodeAll, provided, whereDistinct, shelf}
 use Rattle.shelf.proofs.Readings.{fitting}
 use Rattle.shelf.proofs.Images.{Good, decode-some, parts-some, provided-some, distinct-some}
 use Rattle.cabinet.specs.Steps.{isSome, isPlaceAt, partAt, namesIn, subjectAt, startsSo, first, firstFrom, allPass, hasNames, isFreeAt, aloneAt, occupiedOf}
@@ -68,7 +68,7 @@ free-front (held h) g =
     let f = fitting (h .text) (h .names) (h .gnt) g in
     go (h .text) (f .some-byte) (f .no-zero)
   where
-    go : (t : Bytes) → length t ≢ 0 → T (without 0 t) → eqb (getD (t ++ zeros (1024 - length (h .text))) 0 0) 0 ≡ false
+    go : (t : Bytes) → length t ≢ 0 → T (without 0 t) → eqb (getD ((t ++ zeros (numberAt - length (h .text))) ++ numberOf (h .text)) 0 0) 0 ≡ false
     go [] n w = absurd (n refl)
     go (c ∷ t) n w = T-false (eqb c 0) (and-yes (not (eqb c 0)) (without 0 t) w .0)
 

@@ -5,9 +5,9 @@ use mathlib.Core.Path.{_≡_, refl, sym, ap, ap₂, _∙_, subst}
 use mathlib.Core.Logic.{_≢_}
 use mathlib.Core.Bool.{Bool, true, false}
 use mathlib.Core.Option.{Option, none, some}
-use mathlib.Core.List.{List, _++_}
+use mathlib.Core.List.{List, [], _++_, append-nil}
 use native.Mathlib.Omega.{arith}
-use lib.ListN.{length, take, drop, getD}
+use lib.ListN.{length, take, drop, getD, replicate-append-replicate}
 use denote.Ref.{RefT, ptr, now}
 use mir.Facts.{yes-eqb}
 use borrow.Author.Tests.{eq-eqb, ne-eqb}
@@ -22,23 +22,23 @@ use Rattle.format.proofs.Exactly.{identity-says, read-says}
 use Rattle.format.proofs.Outcomes.{Honest}
 use Rattle.reading.specs.Reading.{answerOf}
 use Rattle.reading.specs.declared.Answer.{Answer}
-use Rattle.places.specs.Places.{fieldAt}
 use Rattle.fields.specs.declared.Place.{Place}
 use Rattle.frame.specs.Frame.{nextMark}
 use Rattle.subjects.specs.Subjects.{manufacturer, mid, gnt}
-use Rattle.subjects.specs.Keys.{subject}
-use Rattle.subjects.proofs.Keys.{key, its-field}
+use Rattle.subjects.proofs.Keys.{key}
+use Rattle.expiry.specs.Expiry.{expiryBy, expiryOf}
+use Rattle.expiry.specs.declared.Expiry.{Expiry}
 use Rattle.shelf.specs.Places as shelf-places
 use Rattle.shelf.specs.Places.{Names, named, Held, free, held, isFree, holds, contents, lookup, lowest}
-use Rattle.shelf.specs.Cabinet.{nothing, places, width, about, declined, asks, reads, zeros, encode, shelf, entry, Result, makeCabinet, putKey, removeKey, Finding, findKey, countIn, countKeys, checkCabinet}
+use Rattle.shelf.specs.Cabinet.{nothing, places, width, numberAt, numberOf, about, declined, asks, reads, zeros, encode, shelf, entry, Result, makeCabinet, putKey, removeKey, Finding, findKey, countIn, countKeys, checkCabinet}
 use Rattle.shelf.proofs.Places.{lookup-lowest, lowest-passes, lowest-most, missing-none}
 use Rattle.shelf.proofs.Readings.{Asked, asked, asks-accepted, asks-refused, reads-accepted, reads-refused, fitting}
-use Rattle.shelf.proofs.Images.{Good, text-back, shelf-some}
+use Rattle.shelf.proofs.Images.{Good, number-length, text-back, shelf-some}
 use Rattle.shelf.proofs.Stores.{storedAt, found-part, put-23, put-own, put-later, put-not-later, put-first, put-full, remove-23, remove-own, remove-some, remove-none, find-23, find-own, find-some, find-none}
 use Rattle.cabinet.specs.declared.Filed.{Filed}
 use Rattle.cabinet.specs.Cabinet.{Files, checked, counted, FindSaid, FindPart}
-use Rattle.cabinet.specs.Steps.{isSome, partAt, withPart, namesIn, isLaterThan, firstFrom, hasNames, isFreeAt, occupiedOf}
-use Rattle.cabinet.proofs.Names.{clean, names-taken, held-later}
+use Rattle.cabinet.specs.Steps.{isSome, partAt, withPart, filledWith, namesIn, subjectAt, isLaterThan, firstFrom, hasNames, isFreeAt, occupiedOf}
+use Rattle.cabinet.proofs.Names.{clean, names-taken, its-subject, subject-alone, held-later}
 use Rattle.cabinet.proofs.Bridge.{missing-lowest}
 use Rattle.cabinet.proofs.Decoding.{text-end}
 use Rattle.cabinet.proofs.Cabinets.{Read, lowest-names, lowest-free, occupied-so, none-there, some-there}
@@ -154,13 +154,15 @@ module _ {s i : Bytes} {k : Names} {g : Bytes} {at : ℕ} (L : Looked s i k g at
             low = low;
           }
 
-stored-so : (s : Bytes) (at : ℕ) (k : Names) (g r : Bytes) → storedAt s at (entry k g r) ≡ withPart s at (r ++ zeros (1024 - length r))
-unfolding encode width
-stored-so s at k g r = refl
+stored-so : (s : Bytes) (at : ℕ) (k : Names) (g r : Bytes) → storedAt s at (entry k g r) ≡ withPart s at (filledWith r (numberOf r))
+unfolding encode width numberAt
+stored-so s at k g r =
+    let whole : numberOf r ++ zeros (8 - length (numberOf r)) ≡ numberOf r = ap (λ (n : ℕ). numberOf r ++ zeros (8 - n)) (number-length r) ∙ append-nil (numberOf r) in
+    ap (λ (v : Bytes). withPart s at ((r ++ zeros (1016 - length r)) ++ v)) (sym whole)
 
-emptied-so : (s : Bytes) (at : ℕ) → storedAt s at free ≡ withPart s at (zeros 1024)
+emptied-so : (s : Bytes) (at : ℕ) → storedAt s at free ≡ withPart s at (filledWith [] [])
 unfolding encode width
-emptied-so s at = refl
+emptied-so s at = ap (withPart s at) (sym (replicate-append-replicate 1016 8 0))
 
 -- ---- remove and find
 
@@ -191,7 +193,7 @@ module _ (s i : Bytes) where
       pub removes-26 : {r : Filed} → at ≡ 64 → r ≡ record { no = 26; field = 0 } → Files (removeKey s i) s r
       removes-26 m f = files-of (removeKey s i) (remove-none s (L .ps) (L .there) i _ _ (asks-so (L .asker)) (nothing-there L m)) f
 
-      pub removes-done : {r : Filed} {out : Bytes} → (at ≡ 64 → ⊥) → out ≡ withPart s at (zeros (1024 - 0)) → r ≡ record { no = 0; field = 0 } → Files (removeKey s i) out r
+      pub removes-done : {r : Filed} {out : Bytes} → (at ≡ 64 → ⊥) → out ≡ withPart s at (filledWith [] []) → r ≡ record { no = 0; field = 0 } → Files (removeKey s i) out r
       removes-done m o f =
           let t = something-there L (within L m) in
           files-of (removeKey s i)
@@ -203,7 +205,7 @@ module _ (s i : Bytes) where
 
       pub finds-done : {m : ℕ} {p : Bytes} → (at ≡ 64 → ⊥) → p ≡ partAt s at → m ≡ nextMark 0 p 0
           → FindSaid (findKey s i) s (record { no = 0; field = 0; start = at * 1024; len = m })
-      unfolding width
+      unfolding width numberAt
       finds-done {m} {p} o b q =
           let l′ = within L o in
           let t = something-there L l′ in
@@ -234,38 +236,41 @@ handed x {s} {r} {p} w q =
 -- ---- put
 
 -- an accepted record, and its Subject as the code takes it
-known-key : (r : Bytes) {a : Answer} → a ≡ answerOf (readOf pubkeyKinds r) → a .no ≡ 0 → {j : Bytes} → j ≡ fieldAt r (a .starts) (a .lens) 1
-    → (k : Names) × (g : Bytes) × (reads r ≡ about k g) × Asked j k g
-known-key r {a} e z {j} f = go (readOf pubkeyKinds r) refl (ap (λ (x : Answer). x .no) (sym e) ∙ z) (read-says pubkeyKinds r)
+known-key : (r : Bytes) {x : Expiry} → x ≡ expiryOf r → x .no ≡ 0 → {j : Bytes} → j ≡ subjectAt r → (k : Names) × (g : Bytes) × (reads r ≡ about k g) × Asked j k g
+unfolding expiryOf
+known-key r {x} e z {j} f = go (readOf pubkeyKinds r) refl (ap (λ (y : Expiry). y .no) (sym e) ∙ z) (read-says pubkeyKinds r)
   where
-    go : (o : Outcome) → readOf pubkeyKinds r ≡ o → answerOf o .no ≡ 0 → Honest (Built pubkeyKinds r) o → (k : Names) × (g : Bytes) × (reads r ≡ about k g) × Asked j k g
+    go : (o : Outcome) → readOf pubkeyKinds r ≡ o → expiryBy o .no ≡ 0 → Honest (Built pubkeyKinds r) o → (k : Names) × (g : Bytes) × (reads r ≡ about k g) × Asked j k g
     go (accepted kind fs) h n w =
         let q = key r kind fs h in
-        let s : subject (q .fields) ≡ j = sym (f ∙ its-field r q a e 0) in
         let k : Names = named (name (q .who)) (manufacturer (q .names)) (mid (q .names)) in
-        (k, gnt (q .names), reads-accepted r q, subst (λ (x : Bytes). Asked x k (gnt (q .names))) s (asked (subject (q .fields)) k (gnt (q .names)) (asks-accepted (subject (q .fields)) (q .known))))
+        let g : Bytes = gnt (q .names) in
+        let good = reads-accepted r q in
+        let its : Held = record { names = k; gnt = g; text = r } in
+        (k, g, good, subst (λ (x : Bytes). Asked x k g) (sym (f ∙ subject-alone its good)) (its-subject its good))
     go (refused zero l) h n w = absurd w
     go (refused (suc m) l) h n w = absurd (omega arith)
 
-refused-key : (r : Bytes) {a : Answer} → a ≡ answerOf (readOf pubkeyKinds r) → (a .no ≡ 0 → ⊥) → reads r ≡ declined (a .no) (a .field)
-refused-key r {a} e z = go (readOf pubkeyKinds r) refl e
+refused-key : (r : Bytes) {x : Expiry} → x ≡ expiryOf r → (x .no ≡ 0 → ⊥) → reads r ≡ declined (x .no) (x .field)
+unfolding expiryOf
+refused-key r {x} e z = go (readOf pubkeyKinds r) refl e
   where
-    go : (o : Outcome) → readOf pubkeyKinds r ≡ o → a ≡ answerOf o → reads r ≡ declined (a .no) (a .field)
-    go (accepted k fs) h f = absurd (z (ap (λ (x : Answer). x .no) f))
-    go (refused m j) h f = reads-refused r m j h ∙ sym (ap₂ declined (ap (λ (x : Answer). x .no) f) (ap (λ (x : Answer). x .field) f))
+    go : (o : Outcome) → readOf pubkeyKinds r ≡ o → x ≡ expiryBy o → reads r ≡ declined (x .no) (x .field)
+    go (accepted k fs) h f = absurd (z (ap (λ (y : Expiry). y .no) f))
+    go (refused m j) h f = reads-refused r m j h ∙ sym (ap₂ declined (ap (λ (y : Expiry). y .no) f) (ap (λ (y : Expiry). y .field) f))
 
 module _ (s r : Bytes) where
   pub puts-23 : {x : Filed} → false ≡ isSome (shelf s) → x ≡ record { no = 23; field = 0 } → Files (putKey s r) s x
   puts-23 e f = files-of (putKey s r) (put-23 s r (none-there s e)) f
 
-  module _ (e : true ≡ isSome (shelf s)) {a : Answer} (ans : a ≡ answerOf (readOf pubkeyKinds r)) where
+  module _ (e : true ≡ isSome (shelf s)) {a : Expiry} (ans : a ≡ expiryOf r) where
     pub puts-own : {x : Filed} → (a .no ≡ 0 → ⊥) → x ≡ record { no = a .no; field = a .field } → Files (putKey s r) s x
     puts-own z f = let (ps, q, R) = some-there s e in files-of (putKey s r) (put-own s ps q r (a .no) (a .field) (refused-key r ans z)) f
 
-    module _ (z : a .no ≡ 0) {j : Bytes} (sub : j ≡ fieldAt r (a .starts) (a .lens) 1) where
-      pub puts-short : length r ≤ 1024
-      unfolding width
-      puts-short = let (k, g, b, o) = known-key r ans z sub in fitting r k g b .long
+    module _ (z : a .no ≡ 0) {j : Bytes} (sub : j ≡ subjectAt r) where
+      pub puts-short : length r ≤ 1016
+      unfolding numberAt
+      puts-short = let (k, g, b, o) = known-key r ans z sub in omega (arith, fitting r k g b .long)
 
       module _ {v : Bytes} (n : v ≡ namesIn j) {at : ℕ} (l : at ≡ firstFrom (hasNames s v) 0) where
         abbrev K : (k : Names) × (g : Bytes) × (reads r ≡ about k g) × Asked j k g
@@ -284,14 +289,14 @@ module _ (s r : Bytes) where
             let t = something-there M m in
             files-of (putKey s r) (put-not-later s (M .ps) (M .there) r (K .0) (K .1) (K .2) (t .h) (t .found) (sym (later-so m d q) ∙ w)) f
 
-        pub puts-again : {x : Filed} {p out : Bytes} {b : Bool} → at < 64 → p ≡ partAt s at → b ≡ isLaterThan j p → b ≡ true
-            → out ≡ withPart s at (r ++ zeros (1024 - length r)) → x ≡ record { no = 0; field = 0 } → Files (putKey s r) out x
-        puts-again m d q w o f =
+        pub puts-again : {x : Filed} {p out v : Bytes} {b : Bool} → at < 64 → p ≡ partAt s at → b ≡ isLaterThan j p → b ≡ true
+            → v ≡ numberOf r → out ≡ withPart s at (filledWith r v) → x ≡ record { no = 0; field = 0 } → Files (putKey s r) out x
+        puts-again m d q w u o f =
             let t = something-there M m in
             files-of (putKey s r)
             (put-later s (M .ps) (M .there) r (K .0) (K .1) (K .2) (t .h) (t .found) (sym (later-so m d q) ∙ w) (t .low)
             ∙ ap (λ (y : Bytes). record { no = 0; field = 0; bytes = y })
-            (ap (λ (i : ℕ). storedAt s i (entry (K .0) (K .1) r)) (sym (M .at-so)) ∙ stored-so s at (K .0) (K .1) r ∙ sym o)) f
+            (ap (λ (i : ℕ). storedAt s i (entry (K .0) (K .1) r)) (sym (M .at-so)) ∙ stored-so s at (K .0) (K .1) r ∙ ap (λ (y : Bytes). withPart s at (filledWith r y)) (sym u) ∙ sym o)) f
 
         module _ (m : 64 ≤ at) {to : ℕ} (w : to ≡ firstFrom (isFreeAt s) 0) where
           absent : lookup (K .0) (M .ps) ≡ none
@@ -306,12 +311,12 @@ module _ (s r : Bytes) where
           pub to-within : (to ≡ 64 → ⊥) → to < 64
           to-within q = let q′ : to ≢ 64 = q in omega (arith, to-so, lowest-most isFree (M .ps), M .read .number)
 
-          pub puts-first : {x : Filed} {out : Bytes} → (to ≡ 64 → ⊥) → out ≡ withPart s to (r ++ zeros (1024 - length r)) → x ≡ record { no = 0; field = 0 } → Files (putKey s r) out x
-          puts-first q o f =
+          pub puts-first : {x : Filed} {out v : Bytes} → (to ≡ 64 → ⊥) → v ≡ numberOf r → out ≡ withPart s to (filledWith r v) → x ≡ record { no = 0; field = 0 } → Files (putKey s r) out x
+          puts-first q u o f =
               files-of (putKey s r)
               (put-first s (M .ps) (M .there) r (K .0) (K .1) (K .2) absent (omega (arith, to-so, to-within q, M .read .number))
               ∙ ap (λ (y : Bytes). record { no = 0; field = 0; bytes = y })
-              (ap (λ (i : ℕ). storedAt s i (entry (K .0) (K .1) r)) (sym to-so) ∙ stored-so s to (K .0) (K .1) r ∙ sym o)) f
+              (ap (λ (i : ℕ). storedAt s i (entry (K .0) (K .1) r)) (sym to-so) ∙ stored-so s to (K .0) (K .1) r ∙ ap (λ (y : Bytes). withPart s to (filledWith r y)) (sym u) ∙ sym o)) f
 
 -- ---- what the functions need
 

@@ -1,18 +1,23 @@
 -- Whether bytes are a place of a cabinet, as the code asks it.
 -- Assumes nothing.
-use Prim.Native.Nat.{ℕ, zero, suc, _-_, _≤_}
+use Prim.Native.Nat.{ℕ, zero, suc, _+_, _-_, _≤_, _<_}
 use mathlib.Core.Path.{_≡_, refl, sym, ap, ap₂, _∙_}
-use mathlib.Core.Bool.{Bool, true, false}
+use mathlib.Core.Bool.{Bool, true, false, cond, _&&_, and-false}
+use mathlib.Core.Option.{Option, none, some}
 use mathlib.Core.List.{[], _∷_, _++_}
 use native.Mathlib.Omega.{arith}
 use native.Mathlib.Nat.{zero-add}
-use lib.ListN.{length, take, drop, length-drop, length-take, take-append-drop}
-use lib.Seq.{drop-append-seam, take-all}
-use lib.Dec.{T, eqb, eqb→eq}
-use mir.Facts.{and-yes}
-use borrow.Author.Tests.{ne-eqb}
-use Rattle.text.specs.Text.{Bytes, every}
-use Rattle.text.proofs.Tests.{true-T, same-true, same-false}
+use lib.ListN.{length, take, drop, length-append, length-drop, length-take, take-append-drop}
+use lib.Seq.{take-all, take-add, length-take-le}
+use lib.Dec.{eqb}
+use lib.IntN.{ℤ}
+use mir.Syntax.{w64}
+use mir.Val.{ofZ, toZ}
+use borrow.Author.Tests.{eq-eqb, ne-eqb}
+use Rattle.text.specs.Text.{Bytes, same, every}
+use Rattle.text.specs.Seconds.{secondsBytes}
+use Rattle.text.proofs.Tests.{T-true, T-false, by-test, same-true, same-false, same-append}
+use Rattle.text.proofs.Seconds.{bytes-length}
 use Rattle.format.specs.Kinds.{pubkeyKinds}
 use Rattle.format.specs.Build.{Built}
 use Rattle.format.specs.Read.{Outcome, accepted, refused, readOf}
@@ -20,34 +25,22 @@ use Rattle.format.specs.Files.{upTo}
 use Rattle.format.proofs.Lines.{take-upTo}
 use Rattle.format.proofs.Exactly.{read-says}
 use Rattle.format.proofs.Outcomes.{Honest}
-use Rattle.reading.specs.Reading.{answerOf}
-use Rattle.reading.specs.declared.Answer.{Answer}
 use Rattle.frame.specs.Frame.{nextMark}
 use Rattle.subjects.proofs.Keys.{key}
-use Rattle.shelf.specs.Cabinet.{width, Reading, about, declined, reads, zeros, encode, decodeAs, decode}
-use Rattle.shelf.proofs.Readings.{reads-accepted, reads-refused}
-use Rattle.shelf.proofs.Images.{upTo-zeros}
+use Rattle.expiry.specs.Expiry.{expiryBy, expiryOf}
+use Rattle.expiry.specs.declared.Expiry.{Expiry}
+use Rattle.expiry.proofs.Expiries.{expiry-back}
+use Rattle.shelf.specs.Places.{Names, Place, free}
+use Rattle.shelf.specs.Cabinet.{width, numberAt, numberOf, Reading, about, declined, reads, zeros, encode, decodeAs, decode, entry}
+use Rattle.shelf.proofs.Readings.{Fitting, fitting, reads-accepted, reads-refused}
+use Rattle.shelf.proofs.Images.{length-zeros, upTo-zeros}
 use Rattle.cabinet.specs.Steps.{isZero, isPlace}
 
 -- ---- zeros
 
-every-zeros : (n : ℕ) → every isZero (zeros n) ≡ true
-every-zeros zero = refl
-every-zeros (suc n) = every-zeros n
-
-drop-zeros : (m n : ℕ) → every isZero (drop m (zeros n)) ≡ true
-drop-zeros zero n = every-zeros n
-drop-zeros (suc m) zero = refl
-drop-zeros (suc m) (suc n) = drop-zeros m n
-
-zeros-every : (t : Bytes) → T (every isZero t) → t ≡ zeros (length t)
-zeros-every [] h = refl
-zeros-every (c ∷ t) h =
-    let h′ = and-yes (isZero c) (every isZero t) h in
-    ap₂ (λ (x : ℕ) (y : Bytes). x ∷ y) (eqb→eq c 0 (h′ .0)) (zeros-every t (h′ .1))
-
-true-false : {b : Bool} → b ≡ true → b ≡ false → ⊥
-true-false e f = let z : _≡_ {A = ℕ} 0 1 = cc in omega arith
+same-zeros : (m : Bytes) → same m (zeros (length m)) ≡ every isZero m
+same-zeros [] = refl
+same-zeros (c ∷ m) = ap (λ (b : Bool). isZero c && b) (same-zeros m)
 
 -- ---- the record that is read
 
@@ -55,13 +48,23 @@ abbrev isAbout : Reading → Bool
 isAbout (about k g) = true
 isAbout (declined n i) = false
 
-about-so : (t : Bytes) (r : Answer) → r ≡ answerOf (readOf pubkeyKinds t) → eqb (r .no) 0 ≡ isAbout (reads t)
-about-so t r e = rw e (go (readOf pubkeyKinds t) refl (read-says pubkeyKinds t))
-  where
-    go : (o : Outcome) → readOf pubkeyKinds t ≡ o → Honest (Built pubkeyKinds t) o → eqb (answerOf o .no) 0 ≡ isAbout (reads t)
-    go (accepted k fs) h w = rw (reads-accepted t (key t k fs h))
-    go (refused zero i) h w = absurd w
-    go (refused (suc n) i) h w = rw (reads-refused t (suc n) i h) (ne-eqb (suc n) 0 (λ z. omega arith))
+-- x is what the call about Expiry answered for t
+module _ (t : Bytes) {x : Expiry} (e : x ≡ expiryOf t) where
+  about-so : eqb (x .no) 0 ≡ isAbout (reads t)
+  unfolding expiryOf
+  about-so = rw e (go (readOf pubkeyKinds t) refl (read-says pubkeyKinds t))
+    where
+      go : (o : Outcome) → readOf pubkeyKinds t ≡ o → Honest (Built pubkeyKinds t) o → eqb (expiryBy o .no) 0 ≡ isAbout (reads t)
+      go (accepted k fs) h w = rw (reads-accepted t (key t k fs h))
+      go (refused zero i) h w = absurd w
+      go (refused (suc n) i) h w = rw (reads-refused t (suc n) i h) (ne-eqb (suc n) 0 (λ z. omega arith))
+
+  pub number-so : {v : Bytes} → v ≡ secondsBytes (toZ w64 (ofZ w64 (x .seconds))) → v ≡ numberOf t
+  unfolding numberOf
+  number-so f = f ∙ ap secondsBytes (expiry-back t e)
+
+pub number-short : {v : Bytes} (z : ℤ) → v ≡ secondsBytes z → length v ≤ 8
+number-short z e = omega (arith, ap length e, bytes-length z)
 
 -- ---- bytes of a place's length
 
@@ -72,62 +75,101 @@ text-end b = zero-add (length (upTo 0 b))
 pub text-within : (b : Bytes) → length (upTo 0 b) ≤ length b
 text-within b = omega (arith, ap length (take-upTo 0 b), length-take (length (upTo 0 b)) b)
 
--- what the code takes from place n to the end
-pub behind : (b : Bytes) (n : ℕ) → every isZero (drop n b) ≡ every isZero (take (length b - n) (drop n b))
-behind b n = ap (every isZero) (sym (take-all (length b - n) (drop n b) (omega (arith, length-drop n b))))
-
 module _ (b : Bytes) (l : length b ≡ 1024) {n : ℕ} (m : n ≡ nextMark 0 b 0) where
-  ends : n ≡ length (upTo 0 b)
+  abbrev text : Bytes
+  text = upTo 0 b
+
+  ends : n ≡ length text
   ends = m ∙ text-end b
 
-  -- b is the text and what follows
-  split : b ≡ upTo 0 b ++ drop n b
-  split = sym (take-append-drop n b) ∙ ap (λ (x : Bytes). x ++ drop n b) (ap (λ (k : ℕ). take k b) ends ∙ take-upTo 0 b)
+  fits-so : (x : Reading) → reads text ≡ x → isAbout x ≡ true → Fitting text
+  fits-so (about k g) e f = fitting text k g e
+  fits-so (declined i j) e f = let z : _≡_ {A = ℕ} 0 1 = cc in absurd (omega arith)
 
-  -- something stands after the zero
-  module _ (z : every isZero (drop n b) ≡ false) where
-    not-zeros : b ≡ zeros width → ⊥
-    not-zeros e = true-false (ap (λ (x : Bytes). every isZero (drop n x)) e ∙ drop-zeros n width) z
+  no-record : (x : Reading) → isAbout x ≡ false → isPlace (decodeAs b text x) ≡ false
+  no-record (about k g) f = let z : _≡_ {A = ℕ} 0 1 = cc in absurd (omega arith)
+  no-record (declined i j) f = refl
 
-    not-padded : (k : ℕ) → b ≡ upTo 0 b ++ zeros k → ⊥
-    not-padded k e =
-        true-false
-        (ap (every isZero) (ap₂ drop ends e ∙ drop-append-seam (upTo 0 b) (zeros k)) ∙ every-zeros k) z
+  -- where a text of this length is no record
+  unfitting : (Fitting text → ⊥) → isAbout (reads text) ≡ false
+  unfitting h = by-test (isAbout (reads text)) (λ t. absurd (h (fits-so (reads text) refl (T-true (isAbout (reads text)) t)))) (T-false (isAbout (reads text)))
 
-    as-none : (x : Reading) → isPlace (decodeAs b (upTo 0 b) x) ≡ false
-    unfolding encode
-    as-none (declined i j) = refl
-    as-none (about k g) = rw (same-false b (upTo 0 b ++ zeros (width - length (upTo 0 b))) (not-padded (width - length (upTo 0 b))))
+  -- no text: all zeros, or no place
+  pub place-free : n ≡ 0 → every isZero b ≡ isPlace (decode b)
+  unfolding decode encode width
+  place-free e =
+      let none-read = no-record (reads text) (unfitting (λ f. f .some-byte (sym ends ∙ e))) in
+      sym (go (same b (zeros 1024)) (decodeAs b text (reads text)) none-read ∙ ap (λ (k : ℕ). same b (zeros k)) (sym l) ∙ same-zeros b)
+    where
+      go : (q : Bool) (r : Option Place) → isPlace r ≡ false → isPlace (cond q (some free) r) ≡ q
+      go true r f = refl
+      go false r f = f
 
-    pub place-bad : false ≡ isPlace (decode b)
-    unfolding decode encode
-    place-bad = sym (rw (same-false b (zeros width) not-zeros) (as-none (reads (upTo 0 b))))
+  -- and else not all zeros
+  held-so : (n ≡ 0 → ⊥) → isPlace (decode b) ≡ isPlace (decodeAs b text (reads text))
+  unfolding decode encode
+  held-so z = rw (same-false b (zeros width) (λ f. z (ends ∙ ap length (ap (upTo 0) f ∙ upTo-zeros width))))
 
-  -- zeros alone stand after it
-  module _ (z : every isZero (drop n b) ≡ true) where
-    padded : b ≡ upTo 0 b ++ zeros (1024 - n)
-    padded = split ∙ ap (λ (x : Bytes). upTo 0 b ++ x) (zeros-every (drop n b) (true-T (every isZero (drop n b)) z) ∙ ap zeros (length-drop n b ∙ ap (λ (k : ℕ). k - n) l))
+  module _ (z : n ≡ 0 → ⊥) where
+    pub place-long : 1016 < n → false ≡ isPlace (decode b)
+    unfolding numberAt
+    place-long h = sym (held-so z ∙ no-record (reads text) (unfitting (λ f. omega (arith, ends, f .long))))
 
-    pub place-free : n ≡ 0 → true ≡ isPlace (decode b)
-    unfolding decode encode width
-    place-free e =
-        let empty : upTo 0 b ≡ [] = no-length (upTo 0 b) (sym ends ∙ e) in
-        let all : b ≡ zeros 1024 = padded ∙ ap₂ (λ (x : Bytes) (k : ℕ). x ++ zeros (1024 - k)) empty e in
-        sym (rw (same-true b (zeros 1024) all))
-      where
-        no-length : (s : Bytes) → length s ≡ 0 → s ≡ []
-        no-length [] f = refl
-        no-length (c ∷ s) f = absurd (omega arith)
+    module _ (h : n ≤ 1016) where
+      -- the bytes between the text and the number
+      abbrev between : Bytes
+      between = take (1016 - n) (drop n b)
 
-    as-read : (x : Reading) → isPlace (decodeAs b (upTo 0 b) x) ≡ isAbout x
-    unfolding encode width
-    as-read (declined i j) = refl
-    as-read (about k g) = rw (same-true b (upTo 0 b ++ zeros (1024 - length (upTo 0 b))) (padded ∙ ap (λ (k : ℕ). upTo 0 b ++ zeros (1024 - k)) ends))
+      split : b ≡ (text ++ between) ++ drop 1016 b
+      split =
+          let all : 1016 ≡ n + (1016 - n) = omega arith in
+          let front : take 1016 b ≡ text ++ between =
+          ap (λ (k : ℕ). take k b) all ∙ take-add n (1016 - n) b ∙ ap (λ (x : Bytes). x ++ between) (ap (λ (k : ℕ). take k b) ends ∙ take-upTo 0 b) in
+          sym (take-append-drop 1016 b) ∙ ap (λ (x : Bytes). x ++ drop 1016 b) front
 
-    pub place-held : (n ≡ 0 → ⊥) → (r : Answer) → r ≡ answerOf (readOf pubkeyKinds (take (n - 0) b)) → eqb (r .no) 0 ≡ isPlace (decode b)
-    unfolding decode encode
-    place-held e r a =
-        let q : n - 0 ≡ length (upTo 0 b) = omega (arith, ends) in
-        let k : take (n - 0) b ≡ upTo 0 b = ap (λ (k : ℕ). take k b) q ∙ take-upTo 0 b in
-        about-so (upTo 0 b) r (a ∙ ap (λ (x : Bytes). answerOf (readOf pubkeyKinds x)) k)
-        ∙ sym (rw (same-false b (zeros width) (λ f. e (ends ∙ ap length (ap (upTo 0) f ∙ upTo-zeros width)))) (as-read (reads (upTo 0 b))))
+      length-between : length between ≡ 1016 - length text
+      length-between = length-take-le (1016 - n) (drop n b) (omega (arith, length-drop n b)) ∙ ap (λ (k : ℕ). 1016 - k) ends
+
+      -- a record's place: zeros stand there, and the number is its own
+      whole-so : (k : Names) (g : Bytes) → same b (encode (entry k g text)) ≡ (every isZero between && same (drop 1016 b) (numberOf text))
+      unfolding encode numberAt
+      whole-so k g =
+          let pad = zeros (1016 - length text) in
+          let padded : same between pad ≡ every isZero between = ap (λ (i : ℕ). same between (zeros i)) (sym length-between) ∙ same-zeros between in
+          let front : same (text ++ between) (text ++ pad) ≡ every isZero between = same-append text between text pad refl ∙ rw (same-true text text refl) padded in
+          let as-long : length (text ++ between) ≡ length (text ++ pad) =
+          length-append text between ∙ omega (arith, length-between, length-append text pad, length-zeros (1016 - length text)) in
+          ap (λ (x : Bytes). same x ((text ++ pad) ++ numberOf text)) split
+          ∙ same-append (text ++ between) (drop 1016 b) (text ++ pad) (numberOf text) as-long
+          ∙ ap (λ (q : Bool). q && same (drop 1016 b) (numberOf text)) front
+
+      as-read : (x : Reading) → isPlace (decodeAs b text x) ≡ (isAbout x && (every isZero between && same (drop 1016 b) (numberOf text)))
+      as-read (declined i j) = refl
+      as-read (about k g) = go (same b (encode (entry k g text))) ∙ whole-so k g
+        where
+          go : (q : Bool) → isPlace (cond q (some (entry k g text)) none) ≡ q
+          go true = refl
+          go false = refl
+
+      held-as : isPlace (decode b) ≡ (isAbout (reads text) && (every isZero between && same (drop 1016 b) (numberOf text)))
+      held-as = held-so z ∙ as-read (reads text)
+
+      -- something else stands between
+      pub place-gap : every isZero between ≡ false → false ≡ isPlace (decode b)
+      place-gap e = sym (held-as ∙ rw e (and-false (isAbout (reads text))))
+
+      module _ (e : every isZero between ≡ true) {x : Expiry} (f : x ≡ expiryOf (take (n - 0) b)) where
+        read-so : x ≡ expiryOf text
+        read-so =
+            let q : n - 0 ≡ length text = omega (arith, ends) in
+            f ∙ ap expiryOf (ap (λ (k : ℕ). take k b) q ∙ take-upTo 0 b)
+
+        -- no record
+        pub place-other : (x .no ≡ 0 → ⊥) → false ≡ isPlace (decode b)
+        place-other w = sym (held-as ∙ rw (sym (about-so text read-so) ∙ ne-eqb (x .no) 0 w))
+
+        -- a record: the number decides
+        pub place-number : x .no ≡ 0 → {v : Bytes} → v ≡ secondsBytes (toZ w64 (ofZ w64 (x .seconds))) → same (take (length b - 1016) (drop 1016 b)) v ≡ isPlace (decode b)
+        place-number w {v} g =
+            ap₂ same (take-all (length b - 1016) (drop 1016 b) (omega (arith, length-drop 1016 b))) (number-so text read-so g)
+            ∙ sym (held-as ∙ rw (e, sym (about-so text read-so) ∙ eq-eqb (x .no) 0 w))

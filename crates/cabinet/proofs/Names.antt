@@ -6,7 +6,7 @@ use Prim.Native.Char.{code}
 use mathlib.Core.Path.{_≡_, refl, sym, ap, _∙_}
 use mathlib.Core.Logic.{_≢_}
 use mathlib.Core.Bool.{Bool, true, false, not, _&&_}
-use mathlib.Core.List.{List, [], _∷_, _++_, append-assoc}
+use mathlib.Core.List.{List, [], _∷_, _++_, append-assoc, append-nil}
 use native.Mathlib.Omega.{arith}
 use lib.ListN.{length, take, drop, getD, length-append}
 use lib.Seq.{take-append-seam, drop-append-seam}
@@ -18,8 +18,7 @@ use Rattle.text.specs.Text.{Bytes, same, without}
 use Rattle.text.specs.Base16.{checkText}
 use Rattle.text.specs.Later.{later}
 use Rattle.text.proofs.Tests.{T-true, T-false, by-test}
-use Rattle.text.proofs.Types.{plain-without, timestamp-looks}
-use Rattle.text.proofs.Later.{later-by-bytes}
+use Rattle.text.proofs.Types.{plain-without}
 use Rattle.format.specs.Kinds.{Kind, name, mark, identityKinds, pubkeyKinds}
 use Rattle.format.specs.Build.{joined, WithoutAll, withCheck, recordOf, IsIdentity, Built}
 use Rattle.format.specs.Read.{cut}
@@ -32,8 +31,8 @@ use Rattle.subjects.specs.Subjects.{manufacturer, mid, gnt}
 use Rattle.subjects.specs.Keys.{subject, Key}
 use Rattle.subjects.proofs.Subjects.{identity-field}
 use Rattle.shelf.specs.Places.{Names, named, sameNames, Held, held}
-use Rattle.shelf.specs.Cabinet.{width, reads, about, zeros, encode}
-use Rattle.shelf.proofs.Readings.{Asked, held-of, asked-gnt}
+use Rattle.shelf.specs.Cabinet.{width, numberAt, numberOf, reads, about, zeros, encode}
+use Rattle.shelf.proofs.Readings.{Asked, held-of}
 use Rattle.cabinet.specs.Steps.{namesIn, subjectAt, startsSo, isLaterThan}
 
 -- ---- fronts
@@ -182,20 +181,27 @@ module _ (h : Held) (good : reads (h .text) ≡ about (h .names) (h .gnt)) where
         record-clean IsIdentity identity-tame (key-so .kind) (key-so .fields) (built-key .permitted .fit),
       )
 
-  -- the bytes of the place: its kind's name, the Subject, and what follows
-  place-so : (r : Bytes) × (encode (held h) ≡ joined (code "|") (name (key-so .kind) ∷ subject (key-so .fields) ∷ []) ++ r)
-  unfolding encode recordOf withCheck
-  place-so = go (key-so .fields) (its-count built-key ∙ ap length (pubkey-row (key-so .kind) (built-key .of-kind) .1)) (built-key .built)
+  -- the text, whatever follows it: its kind's name, the Subject, and the rest
+  text-so : (t : Bytes) → (r : Bytes) × (h .text ++ t ≡ joined (code "|") (name (key-so .kind) ∷ subject (key-so .fields) ∷ []) ++ r)
+  unfolding recordOf withCheck
+  text-so t = go (key-so .fields) (its-count built-key ∙ ap length (pubkey-row (key-so .kind) (built-key .of-kind) .1)) (built-key .built)
     where
-      go : (fs : List Bytes) → length fs ≡ 5 → h .text ≡ recordOf (key-so .kind) fs → (r : Bytes) × (encode (held h) ≡ joined (code "|") (name (key-so .kind) ∷ subject fs ∷ []) ++ r)
+      go : (fs : List Bytes) → length fs ≡ 5 → h .text ≡ recordOf (key-so .kind) fs → (r : Bytes) × (h .text ++ t ≡ joined (code "|") (name (key-so .kind) ∷ subject fs ∷ []) ++ r)
       go [] l f = absurd (omega arith)
       go (x ∷ fs) l f =
           let two = joined (code "|") (name (key-so .kind) ∷ x ∷ []) in
           let c = checkText (crcOf (joined (code "|") (name (key-so .kind) ∷ x ∷ fs))) in
-          let z = zeros (width - length (h .text)) in
           let text : h .text ≡ two ++ (joined (code "|") fs ++ c) =
           f ∙ rw key-mark (ap (λ (t : Bytes). t ++ c) (joined-append (code "|") (name (key-so .kind) ∷ x ∷ []) fs) ∙ append-assoc two (joined (code "|") fs) c) in
-          ((joined (code "|") fs ++ c) ++ z, ap (λ (t : Bytes). t ++ z) text ∙ append-assoc two (joined (code "|") fs ++ c) z)
+          ((joined (code "|") fs ++ c) ++ t, ap (λ (u : Bytes). u ++ t) text ∙ append-assoc two (joined (code "|") fs ++ c) t)
+
+  -- and so the bytes of its place
+  place-so : (r : Bytes) × (encode (held h) ≡ joined (code "|") (name (key-so .kind) ∷ subject (key-so .fields) ∷ []) ++ r)
+  unfolding encode
+  place-so =
+      let rest = zeros (numberAt - length (h .text)) in
+      let (r, e) = text-so (rest ++ numberOf (h .text)) in
+      (r, append-assoc (h .text) rest (numberOf (h .text)) ∙ e)
 
   two-parts : WithoutAll (code "|") (name (key-so .kind) ∷ subject (key-so .fields) ∷ [])
   two-parts = (key-parts .0, (go (key-so .fields) (key-parts .1), tt))
@@ -204,12 +210,16 @@ module _ (h : Held) (good : reads (h .text) ≡ about (h .names) (h .gnt)) where
       go [] w = tt
       go (x ∷ fs) w = w .0
 
-  -- what the code takes for its Subject
-  pub subject-taken : subjectAt (encode (held h)) ≡ subject (key-so .fields)
+  -- what the code takes for its Subject, alone and in its place
+  subject-first : (s r : Bytes) → s ≡ joined (code "|") (name (key-so .kind) ∷ subject (key-so .fields) ∷ []) ++ r → subjectAt s ≡ subject (key-so .fields)
   unfolding subjectAt partOf
-  subject-taken =
-      let (r, e) = place-so in
-      rw e (ap (λ (l : List Bytes). getD l 1 []) (cut-parts (code "|") (name (key-so .kind) ∷ subject (key-so .fields) ∷ []) r two-parts))
+  subject-first s r e = rw e (ap (λ (l : List Bytes). getD l 1 []) (cut-parts (code "|") (name (key-so .kind) ∷ subject (key-so .fields) ∷ []) r two-parts))
+
+  pub subject-alone : subjectAt (h .text) ≡ subject (key-so .fields)
+  subject-alone = let (r, e) = text-so [] in subject-first (h .text) r (sym (append-nil (h .text)) ∙ e)
+
+  pub subject-taken : subjectAt (encode (held h)) ≡ subject (key-so .fields)
+  subject-taken = let (r, e) = place-so in subject-first (encode (held h)) r e
 
   pub held-names : (k : Names) → Clean k → startsSo (encode (held h)) (namesText k) ≡ sameNames k (h .names)
   unfolding startsSo partStart
@@ -234,4 +244,3 @@ module _ (h : Held) (good : reads (h .text) ≡ about (h .names) (h .gnt)) where
   held-later {i} {k} {g} a =
       let b = its-subject in
       rw (subject-taken, identity-field i (a .known) 2, identity-field (subject (key-so .fields)) (b .known) 2, ← (a .gnt-so), ← (b .gnt-so))
-      (later-by-bytes g (h .gnt) (timestamp-looks g (asked-gnt a)) (timestamp-looks (h .gnt) (asked-gnt b)))

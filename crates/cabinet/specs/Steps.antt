@@ -8,11 +8,12 @@ use mathlib.Core.Option.{Option, none, some}
 use mathlib.Core.List.{List, [], _++_}
 use lib.ListN.{length, take, drop, getD}
 use lib.Dec.{leb, eqb}
-use Rattle.text.specs.Text.{Bytes, same, after}
+use Rattle.text.specs.Text.{Bytes, same}
+use Rattle.text.specs.Later.{later}
 use Rattle.frame.specs.Frame.{partOf, partStart}
 use Rattle.subjects.specs.Subjects.{identityPart}
 use Rattle.shelf.specs.Places.{Place}
-use Rattle.shelf.specs.Cabinet.{decode}
+use Rattle.shelf.specs.Cabinet.{zeros, decode}
 
 -- ---- one place
 
@@ -35,13 +36,17 @@ partAt s i = take 1024 (drop (i * 1024) s)
 abbrev pub withPart : Bytes → ℕ → Bytes → Bytes
 withPart s i v = (take (i * 1024) s ++ v) ++ drop (i * 1024 + 1024) s
 
+-- what is written into a place: the text with zeros after it, and the number behind them, with zeros where it is empty
+abbrev pub filledWith : Bytes → Bytes → Bytes
+filledWith text number = (text ++ zeros (1016 - length text)) ++ (number ++ zeros (8 - length number))
+
 -- ---- the names
 
 -- what stands in an identity before its third field; nothing, where its bytes have not so many marks
 unfoldable pub namesIn : Bytes → Bytes
 namesIn s = cond (leb (partStart (code ":") s 3) (length s)) (take (partStart (code ":") s 3) s) []
 
--- the first field of a record, of any bytes
+-- the first field of a record, of any bytes, alone or in its place
 unfoldable pub subjectAt : Bytes → Bytes
 subjectAt s = partOf (code "|") s 1
 
@@ -51,7 +56,7 @@ startsSo s v = same (take (length v) (drop (partStart (code "|") s 1) s)) v
 
 -- the third field of the identity i is after that of the identity in the place s
 unfoldable pub isLaterThan : Bytes → Bytes → Bool
-isLaterThan i s = after (identityPart i 3) (identityPart (subjectAt s) 3)
+isLaterThan i s = later (identityPart i 3) (identityPart (subjectAt s) 3)
 
 -- ---- all places
 
@@ -98,7 +103,13 @@ pub record PlaceIn (s : Bytes) (i : ℕ) : Type 0 where
   pub long : length s ≡ 65536
   pub place : i < 64
 
-pub record Writing (s : Bytes) (i : ℕ) (text : Bytes) : Type 0 where
+pub record Fits (place text number : Bytes) : Type 0 where
+  pub long : length place ≡ 1024
+  pub short : length text ≤ 1016
+  pub eight : length number ≤ 8
+
+pub record Writing (s : Bytes) (i : ℕ) (text number : Bytes) : Type 0 where
   pub long : length s ≡ 65536
   pub place : i < 64
-  pub short : length text ≤ 1024
+  pub short : length text ≤ 1016
+  pub eight : length number ≤ 8

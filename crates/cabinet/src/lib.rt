@@ -1,5 +1,6 @@
-// The centre's key cabinet: document 02, E8. 64 places of 1,024 bytes in 65,536 lent bytes; each is all zeros, or an accepted public key and zeros after it,
-// and no two records share Subject kind, Manufacturer and MID. Every call takes any bytes and asks first whether they are a cabinet; none has a `requires`.
+// The centre's key cabinet: document 02, E8 and E9. 64 places of 1,024 bytes in 65,536 lent bytes; each is all zeros, or an accepted public key, zeros after it and
+// in the last eight bytes the number of its Expiry, and no two records share Subject kind, Manufacturer and MID. Every call takes any bytes and asks first whether they
+// are a cabinet; none has a `requires`.
 // Two accepted public keys share the three names exactly where their Subjects begin alike, up to the third ':', so names are compared where they stand.
 mod writing;
 
@@ -7,10 +8,6 @@ ghost use mathlib.Core.Path.{_≡_};
 ghost use Prim.Native.Nat.{_+_, _-_, _≤_, _<_};
 ghost use lib.ListN.{length};
 ghost use Rattle.text.specs.Text.{every};
-ghost use Rattle.places.specs.Places.{fieldAt};
-ghost use Rattle.format.specs.Kinds.{pubkeyKinds};
-ghost use Rattle.format.specs.Read.{readOf};
-ghost use Rattle.reading.specs.Reading.{answerOf};
 ghost use Rattle.shelf.specs.Cabinet.{decode, shelf, makeCabinet, putKey, removeKey, findKey};
 ghost use Rattle.cabinet.specs.Cabinet.{Files, counted, checked, FindSaid, FindPart};
 ghost use Rattle.cabinet.specs.Steps.{isZero, isPlace, isSome, partAt, namesIn, subjectAt, startsSo, isLaterThan, firstFrom, allPass, hasNames, isPlaceAt, isFreeAt, isHeldAt, aloneAt, occupiedOf, Sized, PlaceIn};
@@ -21,6 +18,9 @@ pub const PLACES: usize = 64;
 pub const WIDTH: usize = 1024;
 
 pub const SIZE: usize = 65536;
+
+// Where the number of Expiry begins in a place: the record and the zeros after it stand before.
+pub const NUMBER_AT: usize = 1016;
 
 // What a call answers that changes a cabinet, or asks whether it is one: the number, and the field's number, 0 where none is named.
 #[repr(C)]
@@ -57,26 +57,27 @@ fn are_zeros(s: &[u8]) -> bool
     seen == 0
 }
 
-// Reads public keys alone: the rows from ECDSA to before REQ.
-fn read_key(record: &[u8]) -> reading::Answer
-    ensures { λ r. ⌜ r ≡ answerOf (readOf pubkeyKinds (now («record» .entry))) ⌝ }
-{
-    reading::read_of(table::ECDSA, table::REQ, record)
-}
-
-// Whether the bytes are all zeros, or a public key and zeros after it: the record is what stands before the first zero.
+// Whether the bytes are all zeros, or a public key, zeros after it and the number of its Expiry: the record is what stands before the first zero.
 fn is_place(place: &[u8]) -> bool
     requires { ⌜ length (now place) ≡ 1024 ⌝ }
     ensures { λ r. ⌜ r ≡ isPlace (decode (now (place .entry))) ⌝ }
 {
     let len = frame::next_mark(0, place, 0);
-    if !are_zeros(&place[len..]) {
+    if len == 0 {
+        return are_zeros(place);
+    }
+    if NUMBER_AT < len {
         return false;
     }
-    if len == 0 {
-        return true;
+    if !are_zeros(&place[len..NUMBER_AT]) {
+        return false;
     }
-    read_key(&place[0..len]).no == numbers::ACCEPTED
+    let expiry = expiry::expiry_of(&place[0..len]);
+    if expiry.no != numbers::ACCEPTED {
+        return false;
+    }
+    let number = text::seconds_bytes(expiry.seconds);
+    text::are_same(&place[NUMBER_AT..], &number)
 }
 
 // Place i of a cabinet, from 0.
@@ -102,11 +103,11 @@ fn names_in<'a>(identity: &'a [u8]) -> &'a [u8]
     &identity[0..end]
 }
 
-// The Subject of the record in a place.
-fn subject_in<'a>(place: &'a [u8]) -> &'a [u8]
-    ensures { λ r. ⌜ now r ≡ subjectAt (now (place .entry)) ⌝ }
+// The Subject of a record, alone or in its place.
+fn subject_in<'a>(bytes: &'a [u8]) -> &'a [u8]
+    ensures { λ r. ⌜ now r ≡ subjectAt (now (bytes .entry)) ⌝ }
 {
-    frame::part(b'|', place, table::PUBKEY_SUBJECT)
+    frame::part(b'|', bytes, table::PUBKEY_SUBJECT)
 }
 
 // The Subject of the record in a place begins with these names.
@@ -290,15 +291,6 @@ fn is_later_than(subject: &[u8], place: &[u8]) -> bool
     )
 }
 
-// The Subject of a record that was answered so.
-fn subject_of<'a>(record: &'a [u8], answer: reading::Answer) -> &'a [u8]
-    ensures { λ r. ⌜ now r ≡ fieldAt (now («record» .entry)) (answer .starts) (answer .lens) 1 ⌝ }
-{
-    let starts = answer.starts;
-    let lens = answer.lens;
-    places::field_at(record, &starts, &lens, table::PUBKEY_SUBJECT)
-}
-
 // Puts a public key in. It replaces the one with the same Subject kind, Manufacturer and MID, in its place, and else takes the lowest free place. 23 before
 // all; the record's own numbers (another kind answers 2); 24 where its GNT is not later than that of the one it is to replace; 25 where no place is free.
 pub fn put_key(cabinet: &mut [u8], record: &[u8]) -> Filed
@@ -307,24 +299,25 @@ pub fn put_key(cabinet: &mut [u8], record: &[u8]) -> Filed
     if !is_cabinet(cabinet) {
         return file(numbers::NOT_CABINET, 0);
     }
-    let answer = read_key(record);
-    if answer.no != numbers::ACCEPTED {
-        return file(answer.no, answer.field);
+    let expiry = expiry::expiry_of(record);
+    if expiry.no != numbers::ACCEPTED {
+        return file(expiry.no, expiry.field);
     }
-    let subject = subject_of(record, answer);
+    let number = text::seconds_bytes(expiry.seconds);
+    let subject = subject_in(record);
     let its = place_of(cabinet, 0, names_in(subject));
     if its < PLACES {
         if !is_later_than(subject, place_at(cabinet, its)) {
             return file(numbers::NOT_LATER, 0);
         }
-        writing::write_place(cabinet, its, record);
+        writing::write_place(cabinet, its, record, &number);
         return file(numbers::ACCEPTED, 0);
     }
     let free = free_at(cabinet);
     if free == PLACES {
         return file(numbers::NO_PLACE, 0);
     }
-    writing::write_place(cabinet, free, record);
+    writing::write_place(cabinet, free, record, &number);
     file(numbers::ACCEPTED, 0)
 }
 
@@ -344,7 +337,7 @@ pub fn remove_key(cabinet: &mut [u8], identity: &[u8]) -> Filed
     if its == PLACES {
         return file(numbers::NOT_THERE, 0);
     }
-    writing::write_place(cabinet, its, &identity[0..0]);
+    writing::write_place(cabinet, its, &identity[0..0], &identity[0..0]);
     file(numbers::ACCEPTED, 0)
 }
 

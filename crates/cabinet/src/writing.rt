@@ -1,10 +1,10 @@
-// Writing a place of a cabinet: a text, and zeros after it.
+// Writing a place of a cabinet: a text, zeros after it, and a number behind them.
 ghost use mathlib.Core.Path.{_≡_};
 ghost use mathlib.Core.List.{_++_};
 ghost use Prim.Native.Nat.{_-_, _≤_};
 ghost use lib.ListN.{length, getD};
 ghost use Rattle.shelf.specs.Cabinet.{zeros};
-ghost use Rattle.cabinet.specs.Steps.{withPart, Writing};
+ghost use Rattle.cabinet.specs.Steps.{withPart, filledWith, Fits, Writing};
 
 // Byte j of the text, and zeros after it.
 fn byte_of(text: &[u8], j: usize) -> u8
@@ -28,12 +28,21 @@ pub(crate) fn fill(out: &mut [u8], text: &[u8])
     }
 }
 
-// The text, and zeros after it, in place i.
-pub(crate) fn write_place(cabinet: &mut [u8], i: usize, text: &[u8])
-    requires { ⌜ Writing (now cabinet) i (now text) ⌝ }
-    ensures { λ r. ⌜ now (cabinet .exit) ≡ withPart (now (cabinet .entry)) i (now (text .entry) ++ zeros (1024 - length (now (text .entry)))) ⌝ }
+// The text, and zeros after it, and the number behind them, in the bytes of a place; zeros alone where both are empty.
+fn fill_place(place: &mut [u8], text: &[u8], number: &[u8])
+    requires { ⌜ Fits (now place) (now text) (now number) ⌝ }
+    ensures { λ r. ⌜ now (place .exit) ≡ filledWith (now (text .entry)) (now (number .entry)) ⌝ }
+{
+    fill(&mut place[0..crate::NUMBER_AT], text);
+    fill(&mut place[crate::NUMBER_AT..crate::WIDTH], number);
+}
+
+// The same in place i.
+pub(crate) fn write_place(cabinet: &mut [u8], i: usize, text: &[u8], number: &[u8])
+    requires { ⌜ Writing (now cabinet) i (now text) (now number) ⌝ }
+    ensures { λ r. ⌜ now (cabinet .exit) ≡ withPart (now (cabinet .entry)) i (filledWith (now (text .entry)) (now (number .entry))) ⌝ }
 {
     let start = i * crate::WIDTH;
     let end = start + crate::WIDTH;
-    fill(&mut cabinet[start..end], text);
+    fill_place(&mut cabinet[start..end], text, number);
 }

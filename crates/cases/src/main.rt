@@ -6,6 +6,7 @@ mod confirmations;
 mod filing;
 mod hashes;
 mod input;
+mod moments;
 mod outputs;
 mod say;
 mod sweeps;
@@ -15,10 +16,10 @@ ghost use mathlib.Core.Path.{_≡_};
 ghost use lib.ListN.{length};
 
 // Room for the case file. The length is stated because a proof that looked at this many zeros would be slow.
-fn room() -> [u8; 3145728]
-    ensures { λ r. ⌜ 3145728 ≡ length r ⌝ }
+fn room() -> [u8; 4194304]
+    ensures { λ r. ⌜ 4194304 ≡ length r ⌝ }
 {
-    [0; 3145728]
+    [0; 4194304]
 }
 
 // One case, by its head: the call, its number n, and its label and its strings a, b and c. An output that is lent has n
@@ -36,6 +37,8 @@ fn run_case(file: &[u8], head: &[u8]) {
         38 => confirmations::print_response(a, b, c),
         47..=53 => filing::file(op, a, b, c, n),
         54 => filing::go(a, c),
+        55 => moments::print_moment(a),
+        56 => moments::print_expiry(a),
         64..=127 => sweeps::sweep(op % 64, n, a, b, c),
         _ => calls::run(op, n, a, b),
     }

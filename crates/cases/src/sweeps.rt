@@ -2,6 +2,7 @@
 use crate::calls;
 use crate::filing;
 use crate::input;
+use crate::moments;
 use crate::say;
 
 fn pair(no: u8, field: u8) -> usize {
@@ -45,6 +46,11 @@ fn answer(op: usize, n: usize, a: &[u8]) -> usize {
         46 => pair_of_mail(n, a),
         48 => {
             let said = filing::check_place(n, a);
+            pair(said.no, said.field)
+        }
+        55 => moments::moment_in_one(a),
+        56 => {
+            let said = expiry::expiry_of(a);
             pair(said.no, said.field)
         }
         _ => calls::test(op, n, a) as usize,

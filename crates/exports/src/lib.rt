@@ -3,6 +3,7 @@
 // bindings/c/obscurlane.h says it to a user of C.
 pub mod check;
 pub mod confirming;
+pub mod dates;
 pub mod filing;
 pub mod hashes;
 pub mod mailing;

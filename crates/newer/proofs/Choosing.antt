@@ -6,12 +6,10 @@ use mathlib.Core.List.{List}
 use native.Mathlib.Omega.{arith}
 use lib.Dec.{T}
 use denote.Ref.{RefT, now}
-use Rattle.text.specs.Text.{Bytes, after}
+use Rattle.text.specs.Text.{Bytes}
 use Rattle.text.specs.Part.{NoPart}
 use Rattle.text.proofs.Tests.{by-test, cond-yes, cond-no}
 use Rattle.text.specs.Later.{later}
-use Rattle.text.proofs.Types.{timestamp-looks}
-use Rattle.text.proofs.Later.{later-by-bytes}
 use Rattle.numbers.specs.Numbers.{notAlike}
 use Rattle.format.specs.Kinds.{Kind, pubkeyKinds}
 use Rattle.format.specs.Build.{Built}
@@ -22,7 +20,7 @@ use Rattle.reading.specs.Reading.{answerOf}
 use Rattle.reading.specs.declared.Answer.{Answer}
 use Rattle.reading.proofs.Answers.{Taken, taken, untaken}
 use Rattle.subjects.specs.Subjects.{alike, identityPart, areAlike}
-use Rattle.subjects.proofs.Subjects.{identity-field, identity-gnt, alike-identities}
+use Rattle.subjects.proofs.Subjects.{identity-field, alike-identities}
 use Rattle.newer.specs.Newer.{Decision, theFirst, theSecond, noChoice, subject, bySubjects, byRecords, newer, choiceNo, choiceWhich, choiceSaid, IsChosen, Chosen}
 use Rattle.newer.specs.declared.Choice.{Choice}
 use Rattle.newer.specs.Keys.{Key, gntOf}
@@ -32,7 +30,7 @@ use Rattle.subjects.proofs.Keys.{key, its-field}
 -- ---- by the two Subjects
 
 module _ (i j : Bytes) (p : Named i) (q : Named j) where
-  by-names : bySubjects (readIdentity i) (readIdentity j) ≡ cond (areAlike i j) (cond (after (identityPart j 3) (identityPart i 3)) theSecond theFirst) (noChoice 0 notAlike 0)
+  by-names : bySubjects (readIdentity i) (readIdentity j) ≡ cond (areAlike i j) (cond (later (identityPart j 3) (identityPart i 3)) theSecond theFirst) (noChoice 0 notAlike 0)
   by-names =
       rw (
         p .known,
@@ -40,13 +38,12 @@ module _ (i j : Bytes) (p : Named i) (q : Named j) where
         alike-identities i j (p .known) (q .known),
         identity-field i (p .known) 2,
         identity-field j (q .known) 2,
-        later-by-bytes _ _ (timestamp-looks _ (identity-gnt j (q .known))) (timestamp-looks _ (identity-gnt i (p .known))),
       )
 
   pub said-unlike : areAlike i j ≡ false → record { no = notAlike; field = 0; which = 0 } ≡ choiceSaid (bySubjects (readIdentity i) (readIdentity j))
   said-unlike e = sym (ap choiceSaid by-names ∙ rw e)
 
-  pub said-alike : areAlike i j ≡ true → (l : Bool) → after (identityPart j 3) (identityPart i 3) ≡ l → choiceSaid (cond l theSecond theFirst) ≡ choiceSaid (bySubjects (readIdentity i) (readIdentity j))
+  pub said-alike : areAlike i j ≡ true → (l : Bool) → later (identityPart j 3) (identityPart i 3) ≡ l → choiceSaid (cond l theSecond theFirst) ≡ choiceSaid (bySubjects (readIdentity i) (readIdentity j))
   said-alike e l f = sym (ap choiceSaid by-names ∙ rw (e, f))
 
 -- ---- by the two records, of which r and t are what was answered

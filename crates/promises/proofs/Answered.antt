@@ -31,6 +31,7 @@ use Rattle.files.specs.declared.Line.the-variants.{Finished, Read}
 use Rattle.trailed.specs.Trailed.{trailer, recordIn, trailerIn, isTrailer, onlyIf, readTrailed}
 use Rattle.mail.specs.Mail.{linesIn, alone, readFound, readMail}
 use Rattle.mail.proofs.Blocks.{opened-found}
+use Rattle.expiry.specs.Expiry.{expiryBy, expiryOf}
 use Rattle.shelf.specs.Places.{Names, Held, Place, holds, lookup, lowest, anyFree}
 use Rattle.shelf.specs.Cabinet.{places, width, Reading, about, declined, asks, reads, zeros, shelf, putAt, putRead, removeAt, removeRead, leaving, told, onPlaces, makeCabinet, putKey, removeKey, foundAt, findRead, findIn, findKey, countIn, countKeys, checkCabinet}
 use Rattle.shelf.proofs.Readings.{asks-own, reads-own}
@@ -241,6 +242,15 @@ module _ (P : ℕ → ℕ → Type 0) (z : P 0 0) where
           go : (o : Option (List Place)) → P (findIn i o .no) (findIn i o .field)
           go none = other
           go (some ps) = read ps (asks i) refl
+
+  -- Expiry as a number: none besides
+  pub expiry-answered : ((s : Bytes) → Of (readOf pubkeyKinds s)) → (s : Bytes) → P (expiryOf s .no) (expiryOf s .field)
+  unfolding expiryOf
+  expiry-answered own s = go (readOf pubkeyKinds s) (own s)
+    where
+      go : (o : Outcome) → Of o → P (expiryBy o .no) (expiryBy o .field)
+      go (accepted k fs) g = z
+      go (refused n i) g = g
 
   -- the newer key: 13 besides
   module _ (more : P notAlike 0) where

@@ -9,10 +9,12 @@ use mathlib.Core.List.{List, [], _∷_, _++_}
 use native.Mathlib.Omega.{arith}
 use lib.ListN.{length, getD, replicate}
 use lib.Dec.{T, eqb, eqb→eq}
+use lib.IntN.{ℤ}
 use mir.Facts.{T-not, yes-eqb}
 use borrow.Author.Tests.{eq-eqb, ne-eqb}
 use denote.Ref.{now}
 use Rattle.text.specs.Text.{Bytes, oneOf}
+use Rattle.text.specs.Seconds.{secondsBytes}
 use Rattle.text.specs.Later.{later}
 use Rattle.text.proofs.Tests.{T-true, by-test, cond-yes}
 use Rattle.text.proofs.Later.{later-itself}
@@ -23,9 +25,10 @@ use Rattle.format.proofs.Table.{name-inj}
 use Rattle.fields.specs.declared.Place.{Place}
 use Rattle.subjects.specs.Subjects.{manufacturer, mid, gnt}
 use Rattle.subjects.specs.Keys.{Key, gntOf}
+use Rattle.expiry.proofs.Expiries.{expiry-seconds}
 use Rattle.shelf.specs.Places as shelves
 use Rattle.shelf.specs.Places.{Names, named, sameNames, Held, free, held, isFree, holds, lookup, lowest, occupied, distinct, others}
-use Rattle.shelf.specs.Cabinet.{places, width, about, asks, reads, encode, decode, shelf, image, entry, Result, leaving, Finding, nothing, foundAt, makeCabinet, putKey, removeKey, findKey, countIn, countKeys, checkCabinet}
+use Rattle.shelf.specs.Cabinet.{places, width, numberAt, numberOf, about, asks, reads, encode, decode, shelf, image, entry, Result, leaving, Finding, nothing, foundAt, makeCabinet, putKey, removeKey, findKey, countIn, countKeys, checkCabinet}
 use Rattle.shelf.specs.History.{lastPut, removals, nowhere, textOf, heldIn, Call, putting, removing, finding, checking, counting, Moment, putEvent, removeEvent, onto, noted, afterCall, run}
 use Rattle.shelf.proofs.Places.{names-refl, found-at, Once, distinct-once, once-distinct, lookup-at, lowest-there, lowest-free-at}
 use Rattle.shelf.proofs.Readings.{asks-accepted, asks-refused, asked, reads-accepted, reads-refused, held-of}
@@ -39,7 +42,7 @@ use Rattle.cabinet.specs.Cabinet.{Files}
 use Rattle.cabinet.specs.Steps.{isPlace, isSome, first, allPass, isPlaceAt}
 use Rattle.cabinet.proofs.Bridge.{first-none}
 use Rattle.cabinet.proofs.Cabinets.{places-are, width-is, Read, its, all-read, read-all, distinct-so, cabinet-so, none-there, some-there}
-use Rattle.promises.specs.Cabinet.{placeIn, Filled, Share, Shared, IsCabinet, withPlace, PutSaid, There, RemoveSaid, FindSaid, Step, Ran, Gives, Remembers, begun, Cabinet}
+use Rattle.promises.specs.Cabinet.{placeIn, placeOf, Filled, Share, Shared, IsCabinet, withPlace, PutSaid, There, RemoveSaid, FindSaid, Step, Ran, Gives, Remembers, begun, Cabinet}
 
 -- ---- a public key's names, and what a place holds
 
@@ -63,9 +66,13 @@ zeros-place : encode free ≡ replicate 1024 0
 unfolding encode width
 zeros-place = refl
 
+-- the bytes of the place for a key, whatever names and GNT are kept beside it
+key-place : {r : Bytes} (p : Key r) (k : Names) (g : Bytes) → encode (entry k g r) ≡ placeOf p
+unfolding encode numberAt numberOf
+key-place {r} p k g = ap (λ (z : ℤ). (r ++ replicate (1016 - length r) 0) ++ secondsBytes z) (expiry-seconds p)
+
 filled-encode : {b : Bytes} (q : Filled b) → encode (held (heldBy q)) ≡ b
-unfolding encode width
-filled-encode q = sym (q .so)
+filled-encode q = key-place (q .key) (namesOf (q .key)) (gntOf (q .key)) ∙ sym (q .so)
 
 filled-good : {b : Bytes} (q : Filled b) → Good (held (heldBy q))
 filled-good q = reads-accepted (q .text) (q .key)
@@ -91,7 +98,7 @@ module _ {s : Bytes} {ps : List shelves.Place} (R : Read s ps) (j : ℕ) (l : j 
       let g′ : reads (h .text) ≡ about (h .names) (h .gnt) = subst Good e g in
       let k = held-of (h .text) (h .names) (h .gnt) g′ .key in
       let (n, m) = key-reads k g′ in
-      (record { text = h .text; key = k; so = sym b ∙ ap encode e }, ap₂ (λ (x : Names) (y : Bytes). record { names = x; gnt = y; text = h .text }) n m)
+      (record { text = h .text; key = k; so = sym b ∙ ap encode e ∙ key-place k (h .names) (h .gnt) }, ap₂ (λ (x : Names) (y : Bytes). record { names = x; gnt = y; text = h .text }) n m)
 
   place-free : getD ps j free ≡ free → placeIn s j ≡ replicate 1024 0
   place-free e = sym (R .at j l .0) ∙ ap encode e ∙ zeros-place
@@ -192,9 +199,9 @@ module _ {s : Bytes} {ps : List shelves.Place} (e : shelf s ≡ some ps) (R : Re
       go none g = g
       go (some h) g = let (j, l, q, u, n) = place-of k h g in absurd (f j l q n)
 
-stored-place : (s : Bytes) (j : ℕ) (k : Names) (g r : Bytes) → storedAt s j (entry k g r) ≡ withPlace s j (r ++ replicate (1024 - length r) 0)
-unfolding encode width
-stored-place s j k g r = refl
+stored-place : (s : Bytes) (j : ℕ) {r : Bytes} (p : Key r) → storedAt s j (entry (namesOf p) (gntOf p) r) ≡ withPlace s j (placeOf p)
+unfolding width
+stored-place s j p = ap (withPlace s j) (key-place p (namesOf p) (gntOf p))
 
 emptied-place : (s : Bytes) (j : ℕ) → storedAt s j free ≡ withPlace s j (replicate 1024 0)
 unfolding encode width
@@ -217,14 +224,14 @@ put-said s r after x w =
           let (a, b) = at-place q R j l f (namesOf p) (shared-names p (f .key) .0 sh) in
           done-so w
           (put-later s ps q r (namesOf p) (gntOf p) (reads-accepted r p) (heldBy f) a t (lowest-there (namesOf p) ps (heldBy f) a)
-          ∙ ap (λ (y : Bytes). record { no = 0; field = 0; bytes = y }) (ap (λ (i : ℕ). storedAt s i (entry (namesOf p) (gntOf p) r)) b ∙ stored-place s j (namesOf p) (gntOf p) r));
+          ∙ ap (λ (y : Bytes). record { no = 0; field = 0; bytes = y }) (ap (λ (i : ℕ). storedAt s i (entry (namesOf p) (gntOf p) r)) b ∙ stored-place s j p));
       first = λ c p f j l z low.
           let (ps, q, R) = of-cabinet s c in
           let b : lowest isFree ps ≡ j =
           lowest-free-at j ps (omega (arith, R .number)) (free-place R j l z) (λ i m. let i< : i < 64 = omega arith in (heldBy (low i m), filled-place R i i< (low i m))) in
           done-so w
           (put-first s ps q r (namesOf p) (gntOf p) (reads-accepted r p) (none-found q R (namesOf p) (λ i m g n. f i m g (shared-names p (g .key) .1 n))) (omega (arith, b, R .number))
-          ∙ ap (λ (y : Bytes). record { no = 0; field = 0; bytes = y }) (ap (λ (i : ℕ). storedAt s i (entry (namesOf p) (gntOf p) r)) b ∙ stored-place s j (namesOf p) (gntOf p) r));
+          ∙ ap (λ (y : Bytes). record { no = 0; field = 0; bytes = y }) (ap (λ (i : ℕ). storedAt s i (entry (namesOf p) (gntOf p) r)) b ∙ stored-place s j p));
     }
   where
     later-to : (ps : List shelves.Place) → shelf s ≡ some ps → Read s ps → x .no ≡ notLater

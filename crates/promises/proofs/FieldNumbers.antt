@@ -18,7 +18,7 @@ use Rattle.confirm.specs.Confirm.{confirmRequest, confirmResponse}
 use Rattle.trailed.specs.Trailed.{recordIn, readTrailed, writeTrailed}
 use Rattle.mail.specs.Mail.{writeMail}
 use Rattle.promises.specs.FieldNumbers.{FieldNumbers}
-use Rattle.promises.proofs.Answered.{answered, wanted-answered, attribute-answered, given-answered, judge-answered, build-answered, line-answered, last-answered, trailed-answered, mail-answered, make-answered, cabinet-answered, put-answered, remove-answered, find-answered, newer-answered, check-answered, request-answered, response-answered}
+use Rattle.promises.proofs.Answered.{answered, wanted-answered, attribute-answered, given-answered, judge-answered, build-answered, line-answered, last-answered, trailed-answered, mail-answered, make-answered, cabinet-answered, put-answered, remove-answered, find-answered, newer-answered, expiry-answered, check-answered, request-answered, response-answered}
 
 identity-names : (s : Bytes) → Names (readIdentity s)
 unfolding readIdentity
@@ -76,6 +76,7 @@ field-numbers = record {
   key-place = λ κs a r s p. rw (p .said) (find-answered NamesAt refl refl identity-names refl (now (a .0)) (now (a .1 .0)));
   find-key = λ κs a r s p. rw (p .its-no, p .its-field) (find-answered NamesAt refl refl identity-names refl (now (a .0)) (now (a .1 .0)));
   newer-of = λ κs a r s p. rw p (newer-answered NamesAt refl refl identity-names (read-names pubkeyKinds) (now (a .0)) (now (a .1 .0)));
+  expiry-of = λ κs a r s p. rw p (expiry-answered NamesAt refl (read-names pubkeyKinds) (now (a .0)));
   newer = λ κs a r s p. rw (p .number-so, p .field-so) (newer-answered NamesAt refl refl identity-names (read-names pubkeyKinds) (now (a .0)) (now (a .1 .0)));
   check-fingerprint = λ κs a r s p. rw p (check-answered NamesAt refl (readOf pubkeyKinds (now (a .0))) (read-names pubkeyKinds (now (a .0))) refl);
   write-fingerprint = λ κs a r s p. rw (p .said) (given-answered NamesAt refl _ (length (now (a .1 .0))) (readOf pubkeyKinds (now (a .0))) (read-names pubkeyKinds (now (a .0))) refl);

@@ -28,7 +28,7 @@ use Rattle.trailed.specs.Trailed.{recordIn, readTrailed, writeTrailed}
 use Rattle.mail.specs.Mail.{writeMail}
 use Rattle.shelf.specs.Cabinet.{checkCabinet}
 use Rattle.promises.specs.Refusals.{ofIdentities, ofRecords, ofPubkeys, ofKeys, ofLoads, ofTexts, Refusals}
-use Rattle.promises.proofs.Answered.{answered, wanted-answered, attribute-answered, given-answered, judge-answered, build-answered, line-answered, last-answered, trailed-answered, mail-answered, make-answered, cabinet-answered, put-answered, remove-answered, find-answered, newer-answered, check-answered, request-answered, response-answered}
+use Rattle.promises.proofs.Answered.{answered, wanted-answered, attribute-answered, given-answered, judge-answered, build-answered, line-answered, last-answered, trailed-answered, mail-answered, make-answered, cabinet-answered, put-answered, remove-answered, find-answered, newer-answered, expiry-answered, check-answered, request-answered, response-answered}
 
 -- n is one of ns, whatever the field's number
 abbrev In : List ℕ → ℕ → ℕ → Type 0
@@ -178,6 +178,7 @@ refusals = record {
   key-place = λ κs a r s p. rw (p .said) (find-answered (In (23 ∷ 26 ∷ ofIdentities)) tt tt asked-given tt (now (a .0)) (now (a .1 .0)));
   find-key = λ κs a r s p. rw (p .its-no) (find-answered (In (23 ∷ 26 ∷ ofIdentities)) tt tt asked-given tt (now (a .0)) (now (a .1 .0)));
   newer-of = λ κs a r s p. rw p (newer-answered (In (13 ∷ ofPubkeys)) tt tt subject-given key-given (now (a .0)) (now (a .1 .0)));
+  expiry-of = λ κs a r s p. rw p (expiry-answered (In ofPubkeys) tt pubkey-given (now (a .0)));
   newer = λ κs a r s p. rw (p .number-so) (newer-answered (In (13 ∷ ofPubkeys)) tt tt subject-given key-given (now (a .0)) (now (a .1 .0)));
   check-fingerprint = λ κs a r s p. rw p (check-answered (In (15 ∷ ofPubkeys)) tt (readOf pubkeyKinds (now (a .0))) (checked-given (now (a .0))) tt);
   write-fingerprint = λ κs a r s p. rw (p .said) (given-answered (In (10 ∷ ofPubkeys)) tt _ (length (now (a .1 .0))) (readOf pubkeyKinds (now (a .0))) (print-given (now (a .0))) tt);

@@ -11,7 +11,9 @@ use borrow.Author.Tests.{le-leb, lt-leb}
 use denote.Ref.{RefT, ptr, now}
 use lib.Dec.{T, eqb}
 use mir.Facts.{yes-and, yes-eqb}
+use Rattle.text.specs.Calendar.{daysBefore, sumTo}
 use Rattle.text.specs.Text.{Bytes, ascii, every, hexadecimal, TextType, Ident, Timestamp, Point, Sig, Mac, Print, Protected, Hex, isOf, looks, numberFrom, isIdent, isTimestamp, isHex, isPoint, isProtected}
+use Rattle.text.specs.Seconds.{momentOf, seconds, sinceYearOne}
 use Rattle.format.specs.Kinds.{Kind, KMCID, ECDH, REQ, KEY, identityKinds, recordKinds, pubkeyKinds, keyKinds}
 use Rattle.format.specs.Attributes.{cardsIn}
 use Rattle.format.specs.Build.{recordOf, IsIdentity, Permitted}
@@ -86,7 +88,7 @@ unfolding centre later-centre key-of centreIdFields laterIdFields
 agreed = record { one = centre; other = later-centre; kinds = refl; manufacturers = refl; mids = refl }
 
 choices : (newer centreKey laterKey ≡ theSecond) × (newer laterKey centreKey ≡ theFirst) × (newer centreKey centreKey ≡ theFirst)
-unfolding centre later-centre key-of centreIdFields laterIdFields alike later numberFrom
+unfolding centre later-centre key-of centreIdFields laterIdFields alike later momentOf isTimestamp looks numberFrom seconds sinceYearOne daysBefore sumTo
 choices = (newer-keys _ _ centre later-centre, newer-keys _ _ later-centre centre, newer-keys _ _ centre centre)
 
 -- ---- a wrapped key

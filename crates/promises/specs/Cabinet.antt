@@ -1,4 +1,4 @@
--- The centre's key cabinet: document 02, E8. What a cabinet is, what each call answers and leaves, and what holds after any list of calls.
+-- The centre's key cabinet: document 02, E8 and E9. What a cabinet is, what each call answers and leaves, and what holds after any list of calls.
 -- Assumes nothing.
 use Prim.Native.Nat.{ℕ, zero, suc, _+_, _-_, _*_, _<_}
 use mathlib.Core.Path.{_≡_}
@@ -11,12 +11,14 @@ use lib.Dec.{eqb}
 use denote.Ref.{now}
 use Rattle.text.specs.Text.{Bytes}
 use Rattle.text.specs.Part.{Part}
+use Rattle.text.specs.Seconds.{seconds, secondsBytes}
 use Rattle.text.specs.Later.{later}
 use Rattle.numbers.specs.Numbers.{notCabinet, notLater, noPlace, notThere}
 use Rattle.format.specs.Kinds.{Kind, pubkeyKinds}
 use Rattle.format.specs.Read.{accepted, refused, readIdentity, readOf}
 use Rattle.subjects.specs.Subjects.{manufacturer, mid}
 use Rattle.subjects.specs.Keys.{Key, gntOf}
+use Rattle.expiry.specs.Expiry.{expiry}
 use Rattle.shelf.specs.Places as shelf-places
 use Rattle.shelf.specs.Places.{Names, occupied}
 use Rattle.shelf.specs.Cabinet.{about, asks, reads, shelf}
@@ -37,11 +39,15 @@ use Rattle.promises.specs.Calls.{Holds, SomeCall}
 abbrev pub placeIn : Bytes → ℕ → Bytes
 placeIn s j = take 1024 (drop (j * 1024) s)
 
--- the bytes b of a place are an accepted public key and zeros after it
+-- the bytes of a place for an accepted public key: its text, zeros, and from byte 1016 on the number of its Expiry
+abbrev pub placeOf : {text : Bytes} → Key text → Bytes
+placeOf {text} k = (text ++ replicate (1016 - length text) 0) ++ secondsBytes (seconds (expiry (k .fields)))
+
+-- the bytes b of a place are so
 pub record Filled (b : Bytes) : Type 0 where
   pub text : Bytes
   pub key : Key text
-  pub so : b ≡ text ++ replicate (1024 - length text) 0
+  pub so : b ≡ placeOf key
 
 -- two identities have one kind, Manufacturer and MID
 abbrev pub Share : Kind → List Bytes → Kind → List Bytes → Type 0
@@ -78,11 +84,11 @@ pub record PutSaid (s r after : Bytes) (x : Filed) : Type 0 where
   pub no-place : IsCabinet s → (x .no ≡ noPlace) ↔ ((p : Key r) × ((j : ℕ) → j < 64 → (q : Filled (placeIn s j)) × (Shared p (q .key) → ⊥)))
   -- a replacement stays in its place
   pub replaces : IsCabinet s → (p : Key r) (j : ℕ) → j < 64 → (q : Filled (placeIn s j)) → Shared p (q .key) → later (gntOf p) (gntOf (q .key)) ≡ true
-      → (x .no ≡ 0) × (after ≡ withPlace s j (r ++ replicate (1024 - length r) 0))
+      → (x .no ≡ 0) × (after ≡ withPlace s j (placeOf p))
   -- a first put takes the lowest free place
   pub first : IsCabinet s → (p : Key r) → ((j : ℕ) → j < 64 → (q : Filled (placeIn s j)) → Shared p (q .key) → ⊥)
       → (j : ℕ) → j < 64 → placeIn s j ≡ replicate 1024 0 → ((i : ℕ) → i < j → Filled (placeIn s i))
-      → (x .no ≡ 0) × (after ≡ withPlace s j (r ++ replicate (1024 - length r) 0))
+      → (x .no ≡ 0) × (after ≡ withPlace s j (placeOf p))
 
 -- a record of the names of an accepted identity is in place j; GNT and Fingerprint of the identity may differ
 abbrev pub There : Bytes → Kind → List Bytes → ℕ → Type 0

@@ -13,6 +13,8 @@ use Rattle.text.proofs.are_same.Reads as are-same
 use Rattle.text.proofs.is_ident.Reads as is-ident
 use Rattle.text.proofs.is_timestamp.Reads as is-timestamp
 use Rattle.text.proofs.is_later.Reads as is-later
+use Rattle.text.proofs.moment_of.Reads as moment-of
+use Rattle.text.proofs.seconds_bytes.Reads as seconds-bytes
 use Rattle.text.proofs.is_hex.Reads as is-hex
 use Rattle.text.proofs.is_point.Reads as is-point
 use Rattle.text.proofs.is_sig.Reads as is-sig
@@ -109,6 +111,7 @@ use Rattle.fingerprint.proofs.write_fingerprint.Reads as write-fingerprint
 use Rattle.confirm.proofs.confirm_request.Reads as confirm-request
 use Rattle.confirm.proofs.confirm_response.Reads as confirm-response
 use Rattle.newer.proofs.newer_of.Reads as newer-of
+use Rattle.expiry.proofs.expiry_of.Reads as expiry-of
 use Rattle.newer.proofs.newer.Reads as newer
 
 -- any two results x and y that the contract Q allows for the same lifetimes κs and arguments a are equal
@@ -139,6 +142,8 @@ pub record Determined : Type 0 where
   pub is-ident : OneAnswer is-ident.Post
   pub is-timestamp : OneAnswer is-timestamp.Post
   pub is-later : OneAnswer is-later.Post
+  pub moment-of : OneAnswer moment-of.Post
+  pub seconds-bytes : OneAnswer seconds-bytes.Post
   pub is-hex : OneAnswer is-hex.Post
   pub is-point : OneAnswer is-point.Post
   pub is-sig : OneAnswer is-sig.Post
@@ -287,6 +292,8 @@ pub record Determined : Type 0 where
   pub confirm-response : OneAnswer confirm-response.Post
   -- newer
   pub newer-of : OneAnswer newer-of.Post
+  -- expiry
+  pub expiry-of : OneAnswer expiry-of.Post
   pub newer-part : OnePart newer.Post
   pub newer-no : OneLeft newer.Post (λ κs s. now (s .1 .1 .0))
   pub newer-field : OneLeft newer.Post (λ κs s. now (s .1 .1 .1 .0))

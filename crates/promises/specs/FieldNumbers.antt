@@ -39,6 +39,7 @@ use Rattle.cabinet.proofs.remove_key.Reads as remove-key
 use Rattle.cabinet.proofs.key_place.Reads as key-place
 use Rattle.cabinet.proofs.find_key.Reads as find-key
 use Rattle.newer.proofs.newer_of.Reads as newer-of
+use Rattle.expiry.proofs.expiry_of.Reads as expiry-of
 use Rattle.newer.proofs.newer.Reads as newer
 use Rattle.fingerprint.proofs.check_fingerprint.Reads as check-fingerprint
 use Rattle.fingerprint.proofs.write_fingerprint.Reads as write-fingerprint
@@ -82,6 +83,7 @@ pub record FieldNumbers : Type 0 where
   pub key-place : NamesField key-place.Post (λ κs r s. r .no) (λ κs r s. r .field)
   pub find-key : NamesField find-key.Post (λ κs r s. now (s .1 .1 .0)) (λ κs r s. now (s .1 .1 .1 .0))
   pub newer-of : NamesField newer-of.Post (λ κs r s. r .no) (λ κs r s. r .field)
+  pub expiry-of : NamesField expiry-of.Post (λ κs r s. r .no) (λ κs r s. r .field)
   pub newer : NamesField newer.Post (λ κs r s. now (s .1 .1 .0)) (λ κs r s. now (s .1 .1 .1 .0))
   pub check-fingerprint : NamesField check-fingerprint.Post (λ κs r s. r .no) (λ κs r s. r .field)
   pub write-fingerprint : NamesField write-fingerprint.Post (λ κs r s. r .no) (λ κs r s. r .field)

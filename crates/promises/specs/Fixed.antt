@@ -7,9 +7,11 @@ use mathlib.Core.Bool.{Bool, true, false}
 use mathlib.Core.Option.{Option, none, some}
 use mathlib.Core.List.{List, [], _∷_, _++_}
 use lib.ListN.{take, drop, replicate, set}
+use lib.IntN.{ℤ, pos, negsuc}
 use Rattle.numbers.specs.Numbers.{tooLong, unknownKind, missingCheck, wrongCheck, wrongCount, wrongText, wrongIdentity, unpaired, wrongKind, shortOutput, unfinished, missingItem, notAlike, wrongAttributes, wrongFingerprint, wrongZ, otherRequest, wrongTag, missingTrailer, wrongHash, missingBegins, missingEnds, notCabinet, notLater, noPlace, notThere}
 use Rattle.text.specs.Text.{Bytes, ascii, isIdent, isTimestamp, isHex, isPrintable, Ident, Timestamp, Point, Sig, Mac, Print, Protected, Hex, isOf}
 use Rattle.text.specs.Base16.{base16}
+use Rattle.text.specs.Seconds.{momentOf, secondsBytes}
 use Rattle.sha384.specs.Sha384.{sha384}
 use Rattle.format.specs.Kinds.{Kind, SMMAN, SMID, KMCID, ECDSA, ECDH, REQ, RESP, KEY, Field, Text, Printable, Identity, OrEmpty, name, mark, fieldsOf, keyKinds}
 use Rattle.format.specs.Attributes.{areAttributes}
@@ -34,10 +36,11 @@ use Rattle.confirm.specs.declared.Confirmed.{Confirmed}
 use Rattle.sha1.specs.Sha1.{sha1}
 use Rattle.trailed.specs.Trailed.{trailer, readTrailed, trailedAt, writeTrailed}
 use Rattle.mail.specs.Mail.{guarded, writeMail, readMail}
+use Rattle.expiry.specs.Expiry.{expiryOf}
 use Rattle.shelf.specs.Places as shelf
 use Rattle.shelf.specs.Places.{named}
 use Rattle.shelf.specs.Cabinet.{Reading, about, declined, asks, reads, decode}
-use Rattle.promises.specs.Values.{Value, number, bytes, test, types, admitted}
+use Rattle.promises.specs.Values.{Value, number, signed, bytes, test, types, admitted}
 use Rattle.promises.specs.Worked.{manufacturerId, moduleIdFields, moduleId, centreId, manufacturerKeyFields, manufacturerKey, moduleKeyFields, moduleKey, centreKeyFields, centreKey, requestFields, request, responseFields, response, keyAttributes, keyFields, key, longAttributes}
 
 -- ---- "Seven kinds of record": names, marks and field types, row by row
@@ -557,7 +560,55 @@ letters =
     ∷ bytes (saidOf (writeMail response 279)) (0 ∷ 0 ∷ [])
     ∷ []
 
--- ---- document 02, E8: what is read for a place, and what may stand in one
+-- ---- document 02, E9: seconds since 19930101T000000Z, before and after
+
+abbrev pub at : Bytes → ℤ
+at s = momentOf s .seconds
+
+abbrev pub midnight : Bytes → ℤ
+midnight s = at (s ++ ascii "T000000Z")
+
+-- the number of 20210110T120000Z
+abbrev pub centreNumber : Bytes
+centreNumber = 0 ∷ 0 ∷ 0 ∷ 0 ∷ 0x34 ∷ 0xB7 ∷ 0x62 ∷ 0xC0 ∷ []
+
+unfoldable pub instants : List Value
+instants =
+    signed (midnight (ascii "19930101")) (pos 0)
+    ∷ signed (at (ascii "19930101T000001Z")) (pos 1)
+    ∷ signed (at (ascii "19921231T235959Z")) (negsuc 0)
+    -- both ends of the range
+    ∷ signed (midnight (ascii "00010101")) (negsuc 62861443199)
+    ∷ signed (at (ascii "99991231T235959Z")) (pos 252676454399)
+    -- leap days on both sides and the days after them; 1900 has none
+    ∷ signed (midnight (ascii "19920229")) (negsuc 26524799)
+    ∷ signed (midnight (ascii "19920301")) (negsuc 26438399)
+    ∷ signed (midnight (ascii "19960229")) (pos 99705600)
+    ∷ signed (midnight (ascii "19960301")) (pos 99792000)
+    ∷ signed (midnight (ascii "20000229")) (pos 225936000)
+    ∷ signed (midnight (ascii "24000229")) (pos 12848716800)
+    ∷ signed (midnight (ascii "19000228")) (negsuc 2929823999)
+    ∷ signed (midnight (ascii "19000301")) (negsuc 2929737599)
+    -- around 1970 and 2000
+    ∷ signed (at (ascii "19691231T235959Z")) (negsuc 725846400)
+    ∷ signed (midnight (ascii "19700101")) (negsuc 725846399)
+    ∷ signed (at (ascii "19991231T235959Z")) (pos 220838399)
+    ∷ signed (midnight (ascii "20000101")) (pos 220838400)
+    -- no TIMESTAMP
+    ∷ signed (midnight (ascii "19000229")) (pos 0)
+    ∷ test (momentOf (ascii "19000229T000000Z") .valid) false
+    ∷ test (momentOf (ascii "19930101T000000Z") .valid) true
+    -- 003's key of the centre expires at 20210110T120000Z; a request is refused as it is by the cabinet
+    ∷ signed (expiryOf centreKey .seconds) (pos 884433600)
+    ∷ number (expiryOf request .no) 2
+    ∷ signed (expiryOf request .seconds) (pos 0)
+    -- eight bytes
+    ∷ bytes (secondsBytes (pos 884433600)) centreNumber
+    ∷ bytes (secondsBytes (negsuc 0)) (replicate 8 0xFF)
+    ∷ bytes (secondsBytes (negsuc 62861443199)) (0xFF ∷ 0xFF ∷ 0xFF ∷ 0xF1 ∷ 0x5D ∷ 0x2A ∷ 0x7F ∷ 0x80 ∷ [])
+    ∷ []
+
+-- ---- document 02, E8 and E9: what is read for a place, and what may stand in one
 
 abbrev pub readingSaid : Reading → Bytes
 readingSaid (about (named kind maker id) g) = joined (code ":") (kind ∷ maker ∷ id ∷ g ∷ [])
@@ -567,9 +618,12 @@ abbrev pub isPlace : Option shelf.Place → Bool
 isPlace none = false
 isPlace (some p) = true
 
--- the bytes of a place that begins so, and zeros
+-- the bytes of a place that begins so, and zeros; and with the eight bytes of a number at its end
 abbrev pub padded : Bytes → Bytes
 padded s = take 1024 (s ++ replicate 1024 0)
+
+abbrev pub numbered : Bytes → Bytes → Bytes
+numbered s v = take 1016 (s ++ replicate 1016 0) ++ v
 
 unfoldable pub placed : List Value
 placed =
@@ -577,14 +631,18 @@ placed =
     ∷ bytes (readingSaid (reads centreKey)) (ascii "KMCID.1:sts-KeyAgreement-1.2:TEST1:20180110T120000Z:")
     ∷ bytes (readingSaid (reads request)) (2 ∷ 0 ∷ [])
     ∷ bytes (readingSaid (asks centreKey)) (2 ∷ 0 ∷ [])
-    -- all zeros, a public key and zeros; a byte after the zeros, a zero in front, a record of another kind, an identity
+    -- all zeros, a public key with zeros and its number; no number, one second more, the other end first, a byte after the zeros, a zero in front, a record of another
+    -- kind, an identity
     ∷ test (isPlace (decode (padded []))) true
-    ∷ test (isPlace (decode (padded centreKey))) true
-    ∷ test (isPlace (decode (set (padded centreKey) 1023 1))) false
-    ∷ test (isPlace (decode (padded (0 ∷ centreKey)))) false
+    ∷ test (isPlace (decode (numbered centreKey centreNumber))) true
+    ∷ test (isPlace (decode (padded centreKey))) false
+    ∷ test (isPlace (decode (numbered centreKey (set centreNumber 7 0xC1)))) false
+    ∷ test (isPlace (decode (numbered centreKey (0xC0 ∷ 0x62 ∷ 0xB7 ∷ 0x34 ∷ 0 ∷ 0 ∷ 0 ∷ 0 ∷ [])))) false
+    ∷ test (isPlace (decode (set (numbered centreKey centreNumber) 1015 1))) false
+    ∷ test (isPlace (decode (numbered (0 ∷ centreKey) centreNumber))) false
     ∷ test (isPlace (decode (padded request))) false
     ∷ test (isPlace (decode (padded moduleId))) false
     ∷ []
 
 unfoldable pub fixed : List Value
-fixed = rows ++ alphabets ++ limits ++ labels ++ checks ++ numbers ++ building ++ texts ++ others ++ lists ++ keys ++ longKeys ++ days ++ dates ++ hashes ++ agreeing ++ differing ++ fingerprints ++ tags ++ confirming ++ shortHashes ++ printed ++ lines ++ posted ++ letters ++ placed
+fixed = rows ++ alphabets ++ limits ++ labels ++ checks ++ numbers ++ building ++ texts ++ others ++ lists ++ keys ++ longKeys ++ days ++ dates ++ hashes ++ agreeing ++ differing ++ fingerprints ++ tags ++ confirming ++ shortHashes ++ printed ++ lines ++ posted ++ letters ++ instants ++ placed

@@ -8,6 +8,8 @@ use Rattle.exports.proofs.check.obscurlane_crc_end.Reads as crc-end
 use Rattle.exports.proofs.check.obscurlane_crc_of.Reads as crc-of
 use Rattle.exports.proofs.types.obscurlane_is_ident.Reads as is-ident
 use Rattle.exports.proofs.types.obscurlane_is_timestamp.Reads as is-timestamp
+use Rattle.exports.proofs.dates.obscurlane_moment_of.Reads as moment-of
+use Rattle.exports.proofs.dates.obscurlane_expiry_of.Reads as expiry-of
 use Rattle.exports.proofs.types.obscurlane_is_hex.Reads as is-hex
 use Rattle.exports.proofs.types.obscurlane_is_point.Reads as is-point
 use Rattle.exports.proofs.types.obscurlane_is_sig.Reads as is-sig
@@ -57,6 +59,7 @@ use Rattle.exports.proofs.filing.obscurlane_find_key.Reads as find-key
 use lib.ListN.{length}
 use Rattle.crc16.specs.Crc.{begin, add, end, crcOf}
 use Rattle.text.specs.Text.{isIdent, isTimestamp, isHex, isPoint, isSig, isMac, isPrint}
+use Rattle.text.specs.Seconds.{momentOf}
 use Rattle.format.specs.Kinds.{keyKinds}
 use Rattle.format.specs.Read.{readIdentity, readOf, readRecord}
 use Rattle.format.specs.Files.{lineAt, walk}
@@ -77,6 +80,7 @@ use Rattle.sha1.specs.Sha1.{sha1}
 use Rattle.sha1.specs.State as short
 use Rattle.trailed.specs.Trailed.{readTrailed, trailedAt, countTrailed, writeTrailed}
 use Rattle.mail.specs.Mail.{writeMail, readMail}
+use Rattle.expiry.specs.Expiry.{expiryOf}
 use Rattle.shelf.specs.Cabinet.{makeCabinet, putKey, removeKey, findKey}
 use Rattle.cabinet.specs.Cabinet.{filed, checked, counted, foundIn}
 use Rattle.confirm.specs.Confirm.{saysOf, macKeyOf, kekOf, confirmRequest, confirmResponse}
@@ -92,6 +96,8 @@ pub record Interface : Type 0 where
   -- text types
   pub is-ident : Answers is-ident.Post (λ κs a. isIdent (now (a .0)))
   pub is-timestamp : Answers is-timestamp.Post (λ κs a. isTimestamp (now (a .0)))
+  pub moment-of : Answers moment-of.Post (λ κs a. momentOf (now (a .0)))
+  pub expiry-of : Answers expiry-of.Post (λ κs a. expiryOf (now (a .0)))
   pub is-hex : Answers is-hex.Post (λ κs a. isHex (a .0) (now (a .1 .0)))
   pub is-point : Answers is-point.Post (λ κs a. isPoint (now (a .0)))
   pub is-sig : Answers is-sig.Post (λ κs a. isSig (now (a .0)))

@@ -44,6 +44,7 @@ use Rattle.cabinet.proofs.key_place.Reads as key-place
 use Rattle.cabinet.proofs.find_key.Reads as find-key
 use Rattle.list_text.proofs.write_list.Reads as write-list
 use Rattle.newer.proofs.newer_of.Reads as newer-of
+use Rattle.expiry.proofs.expiry_of.Reads as expiry-of
 use Rattle.newer.proofs.newer.Reads as newer
 use Rattle.fingerprint.proofs.check_fingerprint.Reads as check-fingerprint
 use Rattle.fingerprint.proofs.write_fingerprint.Reads as write-fingerprint
@@ -123,6 +124,7 @@ pub record Refusals : Type 0 where
   pub write-list : GivesOnly write-list.Post (λ κs r s. r .no) (0 ∷ 10 ∷ [])
   -- the newer key
   pub newer-of : GivesOnly newer-of.Post (λ κs r s. r .no) (13 ∷ ofPubkeys)
+  pub expiry-of : GivesOnly expiry-of.Post (λ κs r s. r .no) ofPubkeys
   pub newer : GivesOnly newer.Post (λ κs r s. now (s .1 .1 .0)) (13 ∷ ofPubkeys)
   -- the Fingerprint of a public key: no other call gives 15
   pub check-fingerprint : GivesOnly check-fingerprint.Post (λ κs r s. r .no) (15 ∷ ofPubkeys)

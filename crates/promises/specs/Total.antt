@@ -10,6 +10,8 @@ use Rattle.text.proofs.are_same.Reads as are-same
 use Rattle.text.proofs.is_ident.Reads as is-ident
 use Rattle.text.proofs.is_timestamp.Reads as is-timestamp
 use Rattle.text.proofs.is_later.Reads as is-later
+use Rattle.text.proofs.moment_of.Reads as moment-of
+use Rattle.text.proofs.seconds_bytes.Reads as seconds-bytes
 use Rattle.text.proofs.is_hex.Reads as is-hex
 use Rattle.text.proofs.is_point.Reads as is-point
 use Rattle.text.proofs.is_sig.Reads as is-sig
@@ -106,6 +108,7 @@ use Rattle.fingerprint.proofs.write_fingerprint.Reads as write-fingerprint
 use Rattle.confirm.proofs.confirm_request.Reads as confirm-request
 use Rattle.confirm.proofs.confirm_response.Reads as confirm-response
 use Rattle.newer.proofs.newer_of.Reads as newer-of
+use Rattle.expiry.proofs.expiry_of.Reads as expiry-of
 use Rattle.newer.proofs.newer.Reads as newer
 use Rattle.exports.proofs.check.obscurlane_crc_begin.Reads as c-crc-begin
 use Rattle.exports.proofs.check.obscurlane_crc_add.Reads as c-crc-add
@@ -113,6 +116,8 @@ use Rattle.exports.proofs.check.obscurlane_crc_end.Reads as c-crc-end
 use Rattle.exports.proofs.check.obscurlane_crc_of.Reads as c-crc-of
 use Rattle.exports.proofs.types.obscurlane_is_ident.Reads as c-is-ident
 use Rattle.exports.proofs.types.obscurlane_is_timestamp.Reads as c-is-timestamp
+use Rattle.exports.proofs.dates.obscurlane_moment_of.Reads as c-moment-of
+use Rattle.exports.proofs.dates.obscurlane_expiry_of.Reads as c-expiry-of
 use Rattle.exports.proofs.types.obscurlane_is_hex.Reads as c-is-hex
 use Rattle.exports.proofs.types.obscurlane_is_point.Reads as c-is-point
 use Rattle.exports.proofs.types.obscurlane_is_sig.Reads as c-is-sig
@@ -175,6 +180,8 @@ pub record Total : Type 0 where
   pub is-ident : Takes is-ident.Pre
   pub is-timestamp : Takes is-timestamp.Pre
   pub is-later : Takes is-later.Pre
+  pub moment-of : Takes moment-of.Pre
+  pub seconds-bytes : Takes seconds-bytes.Pre
   pub is-hex : Takes is-hex.Pre
   pub is-point : Takes is-point.Pre
   pub is-sig : Takes is-sig.Pre
@@ -294,6 +301,8 @@ pub record Total : Type 0 where
   pub confirm-response : Takes confirm-response.Pre
   -- newer
   pub newer-of : Takes newer-of.Pre
+  -- expiry
+  pub expiry-of : Takes expiry-of.Pre
   pub newer : Takes newer.Pre
   -- the C interface
   pub c-crc-begin : Takes c-crc-begin.Pre
@@ -302,6 +311,8 @@ pub record Total : Type 0 where
   pub c-crc-of : Takes c-crc-of.Pre
   pub c-is-ident : Takes c-is-ident.Pre
   pub c-is-timestamp : Takes c-is-timestamp.Pre
+  pub c-moment-of : Takes c-moment-of.Pre
+  pub c-expiry-of : Takes c-expiry-of.Pre
   pub c-is-hex : Takes c-is-hex.Pre
   pub c-is-point : Takes c-is-point.Pre
   pub c-is-sig : Takes c-is-sig.Pre

@@ -4,18 +4,21 @@ use Prim.Native.Nat.{ℕ, zero, suc, _+_}
 use mathlib.Core.Path.{_≡_}
 use mathlib.Core.Bool.{Bool, cond}
 use mathlib.Core.List.{List, [], _∷_, _++_}
+use lib.IntN.{ℤ}
 use Rattle.text.specs.Text.{Bytes}
 use Rattle.format.specs.Kinds.{Field}
 
 -- what is computed, and what it must be
 pub data Value : Type 0 where
   number : ℕ → ℕ → Value
+  signed : ℤ → ℤ → Value
   bytes : Bytes → Bytes → Value
   test : Bool → Bool → Value
   types : List Field → List Field → Value
 
 abbrev pub Comes : Value → Type 0
 Comes (number n m) = n ≡ m
+Comes (signed x y) = x ≡ y
 Comes (bytes s t) = s ≡ t
 Comes (test b c) = b ≡ c
 Comes (types ts us) = ts ≡ us

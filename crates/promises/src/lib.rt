@@ -18,6 +18,7 @@ ghost use Rattle.promises.specs.Files.{Files};
 ghost use Rattle.promises.specs.Trailed.{Trailed};
 ghost use Rattle.promises.specs.Mail.{Mail};
 ghost use Rattle.promises.specs.Cabinet.{Cabinet};
+ghost use Rattle.promises.specs.Dates.{Dates};
 ghost use Rattle.promises.specs.Listing.{Listing};
 ghost use Rattle.promises.specs.Demand3.{Demand3};
 ghost use Rattle.promises.specs.Newer.{Newer};
@@ -31,5 +32,5 @@ ghost use Rattle.promises.specs.Starred.{starred};
 ghost use Rattle.promises.specs.Fixed.{fixed};
 
 fn promised()
-    ensures { λ _. ⌜ Total × Determined × Interface × Refusals × FieldNumbers × Check × TextTypes × Conversion × Calendar × Reading × Attributes × Building × Rebuilding × Agreement × Files × Trailed × Mail × Cabinet × Listing × Demand3 × Newer × Hash × Fingerprints × Confirmations × Witnesses × Forms × AllCome starred × AllCome fixed ⌝ }
+    ensures { λ _. ⌜ Total × Determined × Interface × Refusals × FieldNumbers × Check × TextTypes × Conversion × Calendar × Reading × Attributes × Building × Rebuilding × Agreement × Files × Trailed × Mail × Cabinet × Dates × Listing × Demand3 × Newer × Hash × Fingerprints × Confirmations × Witnesses × Forms × AllCome starred × AllCome fixed ⌝ }
 {}

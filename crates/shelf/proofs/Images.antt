@@ -1,10 +1,10 @@
 -- A place and its bytes, a cabinet and its image: each gives the other.
 -- Assumes nothing.
-use Prim.Native.Nat.{ℕ, zero, suc, _+_, _-_, _*_}
+use Prim.Native.Nat.{ℕ, zero, suc, _+_, _-_, _*_, _<_}
 use mathlib.Core.Path.{_≡_, refl, sym, ap, ap₂, _∙_, subst}
 use mathlib.Core.Bool.{Bool, true, false, not}
 use mathlib.Core.Option.{Option, none, some}
-use mathlib.Core.List.{List, [], _∷_, _++_}
+use mathlib.Core.List.{List, [], _∷_, _++_, append-assoc}
 use native.Mathlib.Omega.{arith}
 use native.Mathlib.Nat.{suc-mul, zero-mul, add-comm}
 use lib.ListN.{length, take, drop, length-append, length-replicate, length-drop, take-append-drop}
@@ -12,10 +12,12 @@ use lib.Seq.{take-at, drop-at}
 use lib.Dec.{T, eqb, eqb→eq, eqb-refl}
 use Rattle.text.specs.Text.{Bytes, same, without}
 use Rattle.text.proofs.Tests.{by-test, cond-yes, cond-no, same→eq, same-refl}
+use Rattle.text.proofs.Seconds.{bytes-length}
 use Rattle.format.specs.Files.{upTo}
 use Rattle.format.proofs.Lines.{upTo-first}
+use Rattle.expiry.specs.Expiry.{expiryOf}
 use Rattle.shelf.specs.Places.{Names, Held, Place, free, held, holds, contents, lookup, distinct}
-use Rattle.shelf.specs.Cabinet.{places, width, Reading, about, declined, reads, zeros, encode, whole, decodeAs, decode, parts, both, decodeAll, provided, whereDistinct, shelf, image}
+use Rattle.shelf.specs.Cabinet.{places, width, numberAt, numberOf, Reading, about, declined, reads, zeros, encode, whole, decodeAs, decode, parts, both, decodeAll, provided, whereDistinct, shelf, image}
 use Rattle.shelf.proofs.Places.{lookup-here, lookup-there}
 use Rattle.shelf.proofs.Readings.{fitting}
 
@@ -28,9 +30,19 @@ pub upTo-zeros : (n : ℕ) → upTo 0 (zeros n) ≡ []
 upTo-zeros zero = refl
 upTo-zeros (suc n) = refl
 
--- a text that has no zero byte, with zeros after it
-pub upTo-text : (r : Bytes) (n : ℕ) → T (without 0 r) → upTo 0 (r ++ zeros n) ≡ r
-upTo-text r n h = upTo-first 0 r (zeros n) h (upTo-zeros n)
+-- a text that has no zero byte, with a zero or more after it, and anything behind them
+upTo-text : (r t : Bytes) (n : ℕ) → 0 < n → T (without 0 r) → upTo 0 ((r ++ zeros n) ++ t) ≡ r
+upTo-text r t n l h = rw (append-assoc r (zeros n) t) (upTo-first 0 r (zeros n ++ t) h (go n l))
+  where
+    go : (n : ℕ) → 0 < n → upTo 0 (zeros n ++ t) ≡ []
+    go zero l = absurd (omega arith)
+    go (suc n) l = refl
+
+-- ---- the number of Expiry
+
+pub number-length : (r : Bytes) → length (numberOf r) ≡ 8
+unfolding numberOf
+number-length r = bytes-length (expiryOf r .seconds)
 
 -- ---- the tests of a cabinet, each by what it gives
 
@@ -97,16 +109,18 @@ decode-some b p e =
     (λ t. decodeAs-some b (upTo 0 b) (reads (upTo 0 b)) refl p (sym (cond-no (same b (encode free)) (some free) _ t) ∙ e))
 
 pub length-encode : (p : Place) → Good p → length (encode p) ≡ width
-unfolding encode
+unfolding encode width numberAt
 length-encode free g = length-zeros width
 length-encode (held h) g =
     let f = fitting (h .text) (h .names) (h .gnt) g .long in
-    simp (length-append, length-zeros) (omega arith)
+    simp (length-append, length-zeros, number-length) (omega arith)
 
 module _ (h : Held) (g : Good (held h)) where
   pub text-back : upTo 0 (encode (held h)) ≡ h .text
   unfolding encode
-  text-back = upTo-text (h .text) (width - length (h .text)) (fitting (h .text) (h .names) (h .gnt) g .no-zero)
+  text-back =
+      let f = fitting (h .text) (h .names) (h .gnt) g in
+      upTo-text (h .text) (numberOf (h .text)) (numberAt - length (h .text)) (omega (arith, f .long)) (f .no-zero)
 
   pub held-not-free : T (not (same (encode (held h)) (encode free)))
   unfolding encode

@@ -1,7 +1,7 @@
 -- What is read from a public key that is accepted: its Subject's names and GNT. Such a record may stand in a place: it is no longer than one, not empty, and has
 -- no zero byte. And a reading that is declined has a number of the reading calls.
 -- Assumes nothing.
-use Prim.Native.Nat.{ℕ, zero, suc, _≤_}
+use Prim.Native.Nat.{ℕ, zero, suc, _<_}
 use mathlib.Core.Path.{_≡_, refl, sym, ap, _∙_}
 use mathlib.Core.Logic.{_≢_, ⊎-elim}
 use mathlib.Core.Bool.{not}
@@ -11,13 +11,13 @@ use lib.ListN.{length}
 use lib.Dec.{T, eqb, eqb→eq}
 use mir.Facts.{or-yes}
 use Rattle.text.specs.Text.{Bytes, oneOf, allOf, without, isTimestamp}
-use Rattle.format.specs.Kinds.{Kind, name, mark, fieldsOf, pubkeyKinds, identityKinds}
+use Rattle.format.specs.Kinds.{Kind, name, mark, fieldsOf, among, pubkeyKinds, keyKinds, identityKinds}
 use Rattle.format.specs.Build.{IsIdentity}
 use Rattle.format.specs.Read.{Outcome, accepted, refused, nobody, readIdentity, readOf}
-use Rattle.format.proofs.Table.{every-kind, absent}
+use Rattle.format.proofs.Table.{every-kind, all-among, absent}
 use Rattle.format.proofs.Parts.{record-length, record-without}
 use Rattle.format.proofs.Fields.{fields-clean}
-use Rattle.format.proofs.Exactly.{identity-tame, identity-says, read-exact, read-says, built-length}
+use Rattle.format.proofs.Exactly.{identity-tame, identity-says, read-exact, read-says, built-shorter}
 use Rattle.format.proofs.Outcomes.{Honest}
 use Rattle.format.proofs.Refusals.{over-given}
 use Rattle.subjects.specs.Subjects.{manufacturer, mid, gnt}
@@ -25,7 +25,7 @@ use Rattle.subjects.specs.Keys.{subject, Key}
 use Rattle.subjects.proofs.Keys.{key}
 use Rattle.subjects.proofs.Subjects.{identity-gnt}
 use Rattle.shelf.specs.Places.{Names, named}
-use Rattle.shelf.specs.Cabinet.{width, about, declined, askedBy, asks, readBy, reads}
+use Rattle.shelf.specs.Cabinet.{numberAt, about, declined, askedBy, asks, readBy, reads}
 use Rattle.shelf.proofs.Places.{clash}
 
 -- ---- of an identity
@@ -93,18 +93,22 @@ zero-absent = every-kind (λ k. allOf (map (absent 0) (fieldsOf k))) tt
 mark-no-zero : (k : Kind) → T (not (eqb (mark k) 0))
 mark-no-zero = every-kind (λ k. not (eqb (mark k) 0)) tt
 
+no-wrapped-key : (k : Kind) → T (among k pubkeyKinds) → T (not (among k keyKinds))
+no-wrapped-key = all-among (λ k. T (not (among k keyKinds))) pubkeyKinds (tt, (tt, tt))
+
 pub record Fitting (r : Bytes) : Type 0 where
-  pub long : length r ≤ width
+  -- before the number, with a zero between
+  pub long : length r < numberAt
   pub some-byte : length r ≢ 0
   pub no-zero : T (without 0 r)
 
 pub fitting : (r : Bytes) (k : Names) (g : Bytes) → reads r ≡ about k g → Fitting r
-unfolding width
+unfolding numberAt
 fitting r k g e =
     let q = held-of r k g e .key in
     let b = read-exact pubkeyKinds r (q .kind) (q .fields) .0 (q .is) in
     record {
-      long = rw (b .built) (built-length (q .kind) (q .fields) (b .permitted));
+      long = rw (b .built) (omega (arith, built-shorter (q .kind) (q .fields) (no-wrapped-key (q .kind) (b .of-kind)) (b .permitted)));
       some-byte = λ z. omega (arith, record-length (q .kind) (q .fields), ap length (b .built));
       no-zero = rw (b .built) (record-without 0 tt (q .kind) (q .fields) (mark-no-zero (q .kind)) (fields-clean IsIdentity identity-tame 0 (fieldsOf (q .kind)) (q .fields) (zero-absent (q .kind)) (b .permitted .fit)));
     }

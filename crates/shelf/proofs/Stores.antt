@@ -47,7 +47,7 @@ unfolding encode
 text-front free h e t = let z : _≡_ {A = ℕ} 0 1 = cc in absurd (omega arith)
 text-front (held g) h e t =
     let f : g ≡ h = cc in
-    rw (← f) (ap (take (length (g .text))) (append-assoc (g .text) _ t) ∙ take-append-seam (g .text) _)
+    rw (← f) (ap (take (length (g .text))) (append-assoc (g .text ++ _) _ t ∙ append-assoc (g .text) _ _) ∙ take-append-seam (g .text) _)
 
 pub found-part : (k : Names) (ps : List Place) (h : Held) → AllGood ps → lookup k ps ≡ some h
     → take (length (h .text)) (drop (lowest (holds k) ps * width) (image ps)) ≡ h .text

@@ -1,5 +1,5 @@
--- The centre's key cabinet: document 02, E8. 64 places of 1,024 bytes; each is all zeros, or an accepted public key and zeros after it, and no two records
--- share Subject kind, Manufacturer and MID. All other memory is no cabinet: number 23, before all.
+-- The centre's key cabinet: document 02, E8 and E9. 64 places of 1,024 bytes; each is all zeros, or an accepted public key, zeros after it and in the last eight bytes
+-- the number of its Expiry, and no two records share Subject kind, Manufacturer and MID. All other memory is no cabinet: number 23, before all.
 -- Assumes nothing.
 use Prim.Native.Nat.{ℕ, zero, suc, _-_, _*_}
 use mathlib.Core.Bool.{Bool, true, false, cond}
@@ -8,6 +8,7 @@ use mathlib.Core.List.{List, [], _∷_, _++_}
 use lib.ListN.{length, take, drop, replicate}
 use lib.Dec.{eqb}
 use Rattle.text.specs.Text.{Bytes, same}
+use Rattle.text.specs.Seconds.{secondsBytes}
 use Rattle.text.specs.Later.{later}
 use Rattle.numbers.specs.Numbers.{notCabinet, notLater, noPlace, notThere}
 use Rattle.format.specs.Kinds.{name, pubkeyKinds}
@@ -15,6 +16,7 @@ use Rattle.format.specs.Read.{Outcome, accepted, refused, readIdentity, readOf}
 use Rattle.format.specs.Files.{upTo}
 use Rattle.subjects.specs.Subjects.{manufacturer, mid, gnt}
 use Rattle.subjects.specs.Keys.{subject}
+use Rattle.expiry.specs.Expiry.{expiryOf}
 use Rattle.shelf.specs.Places.{Names, named, Held, Place, free, held, isFree, holds, lookup, change, lowest, occupied, anyFree, distinct}
 
 -- how many places there are, and the bytes of each
@@ -23,6 +25,10 @@ places = 64
 
 unfoldable pub width : ℕ
 width = 1024
+
+-- where the number of Expiry begins in a place
+unfoldable pub numberAt : ℕ
+numberAt = 1016
 
 -- ---- what is read: the three names and the GNT, or the numbers of the refusal and of the field
 
@@ -51,9 +57,13 @@ reads s = readBy (readOf pubkeyKinds s)
 abbrev pub zeros : ℕ → Bytes
 zeros n = replicate n 0
 
+-- "that number, big-endian two's complement in the last eight bytes of an occupied place", and what the record's text says of it (E9)
+unfoldable pub numberOf : Bytes → Bytes
+numberOf r = secondsBytes (expiryOf r .seconds)
+
 unfoldable pub encode : Place → Bytes
 encode free = zeros width
-encode (held h) = h .text ++ zeros (width - length (h .text))
+encode (held h) = (h .text ++ zeros (numberAt - length (h .text))) ++ numberOf (h .text)
 
 -- p, where its bytes are b
 abbrev pub whole : Bytes → Place → Option Place

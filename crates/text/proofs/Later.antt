@@ -1,21 +1,28 @@
 -- Of two texts with the pattern of a TIMESTAMP the one that is later byte by byte is later by the parts of its date: the pattern
--- alone counts, and not the ranges of the parts. And later is an order of TIMESTAMPs.
+-- alone counts, and not the ranges of the parts. Of two TIMESTAMPs that one has the greater number of seconds. And later is an
+-- order of TIMESTAMPs.
 -- Assumes nothing.
 use Prim.Native.Nat.{ℕ, zero, suc, _+_, _-_, _*_, _<_}
-use mathlib.Core.Path.{_≡_, refl, sym, ap, ap₂, _∙_}
-use mathlib.Core.Bool.{Bool, true, false, not}
+use mathlib.Core.Path.{_≡_, refl, sym, ap, ap₂, subst, _∙_}
+use mathlib.Core.Bool.{Bool, true, false, not, true≢false, false≢true}
 use mathlib.Core.List.{List, [], _∷_, _++_}
 use native.Mathlib.Omega.{arith}
 use lib.ListN.{length, take, drop, take-append-drop}
 use lib.Seq.{drop-drop}
 use lib.Dec.{T, eqb, eqb→eq}
+use lib.IntN.{ℤ, pos, negsuc}
+use lib.Signed.{_<ℤ_, ltZ, <ℤ-irrefl}
 use mir.Facts.{and-yes, yes-and}
-use Rattle.text.specs.Text.{Bytes, ascii, after, oneOf, every, part, decimal, fits, looks, numberFrom, number, isTimestamp}
-use Rattle.text.proofs.Tests.{cond-yes, cond-no, between-low, between-high}
+use borrow.Author.Tests.{le-ltb, ltb-true}
+use Rattle.text.specs.Text.{Bytes, ascii, after, oneOf, every, part, decimal, fits, looks, numberFrom, number, year, month, day, hour, minute, second, isTimestamp}
+use Rattle.text.proofs.Tests.{T-true, T-false, by-test, cond-yes, cond-no, between-low, between-high}
 use Rattle.text.proofs.Loops.{looks-pairwise, pairwise-length}
 use Rattle.text.proofs.Types.{stamp, timestamp-looks}
+use Rattle.text.specs.Seconds.{sinceYearOne, seconds, momentOf}
 use Rattle.text.specs.Later.{instant, later}
-use Rattle.text.proofs.Order.{by-order, after-less, after-equal, after-more, after-itself, after-one-way, after-neither}
+use Rattle.text.proofs.Counting.{earlier-year, earlier-month, earlier-day}
+use Rattle.text.proofs.Seconds.{parts, moment-seconds, seconds-less, sooner-day}
+use Rattle.text.proofs.Order.{by-order, after-less, after-equal, after-more, after-neither}
 
 -- ---- digits: two numbers of as many digits compare as their digits do
 
@@ -136,9 +143,8 @@ stamp-end : (s : Bytes) → T (looks stamp s) → drop 16 s ≡ []
 unfolding looks
 stamp-end s h = looks-letters [] (drop 16 s) tt (looks-drop 16 stamp s h)
 
-pub later-by-bytes : (s t : Bytes) → T (looks stamp s) → T (looks stamp t) → after s t ≡ later s t
-unfolding later
-later-by-bytes s t hs ht =
+parts-by-bytes : (s t : Bytes) → T (looks stamp s) → T (looks stamp t) → after s t ≡ after (instant s) (instant t)
+parts-by-bytes s t hs ht =
     let number = number-at stamp s t hs ht in
     let letters = letters-at stamp s t hs ht in
     let xs = instant s in
@@ -152,18 +158,90 @@ later-by-bytes s t hs ht =
     (number 13 2 tt [] []
     (letters 15 1 tt ∙ ap₂ after (stamp-end s hs) (stamp-end t ht)))))))
 
--- ---- later is an order of TIMESTAMPs
+-- ---- the seconds of TIMESTAMPs
+
+-- a list that is after another is so by its first part, or that is equal and the rest decides
+first {ℓ} : {X : Type ℓ} (x y : ℕ) (xs ys : List ℕ) → after (x ∷ xs) (y ∷ ys) ≡ true → (y < x → X) → (x ≡ y → after xs ys ≡ true → X) → X
+first x y xs ys h f g =
+    by-order x y
+    (λ l. absurd (true≢false (sym h ∙ after-less x y xs ys l)))
+    (λ e. g e (sym (after-equal x y xs ys e) ∙ h))
+    f
+
+module _ (s t : Bytes) (hs : T (isTimestamp s)) where
+  sooner : after (instant t) (instant s) ≡ true → sinceYearOne s < sinceYearOne t
+  unfolding sinceYearOne
+  sooner h =
+      let p = parts s hs in
+      let xs = instant t in
+      let ys = instant s in
+      first (year t) (year s) (drop 1 xs) (drop 1 ys) h
+      (λ l. sooner-day s t hs (earlier-year (p .date) (year t) (month t) (day t) l))
+      (λ ey h₁. first (month t) (month s) (drop 2 xs) (drop 2 ys) h₁
+      (λ l. sooner-day s t hs (rw ey (earlier-month (p .date) (month t) (day t) l)))
+      (λ em h₂. first (day t) (day s) (drop 3 xs) (drop 3 ys) h₂
+      (λ l. sooner-day s t hs (rw (ey, em) (earlier-day (p .date) (day t) l)))
+      (λ ed h₃. first (hour t) (hour s) (drop 4 xs) (drop 4 ys) h₃
+      (λ l. rw (ey, em, ed) (omega (arith, p .minute-to, p .second-to)))
+      (λ eh h₄. first (minute t) (minute s) (drop 5 xs) (drop 5 ys) h₄
+      (λ l. rw (ey, em, ed, eh) (omega (arith, p .second-to)))
+      (λ ei h₅. first (second t) (second s) [] [] h₅
+      (λ l. rw (ey, em, ed, eh, ei) (omega arith))
+      (λ es h₆. absurd (false≢true h₆)))))))
+
+-- the order of the texts is the order of the seconds
+pub later-seconds : (s t : Bytes) → T (isTimestamp s) → T (isTimestamp t) → after s t ≡ true → seconds t <ℤ seconds s
+later-seconds s t hs ht h =
+    seconds-less t s (sooner t s ht (sym (parts-by-bytes s t (timestamp-looks s hs) (timestamp-looks t ht)) ∙ h))
+
+-- equal seconds only for equal texts
+pub seconds-inj : (s t : Bytes) → T (isTimestamp s) → T (isTimestamp t) → seconds s ≡ seconds t → s ≡ t
+seconds-inj s t hs ht e = after-neither s t (not-after s t hs ht e) (not-after t s ht hs (sym e))
+  where
+    not-after : (s t : Bytes) → T (isTimestamp s) → T (isTimestamp t) → seconds s ≡ seconds t → after s t ≡ false
+    not-after s t hs ht e =
+        by-test (after s t)
+        (λ l. absurd (<ℤ-irrefl (subst (λ (z : ℤ). seconds t <ℤ z) e (later-seconds s t hs ht (T-true (after s t) l)))))
+        (T-false (after s t))
+
+-- ---- later
+
+ltZ-itself : (z : ℤ) → ltZ z z ≡ false
+ltZ-itself (pos n) = le-ltb n n (omega arith)
+ltZ-itself (negsuc n) = le-ltb n n (omega arith)
+
+ltZ-one-way : (y z : ℤ) → ltZ y z ≡ true → ltZ z y ≡ false
+ltZ-one-way (pos m) (pos n) h = le-ltb n m (omega (arith, ltb-true m n h))
+ltZ-one-way (pos m) (negsuc n) h = absurd (false≢true h)
+ltZ-one-way (negsuc m) (pos n) h = refl
+ltZ-one-way (negsuc m) (negsuc n) h = le-ltb m n (omega (arith, ltb-true n m h))
 
 pub later-itself : (s : Bytes) → later s s ≡ false
 unfolding later
-later-itself s = after-itself (instant s)
+later-itself s = ltZ-itself (momentOf s .seconds)
 
 pub later-one-way : (s t : Bytes) → later s t ≡ true → later t s ≡ false
 unfolding later
-later-one-way s t = after-one-way (instant s) (instant t)
+later-one-way s t = ltZ-one-way (momentOf t .seconds) (momentOf s .seconds)
+
+module _ (s t : Bytes) (hs : T (isTimestamp s)) (ht : T (isTimestamp t)) where
+  pub later-by-seconds : later s t ≡ ltZ (seconds t) (seconds s)
+  unfolding later
+  later-by-seconds = ap₂ ltZ (moment-seconds t ht) (moment-seconds s hs)
+
+  -- of two TIMESTAMPs, it is the order of the texts, and so that of the parts of the date
+  pub later-by-bytes : later s t ≡ after s t
+  later-by-bytes =
+      later-by-seconds
+      ∙ by-test (after s t)
+      (λ h. let e = T-true (after s t) h in T-true (ltZ (seconds t) (seconds s)) (later-seconds s t hs ht e .lt) ∙ sym e)
+      (λ h. let e = T-false (after s t) h in
+      by-test (after t s)
+      (λ k. ltZ-one-way (seconds s) (seconds t) (T-true (ltZ (seconds s) (seconds t)) (later-seconds t s ht hs (T-true (after t s) k) .lt)) ∙ sym e)
+      (λ k. ap (λ (x : Bytes). ltZ (seconds t) (seconds x)) (after-neither s t e (T-false (after t s) k)) ∙ ltZ-itself (seconds t) ∙ sym e))
+
+  pub later-by-parts : later s t ≡ after (instant s) (instant t)
+  later-by-parts = later-by-bytes ∙ parts-by-bytes s t (timestamp-looks s hs) (timestamp-looks t ht)
 
 pub later-neither : (s t : Bytes) → T (isTimestamp s) → T (isTimestamp t) → later s t ≡ false → later t s ≡ false → s ≡ t
-later-neither s t hs ht e f =
-    let ps = timestamp-looks s hs in
-    let pt = timestamp-looks t ht in
-    after-neither s t (later-by-bytes s t ps pt ∙ e) (later-by-bytes t s pt ps ∙ f)
+later-neither s t hs ht e f = after-neither s t (sym (later-by-bytes s t hs ht) ∙ e) (sym (later-by-bytes t s ht hs) ∙ f)

@@ -3,6 +3,8 @@ pub mod Loops
 pub mod Hexadecimal
 pub mod Types
 pub mod Days
+pub mod Counting
+pub mod Seconds
 pub mod Order
 pub mod Later
 pub mod Part

@@ -1,17 +1,13 @@
 -- The order of lists in which the first part that differs decides: two lists compare one way at most, and lists that compare
--- neither way are equal. A turn of the loop that compares bytes.
+-- neither way are equal.
 -- Assumes nothing.
-use Prim.Native.Nat.{ℕ, suc, _+_, _≤_, _<_}
+use Prim.Native.Nat.{ℕ, _<_}
 use mathlib.Core.Path.{_≡_, refl, sym, ap₂, _∙_}
-use mathlib.Core.Bool.{true, false, true≢false, false≢true, or-false}
+use mathlib.Core.Bool.{true, false, true≢false, false≢true}
 use mathlib.Core.List.{List, [], _∷_}
 use native.Mathlib.Omega.{arith}
-use native.Mathlib.Numerals.{add-one}
-use lib.ListN.{length, drop, getD, drop-of-length-le}
-use lib.Seq.{drop-cons}
-use lib.Dec.{ltb}
 use borrow.Author.Tests.{lt-ltb, le-ltb, eq-eqb, ne-eqb}
-use Rattle.text.specs.Text.{Bytes, after}
+use Rattle.text.specs.Text.{after}
 use Rattle.text.proofs.Tests.{less-or}
 
 pub by-order {ℓ} : {X : Type ℓ} (x y : ℕ) → (x < y → X) → (x ≡ y → X) → (y < x → X) → X
@@ -54,18 +50,3 @@ after-neither (x ∷ xs) (y ∷ ys) h k =
     (λ e. ap₂ {C = List ℕ} (λ z zs. z ∷ zs) e
     (after-neither xs ys (sym (after-equal x y xs ys e) ∙ h) (sym (after-equal y x ys xs (sym e)) ∙ k)))
     (λ l. absurd (true≢false (sym (after-more x y xs ys l) ∙ h)))
-
--- ---- a turn of the loop at place i
-
-module _ (s t : Bytes) (i : ℕ) where
-  pub turn-longer : i < length s → length t ≤ i → after (drop i s) (drop i t) ≡ true
-  turn-longer h k = rw (drop-cons s i 0 h, drop-of-length-le t k)
-
-  pub turn-apart : i < length s → i < length t → (getD s i 0 ≡ getD t i 0 → ⊥) → after (drop i s) (drop i t) ≡ ltb (getD t i 0) (getD s i 0)
-  turn-apart h k n = rw (drop-cons s i 0 h, drop-cons t i 0 k, ne-eqb (getD s i 0) (getD t i 0) n) (or-false (ltb (getD t i 0) (getD s i 0)))
-
-  pub turn-on : i < length s → i < length t → getD s i 0 ≡ getD t i 0 → after (drop (i + 1) s) (drop (i + 1) t) ≡ after (drop i s) (drop i t)
-  turn-on h k e = rw (drop-cons s i 0 h, drop-cons t i 0 k, add-one) (sym (after-equal (getD s i 0) (getD t i 0) (drop (suc i) s) (drop (suc i) t) e))
-
-  pub turn-end : length s ≤ i → after (drop i s) (drop i t) ≡ false
-  turn-end h = rw (drop-of-length-le s h)

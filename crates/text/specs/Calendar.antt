@@ -1,6 +1,6 @@
--- The Gregorian calendar: document 02, E2.
+-- The Gregorian calendar: document 02, E2 and E9.
 -- Assumes nothing.
-use Prim.Native.Nat.{ℕ, zero, suc, _+_, _%_}
+use Prim.Native.Nat.{ℕ, zero, suc, _+_, _-_, _%_}
 use mathlib.Core.Bool.{Bool, cond, not, _&&_, _||_}
 use lib.Dec.{eqb}
 
@@ -15,7 +15,7 @@ leap y = (divisible y 4 && not (divisible y 100)) || divisible y 400
 abbrev pub daysOfMonth : ℕ → ℕ → ℕ
 daysOfMonth y m = cond (eqb m 2) (cond (leap y) 29 28) (cond (eqb m 4 || eqb m 6 || eqb m 9 || eqb m 11) 30 31)
 
--- ---- years, for what is promised of the calendar
+-- ---- counting days (E9)
 
 -- f 1 + .. + f n
 unfoldable pub sumTo : ℕ → (ℕ → ℕ) → ℕ
@@ -24,3 +24,7 @@ sumTo (suc n) f = sumTo n f + f (suc n)
 
 abbrev pub daysOfYear : ℕ → ℕ
 daysOfYear y = sumTo 12 (daysOfMonth y)
+
+-- the days from 1 January of the year 1 to day d of month m of year y: whole years, whole months, whole days
+unfoldable pub daysBefore : ℕ → ℕ → ℕ → ℕ
+daysBefore y m d = sumTo (y - 1) daysOfYear + sumTo (m - 1) (daysOfMonth y) + (d - 1)

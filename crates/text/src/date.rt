@@ -3,7 +3,7 @@ ghost use mathlib.Core.Path.{_≡_};
 ghost use Prim.Native.Nat.{_+_, _-_, _≤_, _<_};
 ghost use lib.ListN.{length};
 ghost use Rattle.text.specs.Calendar.{daysOfMonth};
-ghost use Rattle.text.specs.Text.{after, between, fits, looks, number, part, year, month, day, isTimestamp};
+ghost use Rattle.text.specs.Text.{between, fits, looks, number, part, year, month, day, isTimestamp};
 
 // The byte c stands where a pattern has p: T and Z for themselves, any other letter for a digit.
 fn does_fit(p: u8, c: u8) -> bool
@@ -60,7 +60,7 @@ fn is_two_between(low: usize, high: usize, s: &[u8], i: usize) -> bool
     crate::alphabet::is_between(low, high, two(s, i))
 }
 
-fn year_of(s: &[u8]) -> usize
+pub(crate) fn year_of(s: &[u8]) -> usize
     requires { ⌜ 4 ≤ length (now s) ⌝ }
     ensures { λ r. ⌜ r ≡ year (now (s .entry)) ⌝ }
 {
@@ -84,7 +84,7 @@ fn is_day(s: &[u8]) -> bool
 }
 
 // TIMESTAMP: YYYYMMDDThhmmssZ, every part in its range, the day by its month and year.
-pub fn is_timestamp(s: &[u8]) -> bool
+pub(crate) fn is_date(s: &[u8]) -> bool
     ensures { λ r. ⌜ r ≡ isTimestamp (now (s .entry)) ⌝ }
 {
     if !looks_like(b"YYYYMMDDThhmmssZ", s) {
@@ -106,22 +106,4 @@ pub fn is_timestamp(s: &[u8]) -> bool
         return false;
     }
     is_two_between(0, 59, s, 13)
-}
-
-// Whether s is later than t: the first byte that differs decides. Two TIMESTAMPs have digits and letters in the same
-// places, the greatest part of the date first, so this is their order in time.
-pub fn is_later(s: &[u8], t: &[u8]) -> bool
-    ensures { λ r. ⌜ r ≡ after (now (s .entry)) (now (t .entry)) ⌝ }
-{
-    let mut i = 0;
-    while i < s.len() {
-        if t.len() <= i {
-            return true;
-        }
-        if s[i] != t[i] {
-            return t[i] < s[i];
-        }
-        i += 1;
-    }
-    false
 }

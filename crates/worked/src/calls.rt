@@ -1,6 +1,7 @@
 // The calls that a step names. Each prints what the library hands back, and answers up to which place the value known
 // agrees.
 use crate::confirmations;
+use crate::dates;
 use crate::filing;
 use crate::say;
 use crate::writing;
@@ -289,28 +290,36 @@ pub(crate) const WRITE_MAIL: usize = 31;
 
 const READ_MAIL: usize = 32;
 
-const CABINET: usize = 33;
+const MOMENT_OF: usize = 33;
 
-pub(crate) const MAKE_CABINET: usize = 34;
+const EXPIRY_OF: usize = 34;
 
-pub(crate) const COUNT_KEYS: usize = 36;
+const CABINET: usize = 35;
 
-pub(crate) const PUT_KEY: usize = 37;
+pub(crate) const MAKE_CABINET: usize = 36;
 
-pub(crate) const REMOVE_KEY: usize = 38;
+pub(crate) const COUNT_KEYS: usize = 38;
 
-pub(crate) const KEY_PLACE: usize = 39;
+pub(crate) const PUT_KEY: usize = 39;
 
-pub(crate) const FIND_KEY: usize = 40;
+pub(crate) const REMOVE_KEY: usize = 40;
 
-pub(crate) const WRITE: usize = 41;
+pub(crate) const KEY_PLACE: usize = 41;
 
-const BUILD: usize = 42;
+pub(crate) const FIND_KEY: usize = 42;
+
+pub(crate) const WRITE: usize = 43;
+
+pub(crate) const WRITE_HEX: usize = 44;
+
+pub(crate) const READ_HEX: usize = 45;
+
+const BUILD: usize = 46;
 
 // Which of the names a word is; BUILD where it is none of them. Those behind `cabinet` are the names of calls in such a step.
 pub(crate) fn call_of(name: &[u8]) -> usize {
     let names =
-        b"newer file shared_info module_text centre_text module_item read_identity read_record identity_field record_field attribute attribute_named attributes sha384 thousandfold fingerprint check_fingerprint hmac module_tag centre_tag mac_key kek confirm_request confirm_response sha1 sha1_file sha1_thousandfold read_trailed build_trailed write_trailed trailed_file write_mail read_mail cabinet make_cabinet check_cabinet count_keys put_key remove_key key_place find_key write";
+        b"newer file shared_info module_text centre_text module_item read_identity read_record identity_field record_field attribute attribute_named attributes sha384 thousandfold fingerprint check_fingerprint hmac module_tag centre_tag mac_key kek confirm_request confirm_response sha1 sha1_file sha1_thousandfold read_trailed build_trailed write_trailed trailed_file write_mail read_mail moment_of expiry_of cabinet make_cabinet check_cabinet count_keys put_key remove_key key_place find_key write write_hex read_hex";
     let mut k: usize = 0;
     while k < BUILD {
         if text::are_same(name, frame::part(b' ', names, k)) {
@@ -355,6 +364,8 @@ pub(crate) fn run<'a>(
         BUILD_TRAILED => rebuild(known, a, trailed::read_trailed(a)),
         WRITE_TRAILED => writing::write(known, call, a, b),
         WRITE_MAIL | READ_MAIL => writing::by_mail(known, call, a, step),
+        MOMENT_OF => dates::moment(known, a),
+        EXPIRY_OF => dates::expiry(known, a),
         CABINET => filing::go(known, n, step),
         BUILD => rebuild(known, a, read(a)),
         _ => part(known, call, n, a, b),

@@ -1,6 +1,7 @@
 // The calls of the key cabinet. A step is a history of calls on one cabinet: each part from the third on is the name of a call
-// and, behind a blank, the record or the identity that it is given. `write` is no call of the library: it is given a place and,
-// behind a blank, what is written there into the lent bytes. Behind what a call answers stands the check of all lent bytes.
+// and, behind a blank, the record or the identity that it is given. Three are no calls of the library: `write` is given a place
+// and, behind a blank, what is written there into the lent bytes, `write_hex` the same in hexadecimal characters, and `read_hex`
+// a place, of which it answers eight bytes so. Behind what a call answers stands the check of all lent bytes.
 use crate::calls;
 use crate::say;
 ghost use mathlib.Core.Path.{_≡_};
@@ -15,21 +16,12 @@ fn zeros() -> [u8; 65537]
 
 // ---- what a call answers
 
-// The number, and the field's where one is named.
-fn print(known: &[u8], at: usize, no: u8, field: u8) -> usize {
-    let end = say::number(known, at, no as usize);
-    if field == 0 {
-        return end;
-    }
-    say::number(known, say::piece(known, end, b" field "), field as usize)
-}
-
 fn print_filed(known: &[u8], at: usize, said: cabinet::Filed) -> usize {
-    print(known, at, said.no, said.field)
+    say::answer(known, at, said.no, said.field)
 }
 
 fn print_count(known: &[u8], at: usize, said: cabinet::Counted) -> usize {
-    let end = print(known, at, said.no, 0);
+    let end = say::answer(known, at, said.no, 0);
     say::number(known, say::piece(known, end, b" keys "), said.count)
 }
 
@@ -40,7 +32,7 @@ fn print_long(known: &[u8], at: usize, n: usize) -> usize {
 }
 
 fn print_place(known: &[u8], at: usize, said: fields::Place) -> usize {
-    let mut end = print(known, at, said.no, said.field);
+    let mut end = say::answer(known, at, said.no, said.field);
     end = print_long(known, say::piece(known, end, b" at "), said.start);
     print_long(known, say::piece(known, end, b" length "), said.len)
 }
@@ -49,7 +41,7 @@ fn print_found<'a>(known: &[u8], at: usize, lent: &'a [u8], identity: &[u8]) -> 
     let mut no: u8 = 0;
     let mut field: u8 = 0;
     let part = cabinet::find_key(lent, identity, &mut no, &mut field);
-    let end = print(known, at, no, field);
+    let end = say::answer(known, at, no, field);
     if part.len() == 0 {
         return end;
     }
@@ -86,6 +78,20 @@ fn write(known: &[u8], at: usize, lent: &mut [u8], given: &[u8]) -> usize {
     say::piece(known, at, b"written")
 }
 
+fn write_hex(known: &[u8], at: usize, lent: &mut [u8], given: &[u8]) -> usize {
+    put::put_decoded(lent, number(frame::part(b' ', given, 0)), rest(given));
+    say::piece(known, at, b"written")
+}
+
+// The eight bytes from a place on.
+fn read_hex(known: &[u8], at: usize, lent: &[u8], given: &[u8]) -> usize {
+    let from = number(given);
+    let to = std::num::wrapping_add_usize(from, 8);
+    let mut made = [0u8; 16];
+    put::put_hex(&mut made, 0, say::cut(lent, from, to));
+    say::piece(known, at, &made)
+}
+
 // The calls that answer two numbers.
 fn change(call: usize, lent: &mut [u8], given: &[u8]) -> cabinet::Filed {
     match call {
@@ -102,6 +108,8 @@ fn answer(known: &[u8], at: usize, call: usize, lent: &mut [u8], given: &[u8]) -
         calls::KEY_PLACE => print_place(known, at, cabinet::key_place(lent, given)),
         calls::FIND_KEY => print_found(known, at, lent, given),
         calls::WRITE => write(known, at, lent, given),
+        calls::WRITE_HEX => write_hex(known, at, lent, given),
+        calls::READ_HEX => read_hex(known, at, lent, given),
         _ => print_filed(known, at, change(call, lent, given)),
     }
 }

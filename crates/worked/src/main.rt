@@ -6,6 +6,7 @@
 // gives, says of each whether it agrees, and at last how many do. docs/VECTORS.md tells where each value was taken from.
 mod calls;
 mod confirmations;
+mod dates;
 mod filing;
 mod say;
 mod writing;

@@ -47,6 +47,15 @@ pub(crate) fn number(known: &[u8], at: usize, n: usize) -> usize {
     )
 }
 
+// The number, and the field's where one is named.
+pub(crate) fn answer(known: &[u8], at: usize, no: u8, field: u8) -> usize {
+    let end = number(known, at, no as usize);
+    if field == 0 {
+        return end;
+    }
+    number(known, piece(known, end, b" field "), field as usize)
+}
+
 pub(crate) fn part(known: &[u8], no: u8, part: &[u8]) -> usize {
     if no != numbers::ACCEPTED {
         return number(known, piece(known, 0, b"refused "), no as usize);

@@ -1,7 +1,8 @@
 -- `cabinet::is_later_than` meets its contract.
 -- Assumes nothing.
 use mathlib.Core.Path.{ap, ap₂, _∙_}
-use Rattle.text.specs.Text.{Bytes, after}
+use Rattle.text.specs.Text.{Bytes}
+use Rattle.text.specs.Later.{later}
 use Rattle.subjects.specs.Subjects.{identityPart}
 use Rattle.cabinet.specs.Steps.{isLaterThan}
 use borrow.Author.Needs.{needs}
@@ -22,7 +23,7 @@ is-later-requires c κs = search needs
 
 returns : tie.Need-returns
 unfolding isLaterThan
-returns c = c .is-later .ensures ∙ ap₂ after (c .before .before .before .field-in .ensures .holds) (c .before .field-in2 .ensures .holds ∙ ap (λ (x : Bytes). identityPart x 3) (c .before .before .subject-in .ensures))
+returns c = c .is-later .ensures ∙ ap₂ later (c .before .before .before .field-in .ensures .holds) (c .before .field-in2 .ensures .holds ∙ ap (λ (x : Bytes). identityPart x 3) (c .before .before .subject-in .ensures))
 
 pub is-later-than-spec : {M : Type 1} → statement M
 is-later-than-spec =

@@ -3,7 +3,7 @@
 use mathlib.Core.Path.{sym, _∙_}
 use native.Mathlib.Omega.{arith}
 use borrow.Author.Tests.{not-true, not-false}
-use Rattle.cabinet.proofs.Decoding.{text-end, text-within, behind, place-bad, place-free, place-held}
+use Rattle.cabinet.proofs.Decoding.{place-free, place-long, place-gap, place-other, place-number}
 use borrow.Author.Needs.{needs}
 use Rattle.cabinet.proofs.is_place.Statement.{statement}
 use Rattle.cabinet.proofs.is_place.Tie as tie
@@ -11,52 +11,84 @@ use Rattle.cabinet.proofs.is_place.Tie as tie
 next-mark-requires : tie.Need-next-mark-requires
 next-mark-requires c κs = search needs
 
-sub-are-zeros : tie.Need-sub-are-zeros
-sub-are-zeros c = omega (arith, c .next-mark .ensures, text-end (c .before .before .args .place .now), text-within (c .before .before .args .place .now))
-
-part-are-zeros-start : tie.Need-part-are-zeros-start
-part-are-zeros-start c = omega (arith, c .next-mark .ensures, text-end (c .before .before .args .place .now), text-within (c .before .before .args .place .now))
-
-part-are-zeros-end : tie.Need-part-are-zeros-end
-part-are-zeros-end c = omega (arith, c .next-mark .ensures, text-end (c .before .before .args .place .now), text-within (c .before .before .args .place .now))
-
 are-zeros-requires : tie.Need-are-zeros-requires
 are-zeros-requires c κs = search needs
 
 returns : tie.Need-returns
-returns c = place-bad (c .before .before .before .before .before .args .place .now) (c .before .before .before .before .before .pre) (c .before .before .before .next-mark .ensures) (behind (c .before .before .before .before .before .args .place .now) (c .before .before .before .next-mark .result) ∙ sym (c .before .are-zeros .ensures) ∙ not-true _ (c .if1 .taken))
+returns c = c .are-zeros .ensures ∙ place-free (c .before .before .before .before .args .place .now) (c .before .before .before .before .pre) (c .before .before .next-mark .ensures) (c .before .if1 .taken)
 
 returns-2 : tie.Need-returns-2
-returns-2 c = place-free (c .before .before .before .before .before .before .args .place .now) (c .before .before .before .before .before .before .pre) (c .before .before .before .before .next-mark .ensures) (behind (c .before .before .before .before .before .before .args .place .now) (c .before .before .before .before .next-mark .result) ∙ sym (c .before .before .are-zeros .ensures) ∙ not-false _ (c .before .if1 .left)) (c .if2 .taken)
+returns-2 c = place-long (c .before .before .before .before .args .place .now) (c .before .before .before .before .pre) (c .before .before .next-mark .ensures) (c .before .if1 .left) (c .if2 .taken)
 
-sub-read-key : tie.Need-sub-read-key
-sub-read-key c = search needs
+part-are-zeros-start : tie.Need-part-are-zeros-start
+part-are-zeros-start c = search needs
 
-part-read-key-start : tie.Need-part-read-key-start
-part-read-key-start c = search needs
+part-are-zeros-end : tie.Need-part-are-zeros-end
+part-are-zeros-end c = omega (arith, c .before .before .before .before .pre)
 
-part-read-key-end : tie.Need-part-read-key-end
-part-read-key-end c = omega (arith, c .before .before .before .before .next-mark .ensures, text-end (c .before .before .before .before .before .before .args .place .now), text-within (c .before .before .before .before .before .before .args .place .now))
-
-read-key-requires : tie.Need-read-key-requires
-read-key-requires c κs = search needs
+are-zeros-requires-2 : tie.Need-are-zeros-requires-2
+are-zeros-requires-2 c κs = search needs
 
 returns-3 : tie.Need-returns-3
-returns-3 c = place-held (c .before .before .before .before .before .before .before .before .before .args .place .now) (c .before .before .before .before .before .before .before .before .before .pre) (c .before .before .before .before .before .before .before .next-mark .ensures) (behind (c .before .before .before .before .before .before .before .before .before .args .place .now) (c .before .before .before .before .before .before .before .next-mark .result) ∙ sym (c .before .before .before .before .before .are-zeros .ensures) ∙ not-false _ (c .before .before .before .before .if1 .left)) (c .before .before .before .if2 .left) (c .before .read-key .result) (c .before .read-key .ensures)
+returns-3 c = place-gap (c .before .before .before .before .before .before .before .args .place .now) (c .before .before .before .before .before .before .before .pre) (c .before .before .before .before .before .next-mark .ensures) (c .before .before .before .before .if1 .left) (c .before .before .before .if2 .left) (sym (c .before .are-zeros2 .ensures) ∙ not-true _ (c .if3 .taken))
+
+sub-expiry-of : tie.Need-sub-expiry-of
+sub-expiry-of c = search needs
+
+part-expiry-of-start : tie.Need-part-expiry-of-start
+part-expiry-of-start c = search needs
+
+part-expiry-of-end : tie.Need-part-expiry-of-end
+part-expiry-of-end c = omega (arith, c .before .before .before .before .before .before .before .pre, c .before .before .before .if2 .left)
+
+expiry-of-requires : tie.Need-expiry-of-requires
+expiry-of-requires c κs = search needs
+
+returns-4 : tie.Need-returns-4
+returns-4 c = place-other (c .before .before .before .before .before .before .before .before .before .before .before .args .place .now) (c .before .before .before .before .before .before .before .before .before .before .before .pre) (c .before .before .before .before .before .before .before .before .before .next-mark .ensures) (c .before .before .before .before .before .before .before .before .if1 .left) (c .before .before .before .before .before .before .before .if2 .left) (sym (c .before .before .before .before .before .are-zeros2 .ensures) ∙ not-false _ (c .before .before .before .before .if3 .left)) (c .before .before .expiry-of .ensures) (c .if4 .taken)
+
+seconds-bytes-requires : tie.Need-seconds-bytes-requires
+seconds-bytes-requires c κs = search needs
+
+sub-are-same : tie.Need-sub-are-same
+sub-are-same c = search needs
+
+part-are-same-start : tie.Need-part-are-same-start
+part-are-same-start c = search needs
+
+part-are-same-end : tie.Need-part-are-same-end
+part-are-same-end c = search needs
+
+slice-aggregate-are-same : tie.Need-slice-aggregate-are-same
+slice-aggregate-are-same c = search needs
+
+are-same-requires : tie.Need-are-same-requires
+are-same-requires c κs = search needs
+
+returns-5 : tie.Need-returns-5
+returns-5 c = c .are-same .ensures ∙ place-number (c .before .before .before .before .before .before .before .before .before .before .before .before .before .before .before .before .args .place .now) (c .before .before .before .before .before .before .before .before .before .before .before .before .before .before .before .before .pre) (c .before .before .before .before .before .before .before .before .before .before .before .before .before .before .next-mark .ensures) (c .before .before .before .before .before .before .before .before .before .before .before .before .before .if1 .left) (c .before .before .before .before .before .before .before .before .before .before .before .before .if2 .left) (sym (c .before .before .before .before .before .before .before .before .before .before .are-zeros2 .ensures) ∙ not-false _ (c .before .before .before .before .before .before .before .before .before .if3 .left)) (c .before .before .before .before .before .before .before .expiry-of .ensures) (c .before .before .before .before .before .if4 .left) (c .before .before .before .seconds-bytes .ensures)
 
 pub is-place-spec : {M : Type 1} → statement M
 is-place-spec =
     tie.close
     (tie.spec
     next-mark-requires
-    sub-are-zeros
-    part-are-zeros-start
-    part-are-zeros-end
     are-zeros-requires
     returns
     returns-2
-    sub-read-key
-    part-read-key-start
-    part-read-key-end
-    read-key-requires
-    returns-3)
+    part-are-zeros-start
+    part-are-zeros-end
+    are-zeros-requires-2
+    returns-3
+    sub-expiry-of
+    part-expiry-of-start
+    part-expiry-of-end
+    expiry-of-requires
+    returns-4
+    seconds-bytes-requires
+    sub-are-same
+    part-are-same-start
+    part-are-same-end
+    slice-aggregate-are-same
+    are-same-requires
+    returns-5)

@@ -56,8 +56,17 @@ part-write-place-start c = search needs
 part-write-place-end : tie.Need-part-write-place-end
 part-write-place-end c = search needs
 
+sub-write-place-2 : tie.Need-sub-write-place-2
+sub-write-place-2 c = search needs
+
+part-write-place-start-2 : tie.Need-part-write-place-start-2
+part-write-place-start-2 c = search needs
+
+part-write-place-end-2 : tie.Need-part-write-place-end-2
+part-write-place-end-2 c = search needs
+
 write-place-requires : tie.Need-write-place-requires
-write-place-requires c κs = record { long = its-size (c .before .before .before .before .before .before .before .before .before .before .before .before .before .before .args .cabinet .now) (sym (not-false _ (c .before .before .before .before .before .before .before .before .before .if1 .left)) ∙ c .before .before .before .before .before .before .before .before .before .before .is-cabinet .ensures); place = found-within (c .before .before .before .before .before .before .before .before .before .before .before .before .before .before .args .cabinet .now) (c .before .before .before .before .before .before .before .before .before .before .before .before .before .before .args .identity .now) (sym (not-false _ (c .before .before .before .before .before .before .before .before .before .if1 .left)) ∙ c .before .before .before .before .before .before .before .before .before .before .is-cabinet .ensures) (c .before .before .before .before .before .before .before .before .read-identity .ensures) (c .before .before .before .before .before .before .if2 .left) (c .before .before .before .before .names-in .ensures) (c .before .before .before .place-of .ensures) (c .before .before .if3 .left); short = omega arith }
+write-place-requires c κs = record { long = its-size (c .before .before .before .before .before .before .before .before .before .before .before .before .before .before .before .args .cabinet .now) (sym (not-false _ (c .before .before .before .before .before .before .before .before .before .before .if1 .left)) ∙ c .before .before .before .before .before .before .before .before .before .before .before .is-cabinet .ensures); place = found-within (c .before .before .before .before .before .before .before .before .before .before .before .before .before .before .before .args .cabinet .now) (c .before .before .before .before .before .before .before .before .before .before .before .before .before .before .before .args .identity .now) (sym (not-false _ (c .before .before .before .before .before .before .before .before .before .before .if1 .left)) ∙ c .before .before .before .before .before .before .before .before .before .before .before .is-cabinet .ensures) (c .before .before .before .before .before .before .before .before .before .read-identity .ensures) (c .before .before .before .before .before .before .before .if2 .left) (c .before .before .before .before .before .names-in .ensures) (c .before .before .before .before .place-of .ensures) (c .before .before .before .if3 .left); short = omega arith; eight = omega arith }
 
 file-requires-4 : tie.Need-file-requires-4
 file-requires-4 c κs = search needs
@@ -66,7 +75,7 @@ same-length-4 : tie.Need-same-length-4
 same-length-4 c = search needs
 
 returns-4 : tie.Need-returns-4
-returns-4 c = removes-done (c .before .before .before .before .before .before .before .before .before .before .before .before .before .before .before .before .before .before .args .cabinet .now) (c .before .before .before .before .before .before .before .before .before .before .before .before .before .before .before .before .before .before .args .identity .now) (sym (not-false _ (c .before .before .before .before .before .before .before .before .before .before .before .before .before .if1 .left)) ∙ c .before .before .before .before .before .before .before .before .before .before .before .before .before .before .is-cabinet .ensures) (c .before .before .before .before .before .before .before .before .before .before .before .before .read-identity .ensures) (c .before .before .before .before .before .before .before .before .before .before .if2 .left) (c .before .before .before .before .before .before .before .before .names-in .ensures) (c .before .before .before .before .before .before .before .place-of .ensures) (c .before .before .before .before .before .before .if3 .left) (c .before .before .before .write-place .ensures) (c .file4 .ensures)
+returns-4 c = removes-done (c .before .before .before .before .before .before .before .before .before .before .before .before .before .before .before .before .before .before .before .args .cabinet .now) (c .before .before .before .before .before .before .before .before .before .before .before .before .before .before .before .before .before .before .before .args .identity .now) (sym (not-false _ (c .before .before .before .before .before .before .before .before .before .before .before .before .before .before .if1 .left)) ∙ c .before .before .before .before .before .before .before .before .before .before .before .before .before .before .before .is-cabinet .ensures) (c .before .before .before .before .before .before .before .before .before .before .before .before .before .read-identity .ensures) (c .before .before .before .before .before .before .before .before .before .before .before .if2 .left) (c .before .before .before .before .before .before .before .before .before .names-in .ensures) (c .before .before .before .before .before .before .before .before .place-of .ensures) (c .before .before .before .before .before .before .before .if3 .left) (c .before .before .before .write-place .ensures) (c .file4 .ensures)
 
 pub remove-key-spec : {M : Type 1} → statement M
 remove-key-spec =
@@ -88,6 +97,9 @@ remove-key-spec =
     sub-write-place
     part-write-place-start
     part-write-place-end
+    sub-write-place-2
+    part-write-place-start-2
+    part-write-place-end-2
     write-place-requires
     file-requires-4
     same-length-4

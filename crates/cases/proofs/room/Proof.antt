@@ -7,7 +7,7 @@ use Rattle.cases.proofs.room.Statement.{statement}
 use Rattle.cases.proofs.room.Tie as tie
 
 returns : tie.Need-returns
-returns c = sym (length-replicate {A = ℕ} 3145728 0)
+returns c = sym (length-replicate {A = ℕ} 4194304 0)
 
 pub room-spec : {M : Type 1} → statement M
 room-spec = tie.close (tie.spec returns)

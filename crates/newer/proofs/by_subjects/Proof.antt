@@ -3,7 +3,7 @@
 use mathlib.Core.Path.{sym, ap₂, _∙_}
 use mathlib.Core.Bool.{true, false}
 use borrow.Author.Tests.{not-true, not-false}
-use Rattle.text.specs.Text.{after}
+use Rattle.text.specs.Later.{later}
 use Rattle.newer.proofs.Choosing.{said-unlike, said-alike}
 use borrow.Author.Needs.{needs}
 use Rattle.newer.proofs.by_subjects.Statement.{statement}
@@ -25,10 +25,10 @@ is-later-requires : tie.Need-is-later-requires
 is-later-requires c κs = search needs
 
 returns-2 : tie.Need-returns-2
-returns-2 c = λ p q. said-alike _ _ p q (sym (c .before .before .before .before .before .are-alike .ensures) ∙ not-false _ (c .before .before .before .before .if1 .left)) true (sym (c .before .is-later .ensures ∙ ap₂ after (c .before .before .before .field-in .ensures .holds) (c .before .before .field-in2 .ensures .holds)) ∙ c .if2 .taken)
+returns-2 c = λ p q. said-alike _ _ p q (sym (c .before .before .before .before .before .are-alike .ensures) ∙ not-false _ (c .before .before .before .before .if1 .left)) true (sym (c .before .is-later .ensures ∙ ap₂ later (c .before .before .before .field-in .ensures .holds) (c .before .before .field-in2 .ensures .holds)) ∙ c .if2 .taken)
 
 returns-3 : tie.Need-returns-3
-returns-3 c = λ p q. said-alike _ _ p q (sym (c .before .before .before .before .before .are-alike .ensures) ∙ not-false _ (c .before .before .before .before .if1 .left)) false (sym (c .before .is-later .ensures ∙ ap₂ after (c .before .before .before .field-in .ensures .holds) (c .before .before .field-in2 .ensures .holds)) ∙ c .if2 .left)
+returns-3 c = λ p q. said-alike _ _ p q (sym (c .before .before .before .before .before .are-alike .ensures) ∙ not-false _ (c .before .before .before .before .if1 .left)) false (sym (c .before .is-later .ensures ∙ ap₂ later (c .before .before .before .field-in .ensures .holds) (c .before .before .field-in2 .ensures .holds)) ∙ c .if2 .left)
 
 pub by-subjects-spec : {M : Type 1} → statement M
 by-subjects-spec =

@@ -1,4 +1,4 @@
--- `text::date::is_timestamp` meets its contract: seven tests in a row. `past1` to `past6` say what is left after each.
+-- `text::date::is_date` meets its contract: seven tests in a row. `past1` to `past6` say what is left after each.
 -- Assumes nothing.
 use denote.Ref.{now}
 use Prim.Native.Nat.{ℕ}
@@ -12,8 +12,8 @@ use Rattle.text.proofs.Tests.{and-stop, and-on, true-T}
 use Rattle.text.proofs.Loops.{looks-pairwise, pairwise-length}
 use Rattle.text.proofs.Types.{stamp}
 use borrow.Author.Needs.{needs}
-use Rattle.text.proofs.date.is_timestamp.Statement.{statement}
-use Rattle.text.proofs.date.is_timestamp.Tie as tie
+use Rattle.text.proofs.date.is_date.Statement.{statement}
+use Rattle.text.proofs.date.is_date.Tie as tie
 
 -- the tests from number k on
 abbrev left : ℕ → Bytes → Bool
@@ -90,8 +90,8 @@ is-two-between-requires-4 c κs = omega (arith, long (c .before .before .before 
 returns-7 : tie.Need-returns-7
 returns-7 c = c .is-two-between4 .ensures ∙ sym (past6 (c .before) ∙ and-true _)
 
-pub is-timestamp-spec : {M : Type 1} → statement M
-is-timestamp-spec =
+pub is-date-spec : {M : Type 1} → statement M
+is-date-spec =
     tie.close
     (tie.spec
     slice-aggregate-looks-like
