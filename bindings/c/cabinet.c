@@ -10,6 +10,7 @@ enum {
     PLACES = OBSCURLANE_CABINET_PLACES,
     WIDTH = OBSCURLANE_CABINET_WIDTH,
     SIZE = OBSCURLANE_CABINET_SIZE,
+    NUMBER_AT = OBSCURLANE_CABINET_NUMBER_AT,
     EDGE = 16, /* so many bytes stand before what is lent, and behind it */
     MOST = 2 * SIZE
 };
@@ -42,19 +43,42 @@ static struct text identity_of(struct subject of, const char *gnt, const char *p
     return made;
 }
 
-/* A public key of this Subject; its Q is of this digit, so that keys of one Subject differ. */
-static struct text key_of(struct subject of, const char *gnt, char digit, bool is_signed)
+/* An Expiry, and its number as HEX characters. */
+struct number {
+    const char *expiry, *bytes;
+};
+
+static const struct number numbers[] = {
+    {"20310110T120000Z", "00000000478608C0"}, {"99991231T115959Z", "0000003AD4B00F3F"},
+    {"19930101T000000Z", "0000000000000000"}, {"19921231T235959Z", "FFFFFFFFFFFFFFFF"},
+    {"00010101T000000Z", "FFFFFFF15D2A7F80"}, {"99991231T235959Z", "0000003AD4B0B7FF"},
+    {"19930101T000001Z", "0000000000000001"}, {"19700101T000000Z", "FFFFFFFFD4BC7680"},
+    {"20000229T000000Z", "000000000D778280"}, {"19921231T235543Z", "FFFFFFFFFFFFFEFF"},
+    {"19930101T000416Z", "0000000000000100"}, {"24000229T000000Z", "00000002FDD7DC00"},
+    {"20610119T031408Z", "0000000080000000"}, {"19241213T204551Z", "FFFFFFFF7FFFFFFF"},
+    {"21290207T062816Z", "0000000100000000"}, {"19000301T000000Z", "FFFFFFFF515FC080"},
+};
+
+/* A public key of this Subject and this Expiry; its Q is of this digit. */
+static struct text key_until(const char *expiry, struct subject of, const char *gnt, char digit, bool is_signed)
 {
     char digits[192 + 1];
     memset(digits, digit, sizeof digits - 1);
     digits[sizeof digits - 1] = '\0';
     struct text subject = identity_of(of, gnt, PRINT), made;
     const char *kind = of.kind == OBSCURLANE_KIND_SMMAN ? "PK.ECDSA.1" : "PK.ECDH.1";
-    int len = snprintf(made.bytes, sizeof made.bytes, "%s|%s|04%s|99991231T115959Z|%s|%s|0000", kind, subject.bytes, digits,
+    int len = snprintf(made.bytes, sizeof made.bytes, "%s|%s|04%s|%s|%s|%s|0000", kind, subject.bytes, digits, expiry,
                        is_signed ? WORKED_ID_MAKER : "", is_signed ? digits : "");
     made.len = (size_t)len;
     seal(made.bytes, made.len);
     return made;
+}
+
+/* Q and Expiry go by the digit, so that keys of one Subject differ. */
+static struct text key_of(struct subject of, const char *gnt, char digit, bool is_signed)
+{
+    static const char digits[] = "0123456789ABCDEF";
+    return key_until(numbers[strchr(digits, digit) - digits].expiry, of, gnt, digit, is_signed);
 }
 
 static struct text as_text(const char *bytes)
@@ -71,6 +95,7 @@ struct held {
     bool is_there;
     struct subject of;
     char gnt[16 + 1];
+    int64_t expiry;
     struct text record;
 };
 
@@ -125,6 +150,7 @@ static uint8_t put_there(struct model *model, struct subject of, const char *gnt
     held->is_there = true;
     held->of = of;
     memcpy(held->gnt, gnt, sizeof held->gnt);
+    held->expiry = seconds_in(record->bytes);
     held->record = *record;
     return OBSCURLANE_ACCEPTED;
 }
@@ -139,12 +165,29 @@ static uint8_t remove_there(struct model *model, struct subject of)
     return OBSCURLANE_ACCEPTED;
 }
 
+/* The number, the highest byte first. */
+static void write_number(uint8_t *place, int64_t number)
+{
+    for (int i = 0; i < 8; i++) {
+        place[NUMBER_AT + i] = (uint8_t)((uint64_t)number >> (56 - 8 * i));
+    }
+}
+
+/* A record, zeros after it, and a number. */
+static void write_held(uint8_t *place, const char *record, size_t len, int64_t number)
+{
+    memset(place, 0, WIDTH);
+    memcpy(place, record, len);
+    write_number(place, number);
+}
+
 static void write_image(const struct model *model, uint8_t image[SIZE])
 {
     memset(image, 0, SIZE);
     for (size_t i = 0; i < PLACES; i++) {
-        if (model->places[i].is_there) {
-            memcpy(image + i * WIDTH, model->places[i].record.bytes, model->places[i].record.len);
+        const struct held *held = &model->places[i];
+        if (held->is_there) {
+            write_held(image + i * WIDTH, held->record.bytes, held->record.len, held->expiry);
         }
     }
 }
@@ -348,8 +391,7 @@ static bool are_present; /* whether the cabinet has the keys of the samples; els
 /* The record's own numbers come before 24 and 25; a record that is no public key is 2, after its length. */
 static void expect_putting(const char *record, size_t len, uint8_t no, uint8_t field)
 {
-    bool is_key = (len >= 11 && memcmp(record, "PK.ECDSA.1|", 11) == 0) || (len >= 10 && memcmp(record, "PK.ECDH.1|", 10) == 0);
-    if (len <= OBSCURLANE_LONGEST_READ && !is_key) {
+    if (len <= OBSCURLANE_LONGEST_READ && !is_named_as_key(record, len)) {
         no = OBSCURLANE_UNKNOWN_KIND;
         field = 0;
     } else if (no == OBSCURLANE_ACCEPTED) {
@@ -494,24 +536,18 @@ static void expect_no_cabinet_with(size_t at, uint8_t byte)
     cabinet[at] = was;
 }
 
-/* A record in place n, and zeros after it. */
-static void write_place(size_t n, const char *record, size_t len)
-{
-    memset(cabinet + n * WIDTH, 0, WIDTH);
-    memcpy(cabinet + n * WIDTH, record, len);
-}
-
-static void expect_no_cabinet_of(size_t n, const char *record, size_t len)
+/* It is none with this in place n, and this number. */
+static void expect_no_cabinet_of(size_t n, const char *record, size_t len, int64_t number)
 {
     static uint8_t was[WIDTH];
     memcpy(was, cabinet + n * WIDTH, WIDTH);
-    write_place(n, record, len);
+    write_held(cabinet + n * WIDTH, record, len, number);
     expect_no_cabinet(SIZE);
     memcpy(cabinet + n * WIDTH, was, WIDTH);
 }
 
-/* Bytes that are not zero in a free place and behind a record; a record that is cut, moved, damaged or of another kind; and two
- * of the same three names. */
+/* Bytes that are not zero in a free place and behind a record; a number that is damaged; a record that is cut, moved, damaged
+ * or of another kind; and two of the same three names. */
 static void damaged(void)
 {
     static const uint8_t others[] = {1, '\n', ' ', '0', 'A', 'P', '|', 0x80, 0xFF};
@@ -520,6 +556,7 @@ static void damaged(void)
     put(worked_module, GNT, '1', OBSCURLANE_ACCEPTED);
     put(worked_centre, GNT, '0', OBSCURLANE_ACCEPTED);
     const struct text module = beside.places[0].record, centre = beside.places[1].record;
+    const int64_t centre_expiry = beside.places[1].expiry;
     for (size_t n = 2; n < PLACES; n++) {
         for (size_t i = 0; i < COUNT_OF(in_place); i++) {
             expect_no_cabinet_with(n * WIDTH + in_place[i], others[(n + i) % COUNT_OF(others)]);
@@ -541,26 +578,27 @@ static void damaged(void)
     expect_model();
     /* Cut, and with zeros in front. */
     for (size_t len = 1; len < centre.len; len++) {
-        expect_no_cabinet_of(1, centre.bytes, len);
-        expect_no_cabinet_of(1, centre.bytes + len, centre.len - len);
+        expect_no_cabinet_of(1, centre.bytes, len, centre_expiry);
+        expect_no_cabinet_of(1, centre.bytes + len, centre.len - len, centre_expiry);
     }
     struct text moved = centre;
     memmove(moved.bytes + 1, moved.bytes, moved.len);
     moved.bytes[0] = '\0';
-    expect_no_cabinet_of(1, moved.bytes, moved.len + 1);
+    expect_no_cabinet_of(1, moved.bytes, moved.len + 1, centre_expiry);
+    const uint8_t last = cabinet[WIDTH - 1];
     memmove(cabinet + WIDTH - 1, cabinet + WIDTH, WIDTH);
     expect_no_cabinet(SIZE);
     memmove(cabinet + WIDTH, cabinet + WIDTH - 1, WIDTH);
-    cabinet[WIDTH - 1] = 0;
+    cabinet[WIDTH - 1] = last;
     /* Two in one place, and one twice. */
     struct text both = centre;
     memcpy(both.bytes + centre.len, module.bytes, module.len < ROOM - centre.len ? module.len : ROOM - centre.len);
-    expect_no_cabinet_of(1, both.bytes, centre.len + 300);
+    expect_no_cabinet_of(1, both.bytes, centre.len + 300, centre_expiry);
     static const size_t second[] = {2, 3, 31, PLACES - 1};
     for (size_t i = 0; i < COUNT_OF(second); i++) {
-        expect_no_cabinet_of(second[i], centre.bytes, centre.len);
+        expect_no_cabinet_of(second[i], centre.bytes, centre.len, centre_expiry);
         struct text later = key_of(worked_module, LATER, '7', false);
-        expect_no_cabinet_of(second[i], later.bytes, later.len);
+        expect_no_cabinet_of(second[i], later.bytes, later.len, seconds_in(later.bytes));
     }
     expect_model();
     /* Other records, identities, and public keys that are refused. */
@@ -568,20 +606,22 @@ static void damaged(void)
         bool is_key = strncmp(records[i], "PK.", 3) == 0;
         struct text with_feed = as_text(records[i]);
         with_feed.bytes[with_feed.len] = '\n';
-        expect_no_cabinet_of(PLACES - 1, with_feed.bytes, with_feed.len + 1);
+        expect_no_cabinet_of(PLACES - 1, with_feed.bytes, with_feed.len + 1, is_key ? seconds_in(records[i]) : 0);
         if (!is_key) {
-            expect_no_cabinet_of(PLACES - 1, with_feed.bytes, with_feed.len);
+            expect_no_cabinet_of(PLACES - 1, with_feed.bytes, with_feed.len, 0);
         }
     }
-    expect_no_cabinet_of(PLACES - 1, WORKED_ID_MAKER, strlen(WORKED_ID_MAKER));
+    expect_no_cabinet_of(PLACES - 1, WORKED_ID_MAKER, strlen(WORKED_ID_MAKER), 0);
     char refused[ROOM];
     size_t len = write_with(WORKED_KEY_MAKER, "|20210115T", "|20210230T", refused);
-    expect_no_cabinet_of(PLACES - 1, refused, len);
+    expect_no_cabinet_of(PLACES - 1, refused, len, 0);
+    expect_no_cabinet_of(PLACES - 1, refused, len, seconds_in(refused));
     len = write_with(WORKED_KEY_MAKER, "|SMMAN.1:", "|SMID.1:", refused);
-    expect_no_cabinet_of(PLACES - 1, refused, len);
-    write_place(PLACES - 1, WORKED_KEY_MAKER, strlen(WORKED_KEY_MAKER));
+    expect_no_cabinet_of(PLACES - 1, refused, len, seconds_in(refused));
+    const int64_t maker_expiry = seconds_in(WORKED_KEY_MAKER);
+    write_held(cabinet + (PLACES - 1) * WIDTH, WORKED_KEY_MAKER, strlen(WORKED_KEY_MAKER), maker_expiry);
     EXPECT(obscurlane_count_keys(cabinet, SIZE).count == 3);
-    expect_no_cabinet_of(0, WORKED_KEY_MAKER, strlen(WORKED_KEY_MAKER));
+    expect_no_cabinet_of(0, WORKED_KEY_MAKER, strlen(WORKED_KEY_MAKER), maker_expiry);
     EXPECT(obscurlane_check_cabinet(cabinet, SIZE).no == OBSCURLANE_ACCEPTED);
 }
 
@@ -590,11 +630,11 @@ static void damaged_when_full(void)
 {
     fill();
     for (size_t n = 0; n < PLACES; n += 9) {
-        const struct text *next = &beside.places[(n + 1) % PLACES].record;
-        expect_no_cabinet_of(n, next->bytes, next->len);
+        const struct held *next = &beside.places[(n + 1) % PLACES];
+        expect_no_cabinet_of(n, next->record.bytes, next->record.len, next->expiry);
         struct text later = key_of(nth(PLACES - 1 - n), LATER, '8', true);
         if (PLACES - 1 - n != n) {
-            expect_no_cabinet_of(n, later.bytes, later.len);
+            expect_no_cabinet_of(n, later.bytes, later.len, seconds_in(later.bytes));
         }
         expect_no_cabinet_with((n + 1) * WIDTH - 1, 'F');
         expect_no_cabinet_with(n * WIDTH, 'Q');
@@ -628,6 +668,114 @@ static void lengths(void)
     EXPECT(obscurlane_make_cabinet(cabinet, SIZE).no == OBSCURLANE_ACCEPTED);
     EXPECT(are_zeros(cabinet, 0, SIZE));
     EXPECT(untouched(lent, 0, EDGE) && untouched(lent, EDGE + SIZE, sizeof lent));
+}
+
+/* ---- the number of Expiry */
+
+static void expect_number_in(size_t n, const struct number *number)
+{
+    const uint8_t *place = cabinet + n * WIDTH;
+    EXPECT(are_digits_of(place + NUMBER_AT, 8, number->bytes));
+    EXPECT(are_zeros(place, beside.places[n].record.len, NUMBER_AT));
+}
+
+static void put_until(const struct number *number, struct subject of, const char *gnt)
+{
+    struct text record = key_until(number->expiry, of, gnt, '1', true);
+    expect_put(of, gnt, &record, OBSCURLANE_ACCEPTED);
+    expect_number_in(place_of(&beside, of), number);
+}
+
+/* With another number in place n it is none. */
+static void expect_no_number(size_t n, uint64_t number)
+{
+    const struct held *held = &beside.places[n];
+    if (number != (uint64_t)held->expiry) {
+        expect_no_cabinet_of(n, held->record.bytes, held->record.len, (int64_t)number);
+    }
+}
+
+static uint64_t backwards(uint64_t number)
+{
+    uint64_t turned = 0;
+    for (int i = 0; i < 8; i++) {
+        turned = turned << 8 | (number >> 8 * i & 0xFF);
+    }
+    return turned;
+}
+
+/* One more or less; zeros; the lowest byte first; of the other sign; every bit of it. And bytes before it that are no zeros. */
+static void other_numbers(size_t n)
+{
+    const uint64_t right = (uint64_t)beside.places[n].expiry;
+    const uint64_t others[] = {0, right + 1, right - 1, backwards(right), 0 - right, ~right, right << 32, right >> 32,
+                               right << 8, right >> 8, UINT64_MAX, (uint64_t)INT64_MAX + 1, right & UINT32_MAX};
+    for (size_t i = 0; i < COUNT_OF(others); i++) {
+        expect_no_number(n, others[i]);
+    }
+    for (int bit = 0; bit < 64; bit++) {
+        expect_no_number(n, right ^ (uint64_t)1 << bit);
+    }
+    for (size_t at = NUMBER_AT - 9; at < NUMBER_AT; at++) {
+        expect_no_cabinet_with(n * WIDTH + at, 1);
+        expect_no_cabinet_with(n * WIDTH + at, 0xFF);
+    }
+}
+
+/* After a put, after a replacement, in another place, and after a removal. */
+static void every_number(void)
+{
+    for (size_t i = 0; i < COUNT_OF(numbers); i++) {
+        const struct number *number = &numbers[i], *next = &numbers[(i + 1) % COUNT_OF(numbers)];
+        begin(0xFF);
+        put_until(number, worked_module, GNT);
+        other_numbers(0);
+        put_until(next, worked_centre, GNT);
+        expect_number_in(0, number);
+        put_until(next, worked_module, LATER);
+        put_until(number, worked_centre, LATER);
+        expect_number_in(0, next);
+        other_numbers(1);
+        /* One that is refused leaves it. */
+        struct text earlier = key_until(number->expiry, worked_module, EARLIER, '2', false);
+        expect_put(worked_module, EARLIER, &earlier, OBSCURLANE_NOT_LATER);
+        expect_number_in(0, next);
+        take_out(worked_module, OBSCURLANE_ACCEPTED);
+        EXPECT(are_zeros(cabinet, 0, WIDTH));
+        expect_number_in(1, number);
+        /* A number without a record. */
+        if (seconds_of(number->expiry) != 0) {
+            expect_no_cabinet_of(0, "", 0, seconds_of(number->expiry));
+        }
+        take_out(worked_centre, OBSCURLANE_ACCEPTED);
+        EXPECT(are_zeros(cabinet, 0, SIZE));
+    }
+}
+
+/* A cabinet as it was before it had numbers is none; the records in it, put into an empty one, give the same keys. */
+static void without_numbers(void)
+{
+    static uint8_t image[SIZE], old[SIZE];
+    fill();
+    memcpy(image, cabinet, SIZE);
+    for (size_t n = 0; n < PLACES; n++) {
+        write_number(cabinet + n * WIDTH, 0);
+    }
+    expect_no_cabinet(SIZE);
+    memcpy(old, cabinet, SIZE);
+    EXPECT(obscurlane_make_cabinet(cabinet, SIZE).no == OBSCURLANE_ACCEPTED);
+    for (const uint8_t *place = old; place < old + SIZE; place += WIDTH) {
+        size_t len = (size_t)((const uint8_t *)memchr(place, 0, WIDTH) - place);
+        EXPECT(len > 0 && obscurlane_put_key(cabinet, SIZE, place, len).no == OBSCURLANE_ACCEPTED);
+    }
+    EXPECT(memcmp(cabinet, image, SIZE) == 0);
+    expect_model();
+    /* All zeros are the number of the beginning. */
+    begin(0);
+    struct text record = key_until("19930101T000000Z", worked_maker, GNT, '1', true);
+    memcpy(cabinet, record.bytes, record.len);
+    EXPECT(obscurlane_check_cabinet(cabinet, SIZE).no == OBSCURLANE_ACCEPTED);
+    EXPECT(obscurlane_count_keys(cabinet, SIZE).count == 1);
 }
 
 /* ---- histories */
@@ -691,7 +839,7 @@ static void history(uint32_t seed, size_t subjects, size_t calls)
 
 void call_for_cabinets(void)
 {
-    EXPECT(SIZE == PLACES * WIDTH && OBSCURLANE_LONGEST_PUBKEY < OBSCURLANE_CABINET_WIDTH);
+    EXPECT(SIZE == PLACES * WIDTH && NUMBER_AT == WIDTH - 8 && OBSCURLANE_LONGEST_PUBKEY < OBSCURLANE_CABINET_NUMBER_AT);
     worked_keys();
     full();
     refused_records();
@@ -700,6 +848,8 @@ void call_for_cabinets(void)
     damaged();
     damaged_when_full();
     lengths();
+    every_number();
+    without_numbers();
     history(1, 3, 300);
     history(2, 20, 300);
     history(3, SUBJECTS, 600);

@@ -4,8 +4,8 @@
  *
  * Here stand records and texts. Wrapped keys and their attributes stand in wrapped.c; SHA-384 and Fingerprints in hashes.c;
  * HMAC and the tags of a key agreement in confirmations.c; SHA-1 in sha1.c; manufacturers' files in trailed.c; records by mail
- * in mail.c; the key cabinet in cabinet.c; the check, the text types, plain files and names in parts.c. Records that several of
- * them take stand in samples.c.
+ * in mail.c; dates as numbers in dates.c; the key cabinet in cabinet.c; the check, the text types, plain files and names in
+ * parts.c. Records that several of them take stand in samples.c.
  */
 #include "expect.h"
 #include "worked.h"
@@ -527,6 +527,7 @@ int main(void)
     call_for_sha1();
     call_for_trailed_lines();
     call_for_mail();
+    call_for_dates();
     call_for_cabinets();
     call_parts();
     printf("every function: %lu as expected\n", expectations);

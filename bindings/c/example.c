@@ -1,7 +1,8 @@
 /* Reads the load request of the worked example once, prints its fields by their names, makes its three texts and says whether
- * its tag is right; then prints the attributes of its second wrapped key, and the Fingerprint of the centre's public key; reads
- * and writes the line of a manufacturer's file, the module's signed key with its trailer; reads the request out of a letter,
- * and writes it as it goes by mail; and keeps the keys in a cabinet, where it finds the one of the request's module. */
+ * its tag is right; then prints the attributes of its second wrapped key, the Fingerprint of the centre's public key, and how
+ * many days the key had left when the request was made; reads and writes the line of a manufacturer's file, the module's signed
+ * key with its trailer; reads the request out of a letter, and writes it as it goes by mail; and keeps the keys in a cabinet,
+ * where it finds the one of the request's module, and those that expire soon. */
 #include "obscurlane.h"
 #include "worked.h"
 
@@ -59,6 +60,19 @@ static void print_fingerprint(void)
     printf("Fingerprint: %s, %.*s\n", obscurlane_reason(said.no), (int)made.len, (const char *)right);
 }
 
+enum { SECONDS_OF_A_DAY = 86400 };
+
+/* From the request's TVP to the centre's Expiry. */
+static void print_days_left(const uint8_t *tvp, size_t tvp_len)
+{
+    static const char public_key[] = WORKED_KEY_CENTRE;
+    obscurlane_expiry expiry = obscurlane_expiry_of((const uint8_t *)public_key, sizeof public_key - 1);
+    obscurlane_moment then = obscurlane_moment_of(tvp, tvp_len);
+    if (expiry.no == OBSCURLANE_ACCEPTED && then.valid) {
+        printf("Expiry: %lld days after the request\n", (long long)((expiry.seconds - then.seconds) / SECONDS_OF_A_DAY));
+    }
+}
+
 /* The line is read, and written again from the record in front of its trailer. */
 static void print_line(void)
 {
@@ -89,6 +103,28 @@ static void print_mail(void)
     }
 }
 
+/* The number of Expiry in a place, the highest byte first. */
+static int64_t number_in(const uint8_t *place)
+{
+    uint64_t number = 0;
+    for (size_t i = OBSCURLANE_CABINET_NUMBER_AT; i < OBSCURLANE_CABINET_WIDTH; i++) {
+        number = number << 8 | place[i];
+    }
+    return (int64_t)number;
+}
+
+/* The keys that expire within 30 days of this moment, by the numbers in their places alone. */
+static void print_expiring(const uint8_t *cabinet, int64_t now)
+{
+    for (size_t n = 0; n < OBSCURLANE_CABINET_PLACES; n++) {
+        const uint8_t *place = cabinet + n * OBSCURLANE_CABINET_WIDTH;
+        bool is_occupied = place[0] != 0;
+        if (is_occupied && number_in(place) - now < 30 * SECONDS_OF_A_DAY) {
+            printf("  %2lld days %.*s..\n", (long long)((number_in(place) - now) / SECONDS_OF_A_DAY), 40, (const char *)place);
+        }
+    }
+}
+
 /* The keys are put in, and the module's is found by the identity in the request, whose GNT and Fingerprint do not matter. */
 static void print_cabinet(const uint8_t *identity, size_t identity_len)
 {
@@ -104,6 +140,7 @@ static void print_cabinet(const uint8_t *identity, size_t identity_len)
     if (place.no == OBSCURLANE_ACCEPTED) {
         printf("  found   %.*s..\n", 40, (const char *)cabinet + place.start);
     }
+    print_expiring(cabinet, obscurlane_moment_of((const uint8_t *)"20201231T120000Z", 16).seconds);
     obscurlane_filed said = obscurlane_remove_key(cabinet, sizeof cabinet, identity, identity_len);
     printf("  remove  %s, %zu keys are left\n", obscurlane_reason(said.no),
            obscurlane_count_keys(cabinet, sizeof cabinet).count);
@@ -132,6 +169,8 @@ int main(void)
     printf("%s, its attributes\n", obscurlane_kind_name(OBSCURLANE_KIND_KEY));
     print_attributes();
     print_fingerprint();
+    const size_t tvp = OBSCURLANE_REQ_TVP - 1;
+    print_days_left(bytes + said.starts[tvp], said.lens[tvp]);
     print_line();
     print_mail();
     const size_t id_sm = OBSCURLANE_REQ_ID_SM - 1;

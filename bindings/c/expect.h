@@ -1,5 +1,5 @@
 /* What the files of the test of every function share: every.c, samples.c, wrapped.c, hashes.c, confirmations.c, sha1.c,
- * trailed.c, mail.c, cabinet.c and parts.c. */
+ * trailed.c, mail.c, dates.c, cabinet.c and parts.c. */
 #ifndef EXPECT_H
 #define EXPECT_H
 
@@ -42,6 +42,15 @@ void seal(char *text, size_t len);
 /* The record with one text in the place of another, and its identities' checks and its own made right again; its length. */
 size_t write_with(const char *record, const char *old, const char *with, char out[ROOM]);
 
+/* Whether the bytes begin with the name of a public key's kind and its mark. */
+bool is_named_as_key(const char *record, size_t len);
+
+/* The seconds from 19930101T000000Z to a TIMESTAMP, counted year by year and month by month. */
+int64_t seconds_of(const char *timestamp);
+
+/* The same of Expiry of a public key, whatever else is wrong with it. */
+int64_t seconds_in(const char *key);
+
 /* Expects of a record, or of what is none, that it is refused with this number and this field's, or accepted with 0. */
 typedef void expect_number(const char *record, size_t len, uint8_t no, uint8_t field);
 
@@ -77,6 +86,9 @@ void call_for_trailed_lines(void);
 
 /* Calls the functions for records by mail. */
 void call_for_mail(void);
+
+/* Calls the functions for dates as numbers. */
+void call_for_dates(void);
 
 /* Calls the functions for the centre's key cabinet. */
 void call_for_cabinets(void);

@@ -1,8 +1,8 @@
 /*
  * Obscurlane: reading, checking and building the identity, public key, load request, load response and wrapped key records
- * of STS 600-4-2, files of them, plain and manufacturers', one of them by mail, the centre's cabinet of public keys, the texts
- * that a key agreement hashes, the tags that confirm it, SHA-384 with the Fingerprints that are made by it, and SHA-1, which is
- * in a manufacturer's line.
+ * of STS 600-4-2, files of them, plain and manufacturers', one of them by mail, the centre's cabinet of public keys, dates and
+ * Expiry as numbers, the texts that a key agreement hashes, the tags that confirm it, SHA-384 with the Fingerprints that are
+ * made by it, and SHA-1, which is in a manufacturer's line.
  *
  * Link with libexports.a, which `bindings/archive` proves, compiles for the machine that it runs on and puts into
  * target/staticlib/; or with the one that `bindings/archive module` puts into target/module/target/staticlib/, which has the
@@ -42,9 +42,9 @@
 #include <stddef.h>
 #include <stdint.h>
 
-#define OBSCURLANE_VERSION "0.9.0"
+#define OBSCURLANE_VERSION "0.10.0"
 #define OBSCURLANE_VERSION_MAJOR 0
-#define OBSCURLANE_VERSION_MINOR 9
+#define OBSCURLANE_VERSION_MINOR 10
 #define OBSCURLANE_VERSION_PATCH 0
 
 #ifdef __cplusplus
@@ -103,7 +103,8 @@ enum {
     OBSCURLANE_MISSING_BEGINS = 21,
     /* No later ENDS line matches the first BEGINS line. */
     OBSCURLANE_MISSING_ENDS = 22,
-    /* The lent bytes are no cabinet. Making one: they are of another length. */
+    /* The lent bytes are no cabinet, also where the number in a place is not that of the record's Expiry. Making one: they are
+     * of another length. */
     OBSCURLANE_NOT_CABINET = 23,
     /* The GNT of the key to put is not later than that of the key in the cabinet that it would replace. */
     OBSCURLANE_NOT_LATER = 24,
@@ -228,7 +229,9 @@ enum {
     /* The places of a cabinet, the bytes of each, and the bytes of them all, which are the only length that a cabinet has. */
     OBSCURLANE_CABINET_PLACES = 64,
     OBSCURLANE_CABINET_WIDTH = 1024,
-    OBSCURLANE_CABINET_SIZE = 65536
+    OBSCURLANE_CABINET_SIZE = 65536,
+    /* Where the number of Expiry begins in an occupied place: its last eight bytes. */
+    OBSCURLANE_CABINET_NUMBER_AT = 1016
 };
 
 /* ---- reading */
@@ -431,12 +434,47 @@ typedef struct {
 obscurlane_choice obscurlane_newer(const uint8_t *first, size_t first_len, const uint8_t *second, size_t second_len);
 
 /*
+ * ---- a date as a number: the seconds since 19930101T000000Z
+ *
+ * They are counted by the Gregorian calendar, before 1993 too, and are negative there: -1 is 19921231T235959Z. Every day has
+ * 86,400 of them, there are no leap seconds; so from one date to another there are (there - here) / 86400 days. The numbers go
+ * from -62861443200, 00010101T000000Z, to 252676454399, 99991231T235959Z, and the later of two dates has the greater number. A
+ * clock that counts from 1970, as time() does, has 725846400 more.
+ */
+
+/* Whether a text is a TIMESTAMP, and its seconds. These are 0 with any other text. */
+typedef struct {
+    bool valid;
+    int64_t seconds;
+} obscurlane_moment;
+
+/* The seconds of a TIMESTAMP. valid is what obscurlane_is_timestamp answers. */
+obscurlane_moment obscurlane_moment_of(const uint8_t *s, size_t s_len);
+
+/* When a public key expires. seconds is 0 with a refusal. */
+typedef struct {
+    uint8_t no;
+    uint8_t field;
+    int64_t seconds;
+} obscurlane_expiry;
+
+/* The seconds of the field Expiry of a public key. Answers what obscurlane_read_record answers to the record, but
+ * OBSCURLANE_UNKNOWN_KIND for a record of another kind: 0 to 9. */
+obscurlane_expiry obscurlane_expiry_of(const uint8_t *record, size_t record_len);
+
+/*
  * ---- the centre's key cabinet: up to 64 public keys in OBSCURLANE_CABINET_SIZE bytes, which the program lends to every call
  *
  * A cabinet has OBSCURLANE_CABINET_PLACES places of OBSCURLANE_CABINET_WIDTH bytes, one behind the other. A place is free, and
- * then all zeros; or it starts with a public key, PK.ECDSA.1 or PK.ECDH.1, that obscurlane_read_record accepts, and has zeros
- * after it. No two of the records share Subject kind, Manufacturer and MID. By these three a key is found, replaced and taken
- * out; GNT and Fingerprint of its Subject are no part of them.
+ * then all zeros; or it starts with a public key, PK.ECDSA.1 or PK.ECDH.1, that obscurlane_read_record accepts, has zeros after
+ * it, and in its last eight bytes, from OBSCURLANE_CABINET_NUMBER_AT on, the seconds that obscurlane_expiry_of answers to the
+ * record: two's complement, the highest byte first. No two of the records share Subject kind, Manufacturer and MID. By these
+ * three a key is found, replaced and taken out; GNT and Fingerprint of its Subject are no part of them.
+ *
+ * The number is written with the record, and goes with it. Where it is another one the bytes are no cabinet; so it is what the
+ * text says in every cabinet, and a program that wants to know which keys expire looks at the first byte of each place, which
+ * is 0 where it is free, and at the number. Up to version 0.9 zeros stood in its bytes. Such a cabinet is none any more, unless
+ * all of its keys expire at 19930101T000000Z: the records in it are put into one that is made empty.
  *
  * These bytes are all that there is of a cabinet: a program may store them in a file, copy and compare them. All other memory
  * is no cabinet. Every call but the one that makes it asks first whether the bytes are one, whoever wrote them, and so reads

@@ -1,4 +1,4 @@
-/* A part of every.c: the records that trailed.c, mail.c and cabinet.c take, accepted and refused. */
+/* A part of every.c: the records that trailed.c, mail.c, dates.c and cabinet.c take, accepted and refused. */
 #include "expect.h"
 #include "worked.h"
 
@@ -29,6 +29,16 @@ static const struct {
     {WORKED_WRAPPED_1, "SGC", "sgc", OBSCURLANE_WRONG_ATTRIBUTES, 0},
     {WORKED_WRAPPED_1, "|D80D", "|d80d", OBSCURLANE_WRONG_TEXT, OBSCURLANE_KEY_PROTECTED_KEY},
 };
+
+bool is_named_as_key(const char *record, size_t len)
+{
+    static const char *const starts[] = {"PK.ECDSA.1|", "PK.ECDH.1|"};
+    bool is_key = false;
+    for (size_t i = 0; i < COUNT_OF(starts); i++) {
+        is_key |= len >= strlen(starts[i]) && memcmp(record, starts[i], strlen(starts[i])) == 0;
+    }
+    return is_key;
+}
 
 void expect_every_record(expect_number *expect_record)
 {
