@@ -1,16 +1,22 @@
 //! The centre's key cabinet: up to 64 public keys in 65,536 lent bytes.
 
 use crate::record::part;
-use crate::{sys, Refusal};
+use crate::show::Text;
+use crate::{sys, Refusal, CABINET_WIDTH};
 use core::fmt;
+use core::iter::FusedIterator;
+use core::slice::ChunksExact;
 
 /// The centre's key cabinet: up to [`CABINET_PLACES`](crate::CABINET_PLACES) public keys in
 /// [`CABINET_SIZE`](crate::CABINET_SIZE) lent bytes.
 ///
 /// Each of its places of [`CABINET_WIDTH`](crate::CABINET_WIDTH) bytes is free, and then all zeros; or it starts with a public key
-/// that [`Record::read`](crate::Record::read) accepts, and has zeros after it. No two of the records share Subject kind,
-/// Manufacturer and MID: by these three a key is found, replaced and taken out. The lent bytes are all that there is of a cabinet,
-/// so that a program may store them and open them again. All other memory is no cabinet.
+/// that [`Record::read`](crate::Record::read) accepts, has zeros after it, and in its last eight bytes, from
+/// [`CABINET_NUMBER_AT`](crate::CABINET_NUMBER_AT) on, what [`expiry_of`](crate::expiry_of) says of the record, in big endian and
+/// two's complement. No two of the records share Subject kind, Manufacturer and MID: by these three a key is found, replaced and
+/// taken out. The lent bytes are all that there is of a cabinet, so that a program may store them and open them again. All other
+/// memory is no cabinet, and so is one that was stored before version 0.10, in which zeros stand where the numbers do: its
+/// records are put into one that is made empty.
 ///
 /// Every call asks first whether the bytes are a cabinet, and so reads every record in it again. A refused call leaves all of them
 /// as they were, and one that changes a place leaves all others. While a `Cabinet` borrows the bytes, nothing else writes them; a
@@ -45,6 +51,11 @@ use core::fmt;
 ///
 /// // found by kind, Manufacturer and MID, whatever the GNT
 /// assert_eq!(cabinet.find(&identity("19930101T000000Z"))?, new);
+///
+/// // which keys expire within 30 days?
+/// let now = obscurlane::moment_of(b"20301231T120000Z").unwrap();
+/// let soon = cabinet.keys()?.filter(|key| key.expiry - now < 30 * 86_400);
+/// assert!(soon.map(|key| key.record).eq([new.as_slice()]));
 ///
 /// // the bytes are the cabinet
 /// assert_eq!(obscurlane::find_key(&bytes, &identity("19930101T000000Z")), Ok(&new[..]));
@@ -143,6 +154,16 @@ impl<'a> Cabinet<'a> {
     #[inline]
     pub fn count(&self) -> Result<usize, Refusal> {
         count_keys(self.bytes)
+    }
+
+    /// All keys of the cabinet in the order of their places, each with the seconds of its Expiry as they stand in the place.
+    ///
+    /// # Errors
+    ///
+    /// As [`Cabinet::count`].
+    #[inline]
+    pub fn keys(&self) -> Result<HeldKeys<'_>, Refusal> {
+        held_keys(self.bytes)
     }
 
     /// The lent bytes, to store them or to compare them.
@@ -279,4 +300,84 @@ pub fn remove_key(cabinet: &mut [u8], identity: &[u8]) -> Result<(), Refusal> {
 #[inline]
 pub fn find_key<'a>(cabinet: &'a [u8], identity: &[u8]) -> Result<&'a [u8], Refusal> {
     part(cabinet, &sys::find_key(cabinet, identity))
+}
+
+/// A public key in a cabinet.
+#[derive(Clone, Copy, PartialEq, Eq, Hash)]
+pub struct HeldKey<'a> {
+    /// The record, a part of the cabinet's bytes.
+    pub record: &'a [u8],
+    /// The seconds from 19930101T000000Z to its Expiry: what [`expiry_of`](crate::expiry_of) says of the record.
+    pub expiry: i64,
+}
+
+/// The record as text.
+impl fmt::Debug for HeldKey<'_> {
+    fn fmt(&self, f: &mut fmt::Formatter<'_>) -> fmt::Result {
+        let HeldKey { record, expiry } = self;
+        f.debug_struct("HeldKey").field("record", &Text(record)).field("expiry", expiry).finish()
+    }
+}
+
+/// The keys of a cabinet, in the order of their places: what [`held_keys`] and [`Cabinet::keys`] hand back.
+#[derive(Clone)]
+pub struct HeldKeys<'a> {
+    places: ChunksExact<'a, u8>,
+}
+
+/// What stands in a place of a cabinet; nothing in a free one.
+fn held(place: &[u8]) -> Option<HeldKey<'_>> {
+    let (front, number) = place.split_last_chunk()?;
+    let record = front.split(|&byte| byte == 0).next()?;
+    let expiry = i64::from_be_bytes(*number);
+    (!record.is_empty()).then_some(HeldKey { record, expiry })
+}
+
+impl<'a> Iterator for HeldKeys<'a> {
+    type Item = HeldKey<'a>;
+
+    #[inline]
+    fn next(&mut self) -> Option<HeldKey<'a>> {
+        self.places.find_map(held)
+    }
+}
+
+impl FusedIterator for HeldKeys<'_> {}
+
+/// The keys that are left.
+impl fmt::Debug for HeldKeys<'_> {
+    fn fmt(&self, f: &mut fmt::Formatter<'_>) -> fmt::Result {
+        f.debug_list().entries(self.clone()).finish()
+    }
+}
+
+/// All keys of the cabinet in these bytes, in the order of their places, each with the seconds of its Expiry as they stand in the
+/// place: the bytes are asked once whether they are a cabinet, and no record is read again.
+///
+/// ```
+/// use obscurlane::{held_keys, put_key, Reason, CABINET_SIZE};
+///
+/// let key = b"PK.ECDH.1|SMID.1:Prism:06000001:20180120T090000Z:320C265FDC769D3E:8EFF|04795CF0B4D74920C64A\
+///     6879504A6DE9CA788076D946D2F70F8981C01137752C7C050DC6FA61C2CB3D77EFE4275826857CC286805608F43C2E9A\
+///     C8752600D99FE92CCFB7E146742F0DC9C74CEF6568CBB75AB075D2DFED2EE5531554FA844B8DBC|99991231T115959Z|||ECD4";
+/// let mut cabinet = vec![0; CABINET_SIZE];
+/// assert_eq!(held_keys(&cabinet)?.count(), 0);
+/// put_key(&mut cabinet, key)?;
+/// for held in held_keys(&cabinet)? {
+///     assert_eq!((held.record, held.expiry), (&key[..], 252_676_411_199));
+/// }
+///
+/// // another number is no cabinet
+/// cabinet[1023] ^= 1;
+/// assert_eq!(held_keys(&cabinet).unwrap_err().reason, Reason::NotCabinet);
+/// # Ok::<(), obscurlane::Refusal>(())
+/// ```
+///
+/// # Errors
+///
+/// Reason 23 where the bytes are no cabinet.
+#[inline]
+pub fn held_keys(cabinet: &[u8]) -> Result<HeldKeys<'_>, Refusal> {
+    check_cabinet(cabinet)?;
+    Ok(HeldKeys { places: cabinet.chunks_exact(CABINET_WIDTH) })
 }

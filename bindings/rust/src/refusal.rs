@@ -63,7 +63,8 @@ pub enum Reason {
     MissingBegins = 21,
     /// 22: no later ENDS line matches the first BEGINS line.
     MissingEnds = 22,
-    /// 23: the lent bytes are no cabinet. Making one: they are of another length.
+    /// 23: the lent bytes are no cabinet, also where the number in a place is not that of the record's Expiry. Making one: they
+    /// are of another length.
     NotCabinet = 23,
     /// 24: the GNT of the key to put is not later than that of the key in the cabinet that it would replace.
     NotLater = 24,

@@ -78,6 +78,21 @@ pub struct Filed {
     pub field: u8,
 }
 
+/// Whether a text is a TIMESTAMP, and its seconds since 19930101T000000Z.
+#[repr(C)]
+pub struct Moment {
+    pub valid: bool,
+    pub seconds: i64,
+}
+
+/// The seconds of Expiry of a public key.
+#[repr(C)]
+pub struct Expiry {
+    pub no: u8,
+    pub field: u8,
+    pub seconds: i64,
+}
+
 /// How many places of a cabinet are occupied.
 #[repr(C)]
 pub struct Counted {
@@ -252,6 +267,9 @@ extern "C" {
         second: *const u8,
         second_len: usize,
     ) -> Choice;
+
+    fn obscurlane_moment_of(s: *const u8, s_len: usize) -> Moment;
+    fn obscurlane_expiry_of(record: *const u8, record_len: usize) -> Expiry;
 
     fn obscurlane_make_cabinet(cabinet: *mut u8, cabinet_len: usize) -> Filed;
     fn obscurlane_check_cabinet(cabinet: *const u8, cabinet_len: usize) -> Filed;
@@ -531,6 +549,20 @@ pub fn read_mail(text: &[u8], out: &mut [u8]) -> Written {
 pub fn newer(first: &[u8], second: &[u8]) -> Choice {
     // SAFETY: slices' pointers and lengths, which are only read.
     unsafe { obscurlane_newer(first.as_ptr(), first.len(), second.as_ptr(), second.len()) }
+}
+
+// ---- dates as numbers
+
+#[inline]
+pub fn moment_of(s: &[u8]) -> Moment {
+    // SAFETY: a slice's pointer and length.
+    unsafe { obscurlane_moment_of(s.as_ptr(), s.len()) }
+}
+
+#[inline]
+pub fn expiry_of(record: &[u8]) -> Expiry {
+    // SAFETY: a slice's pointer and length.
+    unsafe { obscurlane_expiry_of(record.as_ptr(), record.len()) }
 }
 
 // ---- the key cabinet

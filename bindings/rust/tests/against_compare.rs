@@ -11,6 +11,7 @@ use compare::sample::{self, Exchange, Fault, ListFault, Signed, Subject};
 use compare::{agreement, file, record, text};
 use held::attributes::{same_attribute, same_attributes, same_named};
 use held::confirm::{same_request, same_response};
+use held::dates::{same_expiry, same_moment};
 use held::mail::{same_block, same_mail};
 use held::reading::{same_identity, same_record};
 use held::trailed::{any_line, any_record, same_trailed, same_trailed_at};
@@ -60,6 +61,50 @@ fn text_types() {
         assert_eq!(obscurlane::crc_of(&bytes), compare::crc::crc16(&bytes), "{bytes:?}");
     }
     expect_share(25..=200, accepted, "were of a type, each counted for every type that it is of");
+}
+
+#[test]
+fn moments() {
+    let mut random = Random::with_seed(21);
+    let mut accepted = 0;
+    for _ in 0..rounds() {
+        let [one, other] = [0; 2].map(|_| sample::timestamp(&mut random));
+        let seconds = [&one, &other].map(|text| same_moment(text).expect("a TIMESTAMP"));
+        assert_eq!(seconds[0].cmp(&seconds[1]), one.cmp(&other), "{one:?} {other:?}");
+        assert_eq!(same_moment(&sample::missing_day(&mut random)), None);
+        let changes = random.between(1, 3);
+        let damaged = sample::damaged_anywhere(&mut random, &one, changes);
+        accepted += usize::from(same_moment(&damaged).is_some());
+    }
+    expect_share(1..=90, accepted, "were dates after the damage");
+}
+
+/// A public key, whole or with one fault, or anything else that may be read.
+fn any_key(random: &mut Random) -> Vec<u8> {
+    let kind = random.one_of(&Kind::PUBLIC_KEYS);
+    match random.below(4) {
+        0 => sample::record(random, kind),
+        1 => {
+            let fault = random.one_of(Fault::of(kind));
+            sample::faulty(random, kind, &[fault])
+        }
+        2 => {
+            let key = sample::record(random, kind);
+            sample::resealed(&sample::damaged_anywhere(random, &key, 1))
+        }
+        _ => sample::anything(random),
+    }
+}
+
+#[test]
+fn expiries() {
+    let mut random = Random::with_seed(22);
+    let mut seen = Seen::default();
+    for _ in 0..rounds() {
+        seen.add(&same_expiry(&any_key(&mut random)));
+    }
+    seen.expect([0], 600);
+    seen.expect(1..=9, 9);
 }
 
 #[test]

@@ -14,6 +14,7 @@ use compare::{agreement, file, record, text};
 use held::attributes::{same_attribute, same_attributes, same_named};
 use held::cabinet::{Both, NO_CABINET};
 use held::confirm::{same_request, same_response};
+use held::dates::{same_expiry, same_moment};
 use held::fingerprint::same_fingerprint;
 use held::hash::Hash;
 use held::mail::{same_block, same_mail};
@@ -49,6 +50,7 @@ fn text_types() {
     }
     for text in longer(b"20180120T090000Z") {
         assert!(!obscurlane::is_timestamp(&text));
+        assert_eq!(same_moment(&text), None);
     }
     for text in longer(&sample::point(&mut Random::with_seed(73))) {
         assert!(!obscurlane::is_point(&text));
@@ -158,6 +160,7 @@ fn wanted_fields_attributes_and_items() {
 fn keys() {
     let key = of(Kind::PkEcdh);
     for longer in longer(&key) {
+        assert_eq!(same_expiry(&longer), Err((1, 0)));
         for (first, second) in [(&longer, &key), (&key, &longer)] {
             let refusal = obscurlane::newer(first, second).expect_err("longer than is read");
             assert_eq!(refusal.reason().number(), 1);

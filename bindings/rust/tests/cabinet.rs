@@ -7,11 +7,13 @@ use compare::random::Random;
 use compare::sample::{self, Fault, PublicKey, Signed, Subject};
 use compare::text::PRINT_DIGITS;
 use compare::worked::{worked, IDENTITIES, RECORDS};
-use held::cabinet::{asked, names, own, Both, Held, NOT_LATER, NOT_THERE, NO_CABINET, NO_PLACE};
+use held::cabinet::{
+    asked, names, own, place_with, Both, Held, NOT_LATER, NOT_THERE, NO_CABINET, NO_PLACE,
+};
 use held::{expected, first, lent, numbers, place, rounds, Seen};
 use obscurlane::{
-    check_cabinet, count_keys, find_key, make_cabinet, put_key, remove_key, Cabinet, Reason,
-    Record, CABINET_PLACES, CABINET_SIZE, CABINET_WIDTH,
+    check_cabinet, count_keys, find_key, held_keys, make_cabinet, put_key, remove_key, Cabinet,
+    Reason, Record, CABINET_NUMBER_AT, CABINET_PLACES, CABINET_SIZE, CABINET_WIDTH,
 };
 
 // ---- Subjects, keys and identities
@@ -38,6 +40,13 @@ fn at(mut subject: Subject, gnt: &[u8]) -> Subject {
 fn key(random: &mut Random, subject: &Subject) -> Vec<u8> {
     let signed = Signed::any(random);
     PublicKey::of(random, subject.clone(), signed).record()
+}
+
+/// One with this Expiry.
+fn key_until(random: &mut Random, subject: &Subject, expiry: &str) -> Vec<u8> {
+    let signed = Signed::any(random);
+    let expiry = expiry.into();
+    PublicKey { expiry, ..PublicKey::of(random, subject.clone(), signed) }.record()
 }
 
 /// The identity of these names, with another GNT and another Fingerprint.
@@ -292,6 +301,7 @@ fn expect_no_cabinet(bytes: &mut [u8], what: &str) {
     let before = bytes.to_vec();
     assert_eq!(numbers(check_cabinet(bytes)), Err(NO_CABINET), "{what}");
     assert_eq!(numbers(count_keys(bytes)), Err(NO_CABINET), "{what}");
+    assert_eq!(numbers(held_keys(bytes).map(drop)), Err(NO_CABINET), "{what}");
     assert_eq!(expected(compare::cabinet::check(bytes)), Err(NO_CABINET), "{what}");
     for text in [worked("PUBKEY_SM"), worked("ID_SM"), worked("ID_KMC"), Vec::new()] {
         assert_eq!(numbers(find_key(bytes, &text)), Err(NO_CABINET), "{what}");
@@ -302,12 +312,10 @@ fn expect_no_cabinet(bytes: &mut [u8], what: &str) {
     assert!(bytes == before, "{what}");
 }
 
-/// A cabinet with these bytes at the front of a place, and zeros after them.
-fn with_place(cabinet: &[u8], place: usize, front: &[u8]) -> Vec<u8> {
+/// A cabinet with these bytes at the front of a place, zeros after them, and this number.
+fn with_place(cabinet: &[u8], place: usize, front: &[u8], number: i64) -> Vec<u8> {
     let mut bytes = cabinet.to_vec();
-    let part = &mut bytes[place * CABINET_WIDTH..][..CABINET_WIDTH];
-    part.fill(0);
-    part[..front.len()].copy_from_slice(front);
+    bytes[place * CABINET_WIDTH..][..CABINET_WIDTH].copy_from_slice(&place_with(front, number));
     bytes
 }
 
@@ -334,7 +342,7 @@ fn bytes_that_are_not_zeros() {
     let mut random = Random::with_seed(210);
     let both = filled(&mut random, 3);
     let len = both.model.0[2].as_ref().expect("a key").record.len();
-    let ends = (2 * CABINET_WIDTH + len..3 * CABINET_WIDTH).step_by(7);
+    let ends = (2 * CABINET_WIDTH + len..2 * CABINET_WIDTH + CABINET_NUMBER_AT).step_by(7);
     let free = (3..CABINET_PLACES).map(|place| place * CABINET_WIDTH);
     let free = free.flat_map(|start| [start, start + 1, start + 1023]);
     for at in ends.chain(free).chain([2 * CABINET_WIDTH + len]) {
@@ -365,7 +373,8 @@ fn other_contents() {
     let mut random = Random::with_seed(212);
     let both = filled(&mut random, 3);
     let other = key(&mut random, &nth(9));
-    assert_eq!(numbers(check_cabinet(&with_place(&both.bytes, 40, &other))), Ok(()));
+    let number = Held::of(&other).expiry;
+    assert_eq!(numbers(check_cabinet(&with_place(&both.bytes, 40, &other, number))), Ok(()));
     let mut wrong: Vec<Vec<u8>> = (1..other.len()).map(|len| other[..len].to_vec()).collect();
     wrong.extend((1..other.len()).map(|len| other[len..].to_vec()));
     wrong.extend([
@@ -382,13 +391,16 @@ fn other_contents() {
         }
         for &fault in Fault::of(kind) {
             let faulty = sample::faulty(&mut random, kind, &[fault]);
-            if faulty.len() <= CABINET_WIDTH {
+            if faulty.len() <= CABINET_NUMBER_AT {
                 wrong.push(faulty);
             }
         }
     }
     for front in wrong.iter().filter(|front| !front.is_empty()) {
-        expect_no_cabinet(&mut with_place(&both.bytes, 40, front), &format!("{front:?}"));
+        for number in [number, 0] {
+            let mut bytes = with_place(&both.bytes, 40, front, number);
+            expect_no_cabinet(&mut bytes, &format!("{front:?}"));
+        }
     }
 }
 
@@ -403,7 +415,7 @@ fn the_same_names_twice() {
             let place = (number + 1 + random.below(CABINET_PLACES - 1)) % CABINET_PLACES;
             let gnt = random.one_of(&[EARLIER, EQUAL, LATER]);
             let twice = key(&mut random, &at(nth(number), gnt));
-            let mut bytes = with_place(&both.bytes, place, &twice);
+            let mut bytes = with_place(&both.bytes, place, &twice, Held::of(&twice).expiry);
             expect_no_cabinet(&mut bytes, &format!("{number} in {place}"));
         }
     }
@@ -418,9 +430,7 @@ fn places_in_any_order() {
         for number in 0..30 {
             let at = random.below(CABINET_PLACES);
             let record = key(&mut random, &nth(number));
-            let subject = PublicKey::of_record(&record).subject;
-            let held = Held { names: names(&subject), gnt: subject.gnt, record };
-            both.model.0[at] = Some(held);
+            both.model.0[at] = Some(Held::of(&record));
         }
         both.bytes = both.model.image();
         both.agree();
@@ -431,6 +441,118 @@ fn places_in_any_order() {
         let _ = both.remove(&identity(&mut random, &nth(4)));
         let _ = both.put(&key(&mut random, &nth(50)));
     }
+}
+
+// ---- the number of Expiry
+
+/// Dates, and their seconds in the last eight bytes of a place.
+const NUMBERS: [(&str, [u8; 8]); 10] = [
+    ("19930101T000000Z", [0; 8]),
+    ("19930101T000001Z", [0, 0, 0, 0, 0, 0, 0, 1]),
+    ("19921231T235959Z", [0xFF; 8]),
+    ("00010101T000000Z", [0xFF, 0xFF, 0xFF, 0xF1, 0x5D, 0x2A, 0x7F, 0x80]),
+    ("99991231T235959Z", [0, 0, 0, 0x3A, 0xD4, 0xB0, 0xB7, 0xFF]),
+    ("20210110T120000Z", [0, 0, 0, 0, 0x34, 0xB7, 0x62, 0xC0]),
+    ("19700101T000000Z", [0xFF, 0xFF, 0xFF, 0xFF, 0xD4, 0xBC, 0x76, 0x80]),
+    ("20610119T031408Z", [0, 0, 0, 0, 0x80, 0, 0, 0]),
+    ("19241213T204551Z", [0xFF, 0xFF, 0xFF, 0xFF, 0x7F, 0xFF, 0xFF, 0xFF]),
+    ("21290207T062816Z", [0, 0, 0, 1, 0, 0, 0, 0]),
+];
+
+/// The last eight bytes of a place.
+fn number_in(cabinet: &[u8], place: usize) -> [u8; 8] {
+    let place = &cabinet[place * CABINET_WIDTH..][..CABINET_WIDTH];
+    place[CABINET_NUMBER_AT..].try_into().expect("eight bytes")
+}
+
+/// After a put, a replacement and a removal, in the first place and in the last.
+#[test]
+fn numbers_go_with_their_keys() {
+    let mut random = Random::with_seed(216);
+    let last = CABINET_PLACES - 1;
+    for whose in [0, last] {
+        for (index, (expiry, number)) in NUMBERS.iter().enumerate() {
+            let (next, next_number) = NUMBERS[(index + 1) % NUMBERS.len()];
+            let mut both = filled(&mut random, last);
+            let _ = both.remove(&identity(&mut random, &nth(whose)));
+            assert_eq!(both.put(&key_until(&mut random, &nth(whose), expiry)), Ok(()));
+            assert_eq!(number_in(&both.bytes, whose), *number, "{expiry}");
+            let earlier = key_until(&mut random, &at(nth(whose), EARLIER), next);
+            assert_eq!(both.put(&earlier), Err(NOT_LATER));
+            assert_eq!(number_in(&both.bytes, whose), *number, "{expiry}");
+            let later = key_until(&mut random, &at(nth(whose), LATER), next);
+            assert_eq!(both.put(&later), Ok(()));
+            assert_eq!(number_in(&both.bytes, whose), next_number, "{next}");
+            assert_eq!(both.remove(&identity(&mut random, &nth(whose))), Ok(()));
+            assert_eq!(number_in(&both.bytes, whose), [0; 8]);
+        }
+    }
+}
+
+/// One more or less, zeros, in little endian, of the other sign, cut to 32 bits; and with every bit changed.
+#[test]
+fn other_numbers() {
+    let mut random = Random::with_seed(217);
+    let both = filled(&mut random, 3);
+    for (expiry, bytes) in NUMBERS {
+        let (record, right) = (key_until(&mut random, &nth(9), expiry), i64::from_be_bytes(bytes));
+        let cabinet = with_place(&both.bytes, 40, &record, right);
+        assert_eq!(numbers(check_cabinet(&cabinet)), Ok(()), "{expiry}");
+        let mut others = vec![0, right + 1, right - 1, right.swap_bytes(), -right, !right];
+        others.extend([right << 32, right >> 32, right << 8, right >> 8, i64::MIN, i64::MAX]);
+        others.extend((0..64).map(|bit| right ^ (1 << bit)));
+        others.extend([0; 10].map(|_| i64::from_be_bytes(random.bytes(8).try_into().unwrap())));
+        for other in others.into_iter().filter(|&other| other != right) {
+            let mut cabinet = with_place(&both.bytes, 40, &record, other);
+            expect_no_cabinet(&mut cabinet, &format!("{other} for {expiry}"));
+        }
+        for at in CABINET_NUMBER_AT - 9..CABINET_NUMBER_AT {
+            let mut cabinet = cabinet.clone();
+            cabinet[40 * CABINET_WIDTH + at] = random.one_of(b"\x01\x80\xFF0");
+            expect_no_cabinet(&mut cabinet, &format!("byte {at} before {expiry}"));
+        }
+        if right != 0 {
+            let mut alone = with_place(&both.bytes, 40, b"", right);
+            expect_no_cabinet(&mut alone, &format!("{right} and no key"));
+        }
+    }
+}
+
+/// In every place of a full cabinet, the number of the next one.
+#[test]
+fn numbers_of_other_places() {
+    let mut random = Random::with_seed(218);
+    let both = filled(&mut random, CABINET_PLACES);
+    for place in 0..CABINET_PLACES {
+        let held = both.model.0[place].as_ref().expect("a key");
+        let next = i64::from_be_bytes(number_in(&both.bytes, (place + 1) % CABINET_PLACES));
+        assert_ne!(held.expiry, next);
+        let mut bytes = with_place(&both.bytes, place, &held.record, next);
+        expect_no_cabinet(&mut bytes, &format!("place {place}"));
+    }
+}
+
+/// Bytes that were stored before there were numbers are no cabinet, but for keys that expire when 1993 begins. The records in them,
+/// put into an empty one, have theirs.
+#[test]
+fn bytes_from_before() {
+    let mut random = Random::with_seed(219);
+    let both = filled(&mut random, CABINET_PLACES);
+    let mut before = both.bytes.clone();
+    before.chunks_exact_mut(CABINET_WIDTH).for_each(|place| place[CABINET_NUMBER_AT..].fill(0));
+    expect_no_cabinet(&mut before, "without numbers");
+
+    let mut bytes = vec![0; CABINET_SIZE];
+    let mut cabinet = Cabinet::make(&mut bytes).expect("its length");
+    for place in before.chunks_exact(CABINET_WIDTH) {
+        let record = place.split(|&byte| byte == 0).next().expect("what stands before a zero");
+        assert_eq!(cabinet.put(record), Ok(()));
+    }
+    assert!(bytes == both.bytes);
+
+    let key = key_until(&mut random, &nth(0), "19930101T000000Z");
+    let bytes = with_place(&[0; CABINET_SIZE], 0, &key, 0);
+    assert_eq!(count_keys(&bytes), Ok(1));
 }
 
 // ---- histories
@@ -491,4 +613,30 @@ fn a_cabinet_shows_its_bytes() {
     let found = cabinet.find(&worked("ID_SM")).expect("it was put");
     assert_eq!(place(found), place(&cabinet.bytes()[..found.len()]));
     assert_eq!(Record::read(found).map(|record| record.kind()), Ok(obscurlane::Kind::Ecdh));
+}
+
+/// In the order of their places, each a part of the bytes, with its seconds.
+#[test]
+fn a_cabinet_hands_out_its_keys() {
+    let mut bytes = lent(CABINET_SIZE);
+    let mut cabinet = Cabinet::make(&mut bytes).expect("its length");
+    assert_eq!(cabinet.keys().map(Iterator::count), Ok(0));
+    for name in ["PUBKEY_KMC", "PUBKEY_MAN", "PUBKEY_SM"] {
+        cabinet.put(&worked(name)).expect("a free place");
+    }
+    cabinet.remove(&worked("ID_MAN")).expect("it was put");
+    let mut keys = cabinet.keys().expect("a cabinet");
+    let shown = format!("{keys:?}");
+    assert!(shown.starts_with("[HeldKey { record: \"PK.ECDH.1|KMCID.1:"), "{shown}");
+    assert!(shown.ends_with("|4971\", expiry: 252676411199 }]"), "{shown}");
+    for (at, name, expiry) in [(0, "PUBKEY_KMC", 884_433_600), (2, "PUBKEY_SM", 252_676_411_199)] {
+        let key = keys.next().expect("a key");
+        assert_eq!((key.record, key.expiry), (&worked(name)[..], expiry));
+        assert_eq!(
+            place(key.record),
+            place(&cabinet.bytes()[at * CABINET_WIDTH..][..key.record.len()])
+        );
+        assert_eq!(obscurlane::expiry_of(key.record), Ok(expiry));
+    }
+    assert_eq!((keys.next(), keys.next()), (None, None));
 }

@@ -8,7 +8,7 @@ use std::path::{Path, PathBuf};
 
 /// The structs that are handed over: as `crates/exports` names them, and in C. `sys` has them by the words of the latter behind the
 /// first.
-const STRUCTS: [(&str, &str); 18] = [
+const STRUCTS: [(&str, &str); 20] = [
     ("reading::Answer", "obscurlane_answer"),
     ("fields::Place", "obscurlane_place"),
     ("put::Written", "obscurlane_written"),
@@ -27,6 +27,8 @@ const STRUCTS: [(&str, &str); 18] = [
     ("sha1::Sha1", "obscurlane_sha1_state"),
     ("cabinet::Filed", "obscurlane_filed"),
     ("cabinet::Counted", "obscurlane_counted"),
+    ("text::Moment", "obscurlane_moment"),
+    ("expiry::Expiry", "obscurlane_expiry"),
 ];
 
 // ---- the files
@@ -208,6 +210,7 @@ fn in_c(of_type: &str) -> &str {
         "u16" => Some("uint16_t"),
         "u32" => Some("uint32_t"),
         "u64" => Some("uint64_t"),
+        "i64" => Some("int64_t"),
         "usize" => Some("size_t"),
         "bool" => Some("bool"),
         _ => None,
@@ -365,7 +368,7 @@ fn hold<T: Ord + std::fmt::Debug>(declared: Vec<T>, exported: Vec<T>) {
 #[test]
 fn the_header_declares_every_function() {
     let mut there: Vec<String> = functions().iter().map(c_declaration).collect();
-    assert_eq!(there.len(), 52);
+    assert_eq!(there.len(), 54);
     there.extend(functions_of_c());
     hold(header_declarations(), there);
 }

@@ -13,14 +13,15 @@ use compare::trailed::line_of;
 use compare::worked::worked;
 use compare::{agreement, file, text};
 use held::attributes::{same_attributes, same_named};
-use held::cabinet::is_place;
+use held::cabinet::{is_place, place_with, Held};
 use held::confirm::{same_request, same_response};
+use held::dates::{same_expiry, same_moment};
 use held::fingerprint::same_fingerprint;
 use held::mail::{same_block, same_mail};
 use held::reading::{same_identity, same_record};
 use held::trailed::{same_trailed, same_trailed_at, same_trailed_file, same_written};
 use held::{expected, expected_at, line_numbers, numbers, place, same_output, Seen};
-use obscurlane::{CABINET_SIZE, CABINET_WIDTH, LONGEST_MAIL, LONGEST_RECORD};
+use obscurlane::{CABINET_NUMBER_AT, CABINET_SIZE, CABINET_WIDTH, LONGEST_MAIL, LONGEST_RECORD};
 
 /// Tries every byte value in one place.
 fn at_place(bytes: &[u8], place: usize, mut tried: impl FnMut(&[u8])) {
@@ -89,6 +90,23 @@ fn neighbours_in_texts() {
                 at_place(changed, place, |text| assert_eq!(ours(text), theirs(text), "{text:?}"));
             });
         }
+    }
+}
+
+/// The seconds of a date, with every byte value in every place, and with every two in neighbouring ones.
+#[test]
+fn moments() {
+    for date in [&b"20000229T235959Z"[..], b"19991231T000000Z", b"00010101T101010Z"] {
+        everywhere(date, |text| {
+            same_moment(text);
+        });
+    }
+    for place in 1..16 {
+        at_place(b"19961130T125959Z", place - 1, |changed| {
+            at_place(changed, place, |text| {
+                same_moment(text);
+            });
+        });
     }
 }
 
@@ -171,6 +189,29 @@ fn fingerprints() {
         });
     }
     seen.expect([0, 2, 5, 6, 7, 15], 10);
+}
+
+/// In every kind, with its check made right again and as it was; and in every place of Expiry.
+#[test]
+fn expiries() {
+    let mut seen = Seen::default();
+    for (kind, fields) in fields_of_kinds() {
+        let record = sample::of_kind(kind, &fields);
+        for place in places(kind, &fields) {
+            at_place(&record, place, |record| {
+                seen.add(&same_expiry(&sample::resealed(record)));
+                seen.add(&same_expiry(record));
+            });
+        }
+        if Kind::PUBLIC_KEYS.contains(&kind) {
+            let mut changed = fields.clone();
+            everywhere(b"20201031T195959Z", |expiry| {
+                changed[2] = expiry.to_vec();
+                seen.add(&same_expiry(&sample::of_kind(kind, &changed)));
+            });
+        }
+    }
+    seen.expect([0, 2, 3, 4, 5, 6, 7], 10);
 }
 
 /// In every place of a key and of a text.
@@ -420,7 +461,8 @@ fn texts_with_mail() {
     seen.expect([0, 2, 3, 4, 21, 22], 10);
 }
 
-/// In a record in a cabinet, with its check made right again and as it was, and behind it; and in every sixteenth place of a free one.
+/// In a record in a cabinet, with its check made right again and as it was, with its number and that of the record before; behind it;
+/// in every byte of the number; and in every sixteenth place of a free one.
 #[test]
 fn cabinets() {
     let mut image = vec![0; CABINET_SIZE];
@@ -433,18 +475,24 @@ fn cabinets() {
         image[number * CABINET_WIDTH..][..CABINET_WIDTH].fill(0);
     };
     for (kind, fields) in fields_of_kinds() {
-        let mut place = sample::of_kind(kind, &fields);
-        let len = place.len();
-        place.resize(CABINET_WIDTH, 0);
+        let record = sample::of_kind(kind, &fields);
+        let len = record.len();
         if !Kind::PUBLIC_KEYS.contains(&kind) {
+            let mut place = record;
+            place.resize(CABINET_WIDTH, 0);
             same(63, &place);
             continue;
         }
-        for at in places(kind, &fields).into_iter().chain([len, len + 1, CABINET_WIDTH - 1]) {
+        let place = Held::of(&record).place();
+        let behind = [len, len + 1].into_iter().chain(CABINET_NUMBER_AT - 1..CABINET_WIDTH);
+        for at in places(kind, &fields).into_iter().chain(behind) {
             at_place(&place, at, |changed| {
                 let record = sample::resealed(&changed[..len]);
                 same(5, &[&record, &changed[len..]].concat());
                 same(5, changed);
+                if let Ok(number) = same_expiry(&record) {
+                    same(5, &place_with(&record, number));
+                }
             });
         }
     }

@@ -7,8 +7,8 @@ use compare::random::Random;
 use compare::sample::{self, Exchange, PublicKey};
 use obscurlane::{confirm_request, confirm_response, ConfirmRefusal};
 use obscurlane::{
-    Cabinet, Reason, Record, Refusal, CABINET_PLACES, CABINET_SIZE, CABINET_WIDTH, KEY_BYTES,
-    LONGEST_MAIL, LONGEST_READ, LONGEST_TRAILED, TRAILER, Z_BYTES,
+    Cabinet, Reason, Record, Refusal, CABINET_NUMBER_AT, CABINET_PLACES, CABINET_SIZE,
+    CABINET_WIDTH, KEY_BYTES, LONGEST_MAIL, LONGEST_READ, LONGEST_TRAILED, TRAILER, Z_BYTES,
 };
 
 /// What a call writes with as much room as it takes; one byte less is no room.
@@ -219,10 +219,12 @@ fn bytes_that_are_read() {
     }
 }
 
-/// Bytes of this length alone are a cabinet; it takes so many keys, each at the front of a place, and no more.
+/// Bytes of this length alone are a cabinet; it takes so many keys, each at the front of a place, and no more. Between the longest key
+/// and the number of its Expiry there are zeros.
 #[test]
 fn cabinets() {
     assert_eq!(CABINET_SIZE, CABINET_PLACES * CABINET_WIDTH);
+    assert_eq!(CABINET_WIDTH, CABINET_NUMBER_AT + size_of::<i64>());
     for len in [0, CABINET_SIZE - 1, CABINET_SIZE + 1, 2 * CABINET_SIZE] {
         let refusal = Cabinet::make(&mut vec![0; len]).expect_err("another length");
         assert_eq!(refusal, Refusal { reason: Reason::NotCabinet, field: None });
@@ -241,7 +243,14 @@ fn cabinets() {
             assert_eq!(put, Err(Reason::NoPlace));
         } else {
             assert_eq!(put, Ok(()));
-            assert!(cabinet.bytes()[number * CABINET_WIDTH..].starts_with(&key));
+            let place = &cabinet.bytes()[number * CABINET_WIDTH..][..CABINET_WIDTH];
+            let (front, expiry) = place.split_at(CABINET_NUMBER_AT);
+            assert_eq!(
+                front.split_at(key.len()),
+                (&key[..], &vec![0; front.len() - key.len()][..])
+            );
+            let seconds = obscurlane::moment_of(&fields[2]).expect("a date");
+            assert_eq!(expiry, seconds.to_be_bytes());
         }
     }
 }

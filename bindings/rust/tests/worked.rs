@@ -125,6 +125,28 @@ fn fingerprints_of_other_kinds() {
     assert_eq!(out, [0; obscurlane::LONGEST_FINGERPRINT]);
 }
 
+/// Those of the three identities.
+#[test]
+fn expiries() {
+    for (key, expiry, seconds) in [
+        ("PUBKEY_KMC", "20210110T120000Z", 884_433_600),
+        ("PUBKEY_MAN", "20210115T140000Z", 884_872_800),
+        ("PUBKEY_SM_NOSIG", "99991231T115959Z", 252_676_411_199),
+        ("PUBKEY_SM", "99991231T115959Z", 252_676_411_199),
+    ] {
+        assert_eq!(obscurlane::expiry_of(&worked(key)), Ok(seconds), "{key}");
+        assert_eq!(obscurlane::moment_of(expiry.as_bytes()), Some(seconds), "{key}");
+    }
+    let is_key = |name: &&&str| name.starts_with("PUBKEY_");
+    for name in IDENTITIES.iter().chain(&RECORDS).filter(|name| !is_key(name)) {
+        let record = worked(name);
+        for bytes in [&record[..], &record[..record.len() - 1]] {
+            let refusal = obscurlane::expiry_of(bytes).expect_err(name);
+            assert_eq!((refusal.reason, refusal.field), (Reason::UnknownKind, None), "{name}");
+        }
+    }
+}
+
 /// The keys that Z gives, and both tags, by the calls and by what they are made of.
 #[test]
 fn tags_and_keys() {

@@ -4,6 +4,7 @@
 
 use crate::fast_cabinet;
 use crate::fast_confirm;
+use crate::fast_dates;
 use crate::fast_hash::{self, Sha384};
 use crate::fast_mail;
 use crate::fast_trailed;
@@ -132,20 +133,35 @@ fn pairs(word: u64) -> Option<[u8; 4]> {
     })
 }
 
-fn is_timestamp(text: &[u8; 16]) -> bool {
-    let [date @ .., b'T', h1, h2, i1, i2, s1, s2, b'Z'] = text else { return false };
+/// The parts of a TIMESTAMP, of two digits each.
+pub struct Timestamp {
+    /// The year's first two digits.
+    pub high: u8,
+    /// The year's last two.
+    pub low: u8,
+    pub month: u8,
+    pub day: u8,
+    pub hour: u8,
+    pub minute: u8,
+    pub second: u8,
+}
+
+pub fn timestamp(text: &[u8; 16]) -> Option<Timestamp> {
+    let [date @ .., b'T', h1, h2, i1, i2, s1, s2, b'Z'] = text else { return None };
     let time = [*h1, *h2, *i1, *i2, *s1, *s2, b'0', b'0'];
-    let (Some([high, low, month, day]), Some([hour, minute, second, _])) =
-        (pairs(word_of(date)), pairs(u64::from_le_bytes(time)))
-    else {
-        return false;
-    };
-    (high, low) != (0, 0)
+    let [high, low, month, day] = pairs(word_of(date))?;
+    let [hour, minute, second, _] = pairs(u64::from_le_bytes(time))?;
+    let is_one = (high, low) != (0, 0)
         && (1..=12).contains(&month)
         && (1..=days_of(high, low, month)).contains(&day)
         && hour < 24
         && minute < 60
-        && second < 60
+        && second < 60;
+    is_one.then_some(Timestamp { high, low, month, day, hour, minute, second })
+}
+
+fn is_timestamp(text: &[u8; 16]) -> bool {
+    timestamp(text).is_some()
 }
 
 /// The days of a month in the year of these four digits: one that ends a century is leap by its first two.
@@ -574,6 +590,14 @@ impl Side for Fast {
 
     fn read_mail(text: &[u8], out: &mut [u8]) -> Result<usize, Refusal> {
         fast_mail::read_mail(text, out)
+    }
+
+    fn moment_of(text: &[u8]) -> Option<i64> {
+        fast_dates::moment_of(text)
+    }
+
+    fn expiry_of(record: &[u8]) -> Result<i64, Refusal> {
+        fast_dates::expiry_of(record)
     }
 
     fn check_cabinet(cabinet: &[u8]) -> Result<(), Refusal> {

@@ -2,9 +2,10 @@
 //! end, and of names a number is compared before the names themselves.
 
 use crate::fast::{find, read};
+use crate::fast_dates::seconds_of;
 use crate::kinds::{IDENTITIES, PUBLIC_KEYS};
 use crate::side::{Refusal, GNT_TO_END, NOT_CABINET, NOT_LATER, NOT_THERE, NO_PLACE};
-use obscurlane::{CABINET_PLACES, CABINET_SIZE, CABINET_WIDTH};
+use obscurlane::{CABINET_NUMBER_AT, CABINET_PLACES, CABINET_SIZE, CABINET_WIDTH};
 
 /// Names, and their last eight bytes as a number, in which most differ.
 #[derive(Clone, Copy, PartialEq)]
@@ -19,6 +20,7 @@ struct Held<'a> {
     record: &'a [u8],
     names: Names<'a>,
     gnt: &'a [u8],
+    number: [u8; 8],
 }
 
 type Shelf<'a> = [Option<Held<'a>>; CABINET_PLACES];
@@ -31,20 +33,25 @@ fn split(identity: &[u8]) -> (Names<'_>, &[u8]) {
 }
 
 fn read_key(record: &[u8]) -> Result<Held<'_>, Refusal> {
-    let [subject, ..] = read(record, PUBLIC_KEYS)?.1;
+    let [subject, _, expiry, ..] = read(record, PUBLIC_KEYS)?.1;
     let (names, gnt) = split(subject);
-    Ok(Held { record, names, gnt })
+    Ok(Held { record, names, gnt, number: seconds_of(expiry).to_be_bytes() })
+}
+
+fn are_zeros(bytes: &[u8]) -> bool {
+    bytes.iter().fold(0, |any, &byte| any | byte) == 0
 }
 
 fn read_place(place: &[u8]) -> Result<Option<Held<'_>>, Refusal> {
-    let (record, rest) = place.split_at(find(0, place).unwrap_or(place.len()));
-    if rest.iter().fold(0, |any, &byte| any | byte) != 0 {
-        return Err(NOT_CABINET);
+    let len = find(0, place).unwrap_or(place.len());
+    if len == 0 {
+        return are_zeros(place).then_some(None).ok_or(NOT_CABINET);
     }
-    if record.is_empty() {
-        return Ok(None);
-    }
-    read_key(record).map(Some).map_err(|_| NOT_CABINET)
+    let (front, number) = place.split_at(CABINET_NUMBER_AT);
+    let (record, rest) = front.split_at_checked(len).ok_or(NOT_CABINET)?;
+    let held = read_key(record).map_err(|_| NOT_CABINET)?;
+    let is_held = are_zeros(rest) && held.number == number;
+    is_held.then_some(Some(held)).ok_or(NOT_CABINET)
 }
 
 fn place_of(shelf: &[Option<Held<'_>>], names: Names<'_>) -> Option<usize> {
@@ -73,21 +80,24 @@ fn sought<'a>(cabinet: &'a [u8], identity: &[u8]) -> Result<(usize, &'a [u8]), R
     Ok((place, shelf[place].map_or(&[], |held| held.record)))
 }
 
-fn place_for(cabinet: &[u8], record: &[u8]) -> Result<usize, Refusal> {
+fn place_for(cabinet: &[u8], record: &[u8]) -> Result<(usize, [u8; 8]), Refusal> {
     let shelf = read_cabinet(cabinet)?;
     let key = read_key(record)?;
-    match place_of(&shelf, key.names) {
+    let place = match place_of(&shelf, key.names) {
         Some(place) if shelf[place].is_some_and(|held| key.gnt <= held.gnt) => Err(NOT_LATER),
         Some(place) => Ok(place),
         None => shelf.iter().position(Option::is_none).ok_or(NO_PLACE),
-    }
+    };
+    place.map(|place| (place, key.number))
 }
 
-fn write_place(cabinet: &mut [u8], place: usize, record: &[u8]) {
-    let (front, rest) =
-        cabinet[place * CABINET_WIDTH..][..CABINET_WIDTH].split_at_mut(record.len());
+fn write_place(cabinet: &mut [u8], place: usize, record: &[u8], number: [u8; 8]) {
+    let place = &mut cabinet[place * CABINET_WIDTH..][..CABINET_WIDTH];
+    let (front, last) = place.split_at_mut(CABINET_NUMBER_AT);
+    let (front, rest) = front.split_at_mut(record.len());
     front.copy_from_slice(record);
     rest.fill(0);
+    last.copy_from_slice(&number);
 }
 
 pub fn check_cabinet(cabinet: &[u8]) -> Result<(), Refusal> {
@@ -95,14 +105,14 @@ pub fn check_cabinet(cabinet: &[u8]) -> Result<(), Refusal> {
 }
 
 pub fn put_key(cabinet: &mut [u8], record: &[u8]) -> Result<(), Refusal> {
-    let place = place_for(cabinet, record)?;
-    write_place(cabinet, place, record);
+    let (place, number) = place_for(cabinet, record)?;
+    write_place(cabinet, place, record, number);
     Ok(())
 }
 
 pub fn remove_key(cabinet: &mut [u8], identity: &[u8]) -> Result<(), Refusal> {
     let (place, _) = sought(cabinet, identity)?;
-    write_place(cabinet, place, &[]);
+    write_place(cabinet, place, &[], [0; 8]);
     Ok(())
 }
 

@@ -3,10 +3,13 @@
 use crate::side::{Pieces, Reads, PRINT_TO_END};
 use compare::kind::Kind;
 use compare::mail::block_of;
+use compare::moment::expiry_of;
 use compare::random::Random;
 use compare::sample::{self, Cards, Exchange, PublicKey, Signed, Subject};
 use compare::trailed::line_of;
-use obscurlane::{CABINET_PLACES, CABINET_SIZE, CABINET_WIDTH, KEY_BYTES, Z_BYTES};
+use obscurlane::{
+    CABINET_NUMBER_AT, CABINET_PLACES, CABINET_SIZE, CABINET_WIDTH, KEY_BYTES, Z_BYTES,
+};
 
 /// A record as bytes and as what it is built from.
 pub struct Sample {
@@ -121,6 +124,14 @@ impl Kept {
     }
 }
 
+/// A place with this key: the record, zeros after it, and the seconds of its Expiry.
+pub fn place_of(record: &[u8]) -> Vec<u8> {
+    let mut place = record.to_vec();
+    place.resize(CABINET_NUMBER_AT, 0);
+    place.extend(expiry_of(record).expect("a key").to_be_bytes());
+    place
+}
+
 /// A full cabinet, and what is in its places.
 pub struct Filed {
     pub cabinet: Vec<u8>,
@@ -130,10 +141,9 @@ pub struct Filed {
 impl Filed {
     fn new(random: &mut Random) -> Filed {
         let kept: Vec<Kept> = (0..CABINET_PLACES).map(|_| Kept::new(random)).collect();
-        let mut cabinet = vec![0; CABINET_SIZE];
-        for (place, Kept { record, .. }) in cabinet.chunks_exact_mut(CABINET_WIDTH).zip(&kept) {
-            place[..record.len()].copy_from_slice(record);
-        }
+        let places = kept.iter().map(|kept| place_of(&kept.record));
+        let cabinet: Vec<u8> = places.flatten().collect();
+        assert_eq!((cabinet.len(), cabinet.len() / kept.len()), (CABINET_SIZE, CABINET_WIDTH));
         Filed { cabinet, kept }
     }
 
@@ -161,12 +171,13 @@ pub struct Draws {
     hashed: Random,
     agreed: Random,
     filed: Random,
+    dates: Random,
 }
 
 impl Draws {
-    pub fn with_seeds(seeds: [u64; 5]) -> Draws {
-        let [records, wrapped_keys, hashed, agreed, filed] = seeds.map(Random::with_seed);
-        Draws { records, wrapped_keys, hashed, agreed, filed }
+    pub fn with_seeds(seeds: [u64; 6]) -> Draws {
+        let [records, wrapped_keys, hashed, agreed, filed, dates] = seeds.map(Random::with_seed);
+        Draws { records, wrapped_keys, hashed, agreed, filed, dates }
     }
 }
 
@@ -200,13 +211,15 @@ pub struct Inputs {
     /// A letter for each of the requests, which has it as mail between other lines.
     pub letters: Vec<Vec<u8>>,
     pub filed: Filed,
+    /// Dates of all years.
+    pub dates: Vec<Vec<u8>>,
     /// Messages are parts of it, each of which starts a byte behind the one before.
     bytes: Vec<u8>,
 }
 
 impl Inputs {
     pub fn new(draws: &mut Draws, count: usize) -> Inputs {
-        let Draws { records: random, wrapped_keys, hashed, agreed, filed } = draws;
+        let Draws { records: random, wrapped_keys, hashed, agreed, filed, dates } = draws;
         let mut samples: Vec<Sample> = (0..count)
             .map(|index| {
                 let kind = match index % 5 {
@@ -238,6 +251,7 @@ impl Inputs {
         let agreed = (0..count).map(|_| Agreed::new(agreed, &worked)).collect();
         let bytes = hashed.bytes(MESSAGES[2] + count);
         let filed = Filed::new(filed);
+        let dates = (0..count).map(|_| sample::timestamp(dates)).collect();
         Inputs {
             samples,
             file,
@@ -248,6 +262,7 @@ impl Inputs {
             trailed,
             letters,
             filed,
+            dates,
             bytes,
         }
     }

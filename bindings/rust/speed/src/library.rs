@@ -127,6 +127,14 @@ impl Side for Library {
         obscurlane::read_mail(text, out).map_err(refusal)
     }
 
+    fn moment_of(text: &[u8]) -> Option<i64> {
+        obscurlane::moment_of(text)
+    }
+
+    fn expiry_of(record: &[u8]) -> Result<i64, Refusal> {
+        obscurlane::expiry_of(record).map_err(refusal)
+    }
+
     fn check_cabinet(cabinet: &[u8]) -> Result<(), Refusal> {
         obscurlane::check_cabinet(cabinet).map_err(refusal)
     }

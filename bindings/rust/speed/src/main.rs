@@ -2,14 +2,15 @@
 //! the archive of the module's build, that build too.
 //!
 //! First the answers of all sides to every input are compared, damaged ones too; a difference ends the program. Then the sides
-//! take turns over the same inputs, and for each the nanoseconds per record, per message that is hashed or per call on a cabinet are
-//! printed.
+//! take turns over the same inputs, and for each the nanoseconds per record or date, per message that is hashed or per call on a cabinet
+//! are printed.
 
 mod beside;
 mod constants;
 mod fast;
 mod fast_cabinet;
 mod fast_confirm;
+mod fast_dates;
 mod fast_hash;
 mod fast_mail;
 mod fast_trailed;
@@ -19,6 +20,7 @@ mod library;
 mod plain;
 mod plain_cabinet;
 mod plain_confirm;
+mod plain_dates;
 mod plain_hash;
 mod plain_mail;
 mod plain_trailed;
@@ -203,6 +205,18 @@ fn reading_from_a_letter<S: Side>(inputs: &Inputs) {
     }
 }
 
+fn a_date_as_a_number<S: Side>(inputs: &Inputs) {
+    for date in &inputs.dates {
+        black_box(S::moment_of(black_box(date))).expect("a date");
+    }
+}
+
+fn expiry_as_a_number<S: Side>(inputs: &Inputs) {
+    for printed in &inputs.printed {
+        black_box(S::expiry_of(black_box(&printed.record))).expect("a key");
+    }
+}
+
 fn checking_a_cabinet<S: Side>(inputs: &Inputs) {
     for _ in inputs.filed.taken() {
         black_box(S::check_cabinet(black_box(&inputs.filed.cabinet))).expect("a cabinet");
@@ -271,7 +285,7 @@ macro_rules! hashing {
     };
 }
 
-const ROWS: [Row; 28] = [
+const ROWS: [Row; 30] = [
     row!("reading", reading),
     row!("reading, all places", reading_all_places),
     row!("seven fields, one reading", seven_fields_one_reading),
@@ -296,6 +310,8 @@ const ROWS: [Row; 28] = [
     row!("writing with a trailer", writing_with_a_trailer),
     row!("writing as mail", writing_as_mail),
     row!("reading from a letter", reading_from_a_letter),
+    row!("a date as a number", a_date_as_a_number),
+    row!("Expiry as a number", expiry_as_a_number),
     filing!("checking a cabinet", checking_a_cabinet),
     filing!("finding a key", finding_a_key),
     filing!("replacing a key", replacing_a_key),
@@ -388,7 +404,7 @@ fn table(sets: &[Inputs], beside: &mut Option<Beside>) -> io::Result<()> {
         std::env::consts::ARCH
     );
     println!(
-        "{ROUNDS} rounds of {TURN} records in turns, of 1 MB to hash, or of {FILED} calls on a full cabinet; ns per record, message or call: median (tenth .. ninetieth percentile)"
+        "{ROUNDS} rounds of {TURN} records or dates in turns, of 1 MB to hash, or of {FILED} calls on a full cabinet; ns per record, date, message or call: median (tenth .. ninetieth percentile)"
     );
     println!();
     let [library, plain, fast] = [Library::NAME, Plain::NAME, Fast::NAME];
@@ -407,7 +423,7 @@ fn table(sets: &[Inputs], beside: &mut Option<Beside>) -> io::Result<()> {
 fn main() -> io::Result<()> {
     let words: Vec<String> = env::args().skip(1).collect();
     let words: Vec<&str> = words.iter().map(String::as_str).collect();
-    let mut draws = Draws::with_seeds([2026, 2029, 2031, 2033, 2035]);
+    let mut draws = Draws::with_seeds([2026, 2029, 2031, 2033, 2035, 2037]);
     let sets: Vec<Inputs> = (0..SETS).map(|_| Inputs::new(&mut draws, TURN)).collect();
     for inputs in &sets {
         same_answers::<Library, Plain>(inputs);
@@ -431,7 +447,8 @@ mod tests {
 
     #[test]
     fn all_sides_give_the_same_answers() {
-        let inputs = Inputs::new(&mut Draws::with_seeds([2028, 2030, 2032, 2034, 2036]), 3_000);
+        let inputs =
+            Inputs::new(&mut Draws::with_seeds([2028, 2030, 2032, 2034, 2036, 2038]), 3_000);
         same_answers::<Library, Plain>(&inputs);
         same_answers::<Library, Fast>(&inputs);
     }

@@ -9,6 +9,7 @@ use crate::kinds::{
 };
 use crate::plain_cabinet;
 use crate::plain_confirm;
+use crate::plain_dates;
 use crate::plain_hash::{self, State};
 use crate::plain_mail;
 use crate::plain_trailed;
@@ -72,7 +73,7 @@ pub fn is_ident(text: &[u8]) -> bool {
     }
 }
 
-fn is_timestamp(text: &[u8]) -> bool {
+pub fn is_timestamp(text: &[u8]) -> bool {
     let &[y1, y2, y3, y4, m1, m2, d1, d2, b'T', h1, h2, i1, i2, s1, s2, b'Z'] = text else {
         return false;
     };
@@ -88,10 +89,13 @@ fn is_timestamp(text: &[u8]) -> bool {
         && two(s1, s2) < 60
 }
 
+pub fn is_leap(year: u16) -> bool {
+    (year % 4 == 0 && year % 100 != 0) || year % 400 == 0
+}
+
 fn days_of(year: u16, month: u8) -> u8 {
-    let is_leap = (year % 4 == 0 && year % 100 != 0) || year % 400 == 0;
     match month {
-        2 if is_leap => 29,
+        2 if is_leap(year) => 29,
         2 => 28,
         4 | 6 | 9 | 11 => 30,
         _ => 31,
@@ -534,6 +538,14 @@ impl Side for Plain {
 
     fn read_mail(text: &[u8], out: &mut [u8]) -> Result<usize, Refusal> {
         plain_mail::read_mail(text, out)
+    }
+
+    fn moment_of(text: &[u8]) -> Option<i64> {
+        plain_dates::moment_of(text)
+    }
+
+    fn expiry_of(record: &[u8]) -> Result<i64, Refusal> {
+        plain_dates::expiry_of(record)
     }
 
     fn check_cabinet(cabinet: &[u8]) -> Result<(), Refusal> {

@@ -1,7 +1,7 @@
 //! That two sides give the same answers and leave the same outputs: to everything that is measured, and to as many inputs that
 //! are damaged or nothing at all.
 
-use crate::inputs::{Agreed, Filed, Inputs, Kept, Printed, Sample, MESSAGES, TAGGED};
+use crate::inputs::{place_of, Agreed, Filed, Inputs, Kept, Printed, Sample, MESSAGES, TAGGED};
 use crate::side::{Fields, Line, NamedRefusal, Reads, Refusal, Side};
 use compare::kind::Kind;
 use compare::mail::block_of;
@@ -9,8 +9,8 @@ use compare::random::Random;
 use compare::sample::{self, Exchange, Fault, ListFault, PublicKey};
 use compare::trailed::line_of;
 use obscurlane::{
-    CABINET_PLACES, CABINET_WIDTH, KEY_BYTES, LONGEST_MAIL, LONGEST_MODULE_TEXT, LONGEST_RECORD,
-    TRAILER, Z_BYTES,
+    CABINET_NUMBER_AT, CABINET_PLACES, CABINET_WIDTH, KEY_BYTES, LONGEST_MAIL, LONGEST_MODULE_TEXT,
+    LONGEST_RECORD, TRAILER, Z_BYTES,
 };
 
 /// The places of the fields, not only their bytes.
@@ -275,6 +275,48 @@ fn same_mail<A: Side, B: Side>(random: &mut Random, request: &[u8], letter: &[u8
     same_letter::<A, B>(&sample::mail(random));
 }
 
+fn same_moment<A: Side, B: Side>(text: &[u8]) {
+    assert_eq!(A::moment_of(text), B::moment_of(text), "{text:?}");
+}
+
+/// A date; damaged; cut; one whose day does not exist; the ends of its year, the ends of its month and of February; and anything.
+fn same_moments<A: Side, B: Side>(random: &mut Random, date: &[u8]) {
+    assert!(A::moment_of(date).is_some(), "{date:?}");
+    same_moment::<A, B>(date);
+    for changes in 1..=2 {
+        same_moment::<A, B>(&sample::damaged_anywhere(random, date, changes));
+    }
+    same_moment::<A, B>(&date[..random.below(date.len())]);
+    same_moment::<A, B>(&sample::missing_day(random));
+    for rest in [b"0101T000000Z", b"0301T000000Z", b"1231T235959Z"] {
+        same_moment::<A, B>(&[&date[..4], rest].concat());
+    }
+    for day in [&b"01"[..], b"28", b"29", b"30", b"31"] {
+        same_moment::<A, B>(&[&date[..6], day, &date[8..]].concat());
+        same_moment::<A, B>(&[&date[..4], b"02", day, &date[8..]].concat());
+    }
+    same_moment::<A, B>(&sample::anything(random));
+}
+
+fn same_expiry<A: Side, B: Side>(record: &[u8]) {
+    assert_eq!(A::expiry_of(record), B::expiry_of(record), "{record:?}");
+}
+
+/// A key; damaged, with its check as it was and made right again; with one fault; with a date that is damaged; and anything.
+fn same_expiries<A: Side, B: Side>(random: &mut Random, record: &[u8]) {
+    assert!(A::expiry_of(record).is_ok());
+    same_expiry::<A, B>(record);
+    let damaged = sample::damaged_anywhere(random, record, 1);
+    same_expiry::<A, B>(&damaged);
+    same_expiry::<A, B>(&sample::resealed(&damaged));
+    let mut key = PublicKey::of_record(record);
+    let fault = random.one_of(Fault::of(key.kind));
+    same_expiry::<A, B>(&sample::faulty(random, key.kind, &[fault]));
+    key.expiry = sample::damaged_anywhere(random, &key.expiry, 1);
+    same_expiry::<A, B>(&key.record());
+    same_expiry::<A, B>(&sample::anything(random));
+}
+
 /// The answer to a call, and what it leaves of a cabinet.
 fn on_copy(
     cabinet: &[u8],
@@ -298,7 +340,7 @@ fn same_filing<A: Side, B: Side>(cabinet: &[u8], record: &[u8], identity: &[u8])
 }
 
 /// A full cabinet, and one with free places: keys that are there, later ones, others, and what is refused. Then the same bytes
-/// damaged, of another length, and with the names of one place in another.
+/// damaged, of another length, with the names of one place in another, and with another number, or none, in a place.
 fn same_cabinets<A: Side, B: Side>(random: &mut Random, Filed { cabinet, kept }: &Filed) {
     assert_eq!(A::check_cabinet(cabinet), Ok(()));
     let mut less = cabinet.clone();
@@ -324,9 +366,18 @@ fn same_cabinets<A: Side, B: Side>(random: &mut Random, Filed { cabinet, kept }:
         }
         let mut twice = less.clone();
         let place = (index + 1 + random.below(CABINET_PLACES - 1)) % CABINET_PLACES;
-        twice[place * CABINET_WIDTH..][..CABINET_WIDTH].fill(0);
-        twice[place * CABINET_WIDTH..][..later.len()].copy_from_slice(later);
+        twice[place * CABINET_WIDTH..][..CABINET_WIDTH].copy_from_slice(&place_of(later));
         same_filing::<A, B>(&twice, &other.record, identity);
+        let number = index * CABINET_WIDTH + CABINET_NUMBER_AT..(index + 1) * CABINET_WIDTH;
+        let mut others = vec![cabinet.clone(); 5];
+        others[0][number.clone()].fill(0);
+        others[1][number.clone()].reverse();
+        others[2][number.clone()][random.below(8)] ^= 1 << random.below(8);
+        others[3][number.start - 1] = 1;
+        others[4][number.start - CABINET_NUMBER_AT..number.start].fill(0);
+        for wrong in others {
+            same_filing::<A, B>(&wrong, later, identity);
+        }
     }
 }
 
@@ -358,6 +409,10 @@ pub fn same_answers<A: Side, B: Side>(inputs: &Inputs) {
     for printed in &inputs.printed {
         same_fingerprints::<A, B>(&mut random, printed);
         same_trailed::<A, B>(&mut random, &printed.record);
+        same_expiries::<A, B>(&mut random, &printed.record);
+    }
+    for date in &inputs.dates {
+        same_moments::<A, B>(&mut random, date);
     }
     same_tags::<A, B>(inputs);
     for agreed in &inputs.agreed {

@@ -54,6 +54,9 @@ pub const PRINT_TO_END: usize = 16 + 1 + 4;
 /// So many stand from its GNT on, which has sixteen characters and a mark.
 pub const GNT_TO_END: usize = 16 + 1 + PRINT_TO_END;
 
+/// Where Expiry stands among the fields of a public key.
+pub const EXPIRY: usize = 2;
+
 /// Which call reads.
 #[derive(Clone, Copy)]
 pub enum Reads {
@@ -102,6 +105,10 @@ pub trait Side {
     fn write_mail(record: &[u8], out: &mut [u8]) -> Result<usize, Refusal>;
     /// Finds the record in a text, reads it, and writes it.
     fn read_mail(text: &[u8], out: &mut [u8]) -> Result<usize, Refusal>;
+    /// The seconds from 19930101T000000Z to a TIMESTAMP; none of any other text.
+    fn moment_of(text: &[u8]) -> Option<i64>;
+    /// Reads a public key, and hands back the seconds of its Expiry.
+    fn expiry_of(record: &[u8]) -> Result<i64, Refusal>;
     /// Whether the bytes are a cabinet, which each of the calls below asks first.
     fn check_cabinet(cabinet: &[u8]) -> Result<(), Refusal>;
     fn put_key(cabinet: &mut [u8], record: &[u8]) -> Result<(), Refusal>;

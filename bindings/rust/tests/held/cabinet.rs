@@ -1,12 +1,14 @@
 //! The key cabinet, held against that of `compare/`, which is given the same bytes, and against a plain one that is written here and
-//! keeps its own account: 64 places, each with the names, the GNT and the record that it has. What is read, `compare/` reads.
+//! keeps its own account: 64 places, each with the names, the GNT, the seconds of Expiry and the record that it has. What is read,
+//! `compare/` reads.
 
 use super::{expected, lent, numbers, place, Numbers};
 use compare::kind::Kind;
-use compare::record;
 use compare::sample::{PublicKey, Subject};
+use compare::{moment, record};
 use obscurlane::{
-    check_cabinet, count_keys, find_key, Cabinet, CABINET_PLACES, CABINET_SIZE, CABINET_WIDTH,
+    check_cabinet, count_keys, find_key, held_keys, Cabinet, HeldKey, CABINET_NUMBER_AT,
+    CABINET_PLACES, CABINET_SIZE, CABINET_WIDTH,
 };
 
 pub const NO_CABINET: Numbers = (23, 0);
@@ -28,7 +30,29 @@ pub fn names(subject: &Subject) -> Names {
 pub struct Held {
     pub names: Names,
     pub gnt: Vec<u8>,
+    pub expiry: i64,
     pub record: Vec<u8>,
+}
+
+impl Held {
+    /// Of a record that is accepted.
+    pub fn of(record: &[u8]) -> Held {
+        let PublicKey { subject, expiry, .. } = PublicKey::of_record(record);
+        let expiry = moment::moment_of(&expiry).expect("accepted with it");
+        Held { names: names(&subject), gnt: subject.gnt, expiry, record: record.to_vec() }
+    }
+
+    pub fn place(&self) -> Vec<u8> {
+        place_with(&self.record, self.expiry)
+    }
+}
+
+/// A place that begins with these bytes and ends with this number, with zeros between them.
+pub fn place_with(front: &[u8], number: i64) -> Vec<u8> {
+    let mut place = front.to_vec();
+    place.resize(CABINET_NUMBER_AT, 0);
+    place.extend(number.to_be_bytes());
+    place
 }
 
 /// The places.
@@ -50,8 +74,7 @@ impl Model {
 
     /// Of a record that is accepted.
     fn put(&mut self, record: &[u8]) -> Result<(), Numbers> {
-        let subject = PublicKey::of_record(record).subject;
-        let held = Held { names: names(&subject), gnt: subject.gnt, record: record.to_vec() };
+        let held = Held::of(record);
         let place = match self.place_of(&held.names) {
             Some(place) => {
                 let before = self.0[place].as_ref().expect("it was found");
@@ -76,13 +99,8 @@ impl Model {
     }
 
     pub fn image(&self) -> Vec<u8> {
-        let mut image = vec![0; CABINET_SIZE];
-        for (place, held) in image.chunks_exact_mut(CABINET_WIDTH).zip(&self.0) {
-            if let Some(Held { record, .. }) = held {
-                place[..record.len()].copy_from_slice(record);
-            }
-        }
-        image
+        let free = || vec![0; CABINET_WIDTH];
+        self.0.iter().flat_map(|held| held.as_ref().map_or_else(free, Held::place)).collect()
     }
 }
 
@@ -93,11 +111,14 @@ pub fn own(bytes: &[u8]) -> Result<(), Numbers> {
     expected(record::read(bytes, &Kind::PUBLIC_KEYS)).map(drop)
 }
 
-/// Whether these bytes of a place are all zeros, or a public key and zeros after it.
+/// Whether these bytes of a place are all zeros, or a public key, zeros after it and the seconds of its Expiry.
 pub fn is_place(bytes: &[u8]) -> bool {
+    if bytes.iter().all(|&byte| byte == 0) {
+        return true;
+    }
     let len = bytes.iter().position(|&byte| byte == 0).unwrap_or(bytes.len());
-    let (front, rest) = bytes.split_at(len);
-    rest.iter().all(|&byte| byte == 0) && (front.is_empty() || own(front).is_ok())
+    let record = &bytes[..len];
+    own(record).is_ok() && bytes == Held::of(record).place()
 }
 
 /// What an identity is refused with, before 26; and its three names.
@@ -125,6 +146,9 @@ impl Both {
         assert!(self.bytes == self.model.image());
         assert_eq!(check_cabinet(&self.bytes), Ok(()));
         assert_eq!(count_keys(&self.bytes), Ok(self.model.count()));
+        let keys = held_keys(&self.bytes).expect("a cabinet");
+        let held = self.model.0.iter().flatten();
+        assert!(keys.eq(held.map(|held| HeldKey { record: &held.record, expiry: held.expiry })));
     }
 
     pub fn put(&mut self, record: &[u8]) -> Result<(), Numbers> {

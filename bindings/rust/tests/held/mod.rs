@@ -5,6 +5,7 @@
 pub mod attributes;
 pub mod cabinet;
 pub mod confirm;
+pub mod dates;
 pub mod fingerprint;
 pub mod hash;
 pub mod mail;
