@@ -470,10 +470,11 @@ fn number_in(cabinet: &[u8], place: usize) -> [u8; 8] {
 fn numbers_go_with_their_keys() {
     let mut random = Random::with_seed(216);
     let last = CABINET_PLACES - 1;
+    let some = filled(&mut random, last);
     for whose in [0, last] {
         for (index, (expiry, number)) in NUMBERS.iter().enumerate() {
             let (next, next_number) = NUMBERS[(index + 1) % NUMBERS.len()];
-            let mut both = filled(&mut random, last);
+            let mut both = some.clone();
             let _ = both.remove(&identity(&mut random, &nth(whose)));
             assert_eq!(both.put(&key_until(&mut random, &nth(whose), expiry)), Ok(()));
             assert_eq!(number_in(&both.bytes, whose), *number, "{expiry}");

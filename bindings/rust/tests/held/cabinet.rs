@@ -128,6 +128,7 @@ pub fn asked(bytes: &[u8]) -> Result<Names, Numbers> {
 }
 
 /// The library's cabinet and the plain one; each call is made on both, and on a copy of the bytes by `compare/`.
+#[derive(Clone)]
 pub struct Both {
     pub bytes: Vec<u8>,
     pub model: Model,
