@@ -79,9 +79,8 @@ fn moments() {
     expect_share(1..=90, accepted, "were dates after the damage");
 }
 
-/// A public key, whole or with one fault, or anything else that may be read.
-fn any_key(random: &mut Random) -> Vec<u8> {
-    let kind = random.one_of(&Kind::PUBLIC_KEYS);
+/// A record of a kind, whole or with one fault, or anything else that may be read.
+fn whole_or_not(random: &mut Random, kind: Kind) -> Vec<u8> {
     match random.below(4) {
         0 => sample::record(random, kind),
         1 => {
@@ -89,8 +88,8 @@ fn any_key(random: &mut Random) -> Vec<u8> {
             sample::faulty(random, kind, &[fault])
         }
         2 => {
-            let key = sample::record(random, kind);
-            sample::resealed(&sample::damaged_anywhere(random, &key, 1))
+            let record = sample::record(random, kind);
+            sample::resealed(&sample::damaged_anywhere(random, &record, 1))
         }
         _ => sample::anything(random),
     }
@@ -101,7 +100,8 @@ fn expiries() {
     let mut random = Random::with_seed(22);
     let mut seen = Seen::default();
     for _ in 0..rounds() {
-        seen.add(&same_expiry(&any_key(&mut random)));
+        let kind = random.one_of(&Kind::PUBLIC_KEYS);
+        seen.add(&same_expiry(&whole_or_not(&mut random, kind)));
     }
     seen.expect([0], 600);
     seen.expect(1..=9, 9);
@@ -170,29 +170,12 @@ fn fields() {
     }
 }
 
-/// A wrapped key, whole or with one fault, or anything else that may be read.
-fn any_wrapped_key(random: &mut Random) -> Vec<u8> {
-    let kind = Kind::WrappedKey;
-    match random.below(4) {
-        0 => sample::record(random, kind),
-        1 => {
-            let fault = random.one_of(Fault::of(kind));
-            sample::faulty(random, kind, &[fault])
-        }
-        2 => {
-            let key = sample::record(random, kind);
-            sample::resealed(&sample::damaged_anywhere(random, &key, 1))
-        }
-        _ => sample::anything(random),
-    }
-}
-
 #[test]
 fn attributes() {
     let mut random = Random::with_seed(14);
     let mut seen = Seen::default();
     for _ in 0..rounds() {
-        seen.add(&same_attributes(&any_wrapped_key(&mut random)));
+        seen.add(&same_attributes(&whole_or_not(&mut random, Kind::WrappedKey)));
     }
     seen.expect([0], 600);
     seen.expect([1, 2, 3, 4, 5, 6, 14], 9);
@@ -204,7 +187,7 @@ fn attributes_that_may_not_be_there() {
     let mut random = Random::with_seed(15);
     let mut seen = Seen::default();
     for _ in 0..rounds() {
-        let bytes = any_wrapped_key(&mut random);
+        let bytes = whole_or_not(&mut random, Kind::WrappedKey);
         for wanted in [2, 7, 8, 9, 10, 256, 257, usize::MAX] {
             seen.add(&same_attribute(&bytes, wanted));
         }
