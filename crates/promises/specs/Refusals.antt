@@ -124,8 +124,8 @@ pub record Refusals : Type 0 where
   pub write-list : GivesOnly write-list.Post (λ κs r s. r .no) (0 ∷ 10 ∷ [])
   -- the newer key
   pub newer-of : GivesOnly newer-of.Post (λ κs r s. r .no) (13 ∷ ofPubkeys)
-  pub expiry-of : GivesOnly expiry-of.Post (λ κs r s. r .no) ofPubkeys
   pub newer : GivesOnly newer.Post (λ κs r s. now (s .1 .1 .0)) (13 ∷ ofPubkeys)
+  pub expiry-of : GivesOnly expiry-of.Post (λ κs r s. r .no) ofPubkeys
   -- the Fingerprint of a public key: no other call gives 15
   pub check-fingerprint : GivesOnly check-fingerprint.Post (λ κs r s. r .no) (15 ∷ ofPubkeys)
   pub write-fingerprint : GivesOnly write-fingerprint.Post (λ κs r s. r .no) (10 ∷ ofPubkeys)
