@@ -49,5 +49,5 @@ pub record ChoiceSaid (a b : Bytes) (r : Choice) : Type 0 where
 pub record Newer : Type 0 where
   pub said : Holds call.Post (λ κs a r s. NewerSaid (a .0) (a .1 .0) r (now (s .1 .1 .0)) (now (s .1 .1 .1 .0)))
   pub which : Holds choice.Post (λ κs a r s. ChoiceSaid (now (a .0)) (now (a .1 .0)) r)
-  -- later is an order of instants: by the parts of the date, and two TIMESTAMPs of which neither is later are one text
+  -- later is an order: two TIMESTAMPs of which neither is later are one text. That it is the order of the texts and of the parts of the date: `later-so` of Dates
   pub neither : (s t : Bytes) → T (isTimestamp s) → T (isTimestamp t) → later s t ≡ false → later t s ≡ false → s ≡ t
