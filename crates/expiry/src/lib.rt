@@ -32,6 +32,6 @@ pub fn expiry_of(record: &[u8]) -> Expiry
     Expiry {
         no: numbers::ACCEPTED,
         field: 0,
-        seconds: seconds,
+        seconds,
     }
 }

@@ -54,7 +54,7 @@ pub fn moment_of(s: &[u8]) -> Moment
     let seconds = since_start(since_year_one(s));
     Moment {
         valid: true,
-        seconds: seconds,
+        seconds,
     }
 }
 
