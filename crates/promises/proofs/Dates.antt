@@ -102,7 +102,7 @@ pub dates : Dates
 dates = record {
   called = λ κs a r s p. rw p (moment-valid (now (a .0)), λ e. moment-seconds (now (a .0)) (true-T _ e), λ e. no-moment (now (a .0)) (rw e tt));
   start = start-zero;
-  next-day = λ s t hs ht a f. next-day-so s t a hs f;
+  next-day = λ s t (hs, ht, a, f). next-day-so s t a hs f;
   same-day = λ s t hs ht a. same-day-so s t a;
   order = ordered;
   equal = seconds-inj;

@@ -3,6 +3,7 @@
 use Prim.Native.Nat.{ℕ, zero, suc, _+_, _≤_, _<_}
 use Prim.Native.Char.{code}
 use mathlib.Core.Path.{_≡_, refl, sym, ap, _∙_}
+use mathlib.Core.Logic.{inl, inr}
 use mathlib.Core.List.{List, [], _∷_, _++_, List·Memᴰ·eq-of-singleton}
 use native.Mathlib.Omega.{arith}
 use lib.ListN.{length, drop, getD, replicate, length-drop, length-replicate}
@@ -35,6 +36,7 @@ use Rattle.promises.specs.Rebuilding as asked
 use Rattle.promises.specs.Rebuilding.{Asked, IdentityField, RecordField}
 use Rattle.trailed.specs.Trailed.{readTrailed}
 use Rattle.mail.specs.Mail.{isBegins, PassedOver}
+use Rattle.promises.specs.Dates.{Follows}
 use Rattle.promises.specs.Files.{PlainSays}
 use Rattle.promises.specs.Trailed.{TrailedSays}
 use Rattle.promises.specs.Demand3.{Called, none, more}
@@ -178,6 +180,10 @@ passed-over : PassedOver (ascii "Dear all," ++ lineFeed ∷ [])
 unfolding isBegins isIdent
 passed-over = record { ended = refl; unopened = λ l i. rw (List·Memᴰ·eq-of-singleton i) tt }
 
+next-days : Follows (ascii "20000228T235959Z") (ascii "20000229T235959Z") × Follows (ascii "20000229T000000Z") (ascii "20000301T000000Z") × Follows (ascii "19921231T120000Z") (ascii "19930101T120000Z")
+unfolding isTimestamp looks numberFrom
+next-days = ((tt, tt, inl (refl, refl, refl), refl), (tt, tt, inr (inl (refl, refl, refl, refl)), refl), (tt, tt, inr (inr (refl, refl, refl, refl, refl)), refl))
+
 pub witnesses : Witnesses
 unfolding request requestFields fieldsOfWorked
 witnesses = record {
@@ -203,6 +209,7 @@ witnesses = record {
   damaged-trailed = damaged-trailed;
   caught-trailed = caught-trailed;
   passed-over = passed-over;
+  next-days = next-days;
   empty-cabinet = empty-cabinet;
   filled = first-done centreKey centre;
   equal-gnt = again centreKey centre;

@@ -38,6 +38,10 @@ SameDay s t = (year t ≡ year s) × (month t ≡ month s) × (day t ≡ day s)
 abbrev pub clock : Bytes → ℕ
 clock s = 3600 * hour s + 60 * minute s + second s
 
+-- t is the next day at the time of s
+abbrev pub Follows : Bytes → Bytes → Type 0
+Follows s t = T (isTimestamp s) × T (isTimestamp t) × DayAfter s t × (clock t ≡ clock s)
+
 pub record Dates : Type 0 where
   -- the date call: the seconds of a TIMESTAMP, and 0 with any other text
   pub called : Holds moment-of.Post
@@ -45,7 +49,7 @@ pub record Dates : Type 0 where
   -- ---- how they are counted: from the start, 86,400 for each day, and within a day by hours, minutes and seconds
 
   pub start : seconds (ascii "19930101T000000Z") ≡ pos 0
-  pub next-day : (s t : Bytes) → T (isTimestamp s) → T (isTimestamp t) → DayAfter s t → clock t ≡ clock s → seconds t ≡ seconds s +ℤ pos 86400
+  pub next-day : (s t : Bytes) → Follows s t → seconds t ≡ seconds s +ℤ pos 86400
   pub same-day : (s t : Bytes) → T (isTimestamp s) → T (isTimestamp t) → SameDay s t → seconds t +ℤ pos (clock s) ≡ seconds s +ℤ pos (clock t)
   -- ---- the order of the texts is the order of the seconds
 

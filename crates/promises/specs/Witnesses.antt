@@ -29,6 +29,7 @@ use Rattle.trailed.specs.Trailed.{readTrailed}
 use Rattle.mail.specs.Mail.{PassedOver}
 use Rattle.shelf.specs.Cabinet.{putKey}
 use Rattle.promises.specs.Cabinet.{IsCabinet}
+use Rattle.promises.specs.Dates.{Follows}
 use Rattle.promises.specs.Files.{PlainSays}
 use Rattle.promises.specs.Trailed.{TrailedSays}
 use Rattle.promises.specs.Demand3.{Called}
@@ -73,6 +74,8 @@ pub record Witnesses : Type 0 where
       → (numberOf l ≡ 0) × (numberOf m ≢ 0)
   -- by mail: a text that is passed over before a block
   pub passed-over : PassedOver (ascii "Dear all," ++ lineFeed ∷ [])
+  -- a next day in the same month, in the next month and in the next year
+  pub next-days : Follows (ascii "20000228T235959Z") (ascii "20000229T235959Z") × Follows (ascii "20000229T000000Z") (ascii "20000301T000000Z") × Follows (ascii "19921231T120000Z") (ascii "19930101T120000Z")
   -- an empty cabinet is one, the centre's key of 003 is put into it, and put again it is not later
   pub empty-cabinet : IsCabinet (replicate 65536 0)
   pub filled : putKey (replicate 65536 0) centreKey .no ≡ 0
