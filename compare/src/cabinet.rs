@@ -1,14 +1,15 @@
-//! Requests E8 and E9: the centre's key cabinet, 64 places of 1,024 bytes in 65,536 lent bytes.
+//! Requests E8, E9 and E10: the centre's key cabinet, 64 places of 1,024 bytes in 65,536 lent bytes.
 //!
-//! A place is all zeros, or holds an accepted public key, zeros behind it, and in its last eight bytes the
-//! number of the key's Expiry, in big endian and two's complement. No two records share the kind, Manufacturer
-//! and MID of their Subjects. All other bytes are no cabinet.
+//! A place is all zeros, or holds an accepted public key, zeros behind it, the last TVP accepted for its module,
+//! and in its last eight bytes the number of the key's Expiry, in big endian and two's complement. No two records
+//! share the kind, Manufacturer and MID of their Subjects. All other bytes are no cabinet.
 
 use crate::kind::Kind;
 use crate::moment::expiry_in;
 use crate::newer::{subject_in, subject_of_key, Subject};
 use crate::record::read;
 use crate::refusal::Refusal;
+use crate::text::is_timestamp;
 
 /// How many places there are.
 pub const PLACES: usize = 64;
@@ -16,10 +17,17 @@ pub const PLACES: usize = 64;
 pub const WIDTH: usize = 1024;
 /// Where the number of Expiry begins in a place: its last eight bytes.
 pub const NUMBER_AT: usize = WIDTH - 8;
+/// Where the last TVP begins in a place: the sixteen bytes before the number.
+pub const TVP_AT: usize = NUMBER_AT - START.len();
 /// The bytes of a cabinet.
 pub const SIZE: usize = PLACES * WIDTH;
 
-/// What an occupied place holds: the record, and what is read from its Subject and its Expiry.
+/// The TVP of a module of which no request was admitted, and the earliest that may stand in a place. The order of
+/// such texts is the order of the times.
+pub const START: [u8; 16] = *b"19930101T000000Z";
+
+/// What an occupied place holds: the record, what is read from its Subject and its Expiry, and the last TVP accepted
+/// for its module.
 #[derive(Clone, Debug, PartialEq, Eq)]
 struct Held {
     /// Kind, Manufacturer and MID.
@@ -27,15 +35,17 @@ struct Held {
     gnt: Vec<u8>,
     expiry: i64,
     record: Vec<u8>,
+    tvp: Vec<u8>,
 }
 
 impl Held {
-    fn of(record: &[u8]) -> Result<Held, Refusal> {
+    fn of(record: &[u8], tvp: &[u8]) -> Result<Held, Refusal> {
         let key = read(record, &Kind::PUBLIC_KEYS)?;
         let Subject { entity: (kind, manufacturer, mid), gnt } = subject_in(&key);
         let entity = (kind, manufacturer.to_vec(), mid.to_vec());
         let expiry = expiry_in(&key);
-        Ok(Held { entity, gnt: gnt.to_vec(), expiry, record: record.to_vec() })
+        let (gnt, record, tvp) = (gnt.to_vec(), record.to_vec(), tvp.to_vec());
+        Ok(Held { entity, gnt, expiry, record, tvp })
     }
 
     fn is_of(&self, (kind, manufacturer, mid): (Kind, &[u8], &[u8])) -> bool {
@@ -74,8 +84,9 @@ impl Cabinet {
     pub fn bytes(&self) -> Vec<u8> {
         let place = |held: &Option<Held>| {
             let mut bytes = [0; WIDTH];
-            if let Some(Held { record, expiry, .. }) = held {
+            if let Some(Held { record, tvp, expiry, .. }) = held {
                 bytes[..record.len()].copy_from_slice(record);
+                bytes[TVP_AT..NUMBER_AT].copy_from_slice(tvp);
                 bytes[NUMBER_AT..].copy_from_slice(&expiry.to_be_bytes());
             }
             bytes
@@ -88,18 +99,34 @@ impl Cabinet {
         self.places.iter().flatten().count()
     }
 
-    /// Puts a public key in: over the one of the same entity, which must have an earlier GNT, and else
-    /// into the lowest free place.
+    /// Puts a public key in: over the one of the same entity, which must have an earlier GNT and whose TVP
+    /// stays, and else into the lowest free place.
     pub fn put(&mut self, record: &[u8]) -> Result<(), Refusal> {
-        let new = Held::of(record)?;
-        let place = match self.place_of(subject_of_key(record)?.entity) {
-            Some(place) if self.places[place].as_ref().is_some_and(|old| new.gnt <= old.gnt) => {
+        let new = Held::of(record, &START)?;
+        if let Some(old) = self.held_of(subject_of_key(record)?.entity) {
+            if new.gnt <= old.gnt {
                 return Err(Refusal::NotLater);
             }
-            Some(place) => place,
-            None => self.places.iter().position(Option::is_none).ok_or(Refusal::NoPlace)?,
+            *old = Held { tvp: old.tvp.clone(), ..new };
+            return Ok(());
+        }
+        let free = self.places.iter_mut().find(|place| place.is_none()).ok_or(Refusal::NoPlace)?;
+        *free = Some(new);
+        Ok(())
+    }
+
+    /// Admits a load request: its module is here, and its TVP is later than the last one, which it then is.
+    pub fn admit(&mut self, request: &[u8]) -> Result<(), Refusal> {
+        let request = read(request, &[Kind::VkloadReq])?;
+        let [id_sm, _id_kmc, tvp, ..] = request.fields[..] else {
+            unreachable!("an accepted request has seven fields");
         };
-        self.places[place] = Some(new);
+        let module = Subject::of(id_sm).expect("an accepted request has an accepted ID_SM");
+        let held = self.held_of(module.entity).ok_or(Refusal::NotThere)?;
+        if tvp <= &held.tvp[..] {
+            return Err(Refusal::TvpNotLater);
+        }
+        held.tvp = tvp.to_vec();
         Ok(())
     }
 
@@ -118,19 +145,25 @@ impl Cabinet {
     fn place_of(&self, entity: (Kind, &[u8], &[u8])) -> Option<usize> {
         self.places.iter().position(|place| place.as_ref().is_some_and(|held| held.is_of(entity)))
     }
+
+    fn held_of(&mut self, entity: (Kind, &[u8], &[u8])) -> Option<&mut Held> {
+        self.places.iter_mut().flatten().find(|held| held.is_of(entity))
+    }
 }
 
 /// What a place holds, and none where its bytes may not stand in one. The record is what stands before the
-/// first zero; no key is so long that there is none before the number.
+/// first zero; no key is so long that there is none before the TVP.
 fn read_place(bytes: &[u8]) -> Option<Option<Held>> {
     if bytes.iter().all(|&byte| byte == 0) {
         return Some(None);
     }
     let (front, number) = bytes.split_last_chunk()?;
+    let (front, tvp) = front.split_last_chunk::<{ START.len() }>()?;
     let end = front.iter().position(|&byte| byte == 0)?;
     let (record, rest) = front.split_at(end);
-    let held = Held::of(record).ok()?;
-    let is_right = held.expiry == i64::from_be_bytes(*number);
+    let held = Held::of(record, tvp).ok()?;
+    let is_dated = is_timestamp(tvp) && *tvp >= START;
+    let is_right = is_dated && held.expiry == i64::from_be_bytes(*number);
     (is_right && rest.iter().all(|&byte| byte == 0)).then_some(Some(held))
 }
 
@@ -169,6 +202,14 @@ pub fn remove(lent: &mut [u8], identity: &[u8]) -> Result<(), Refusal> {
     Ok(())
 }
 
+/// Admits a load request. A refusal leaves the lent bytes as they were.
+pub fn admit(lent: &mut [u8], request: &[u8]) -> Result<(), Refusal> {
+    let mut cabinet = Cabinet::read(lent)?;
+    cabinet.admit(request)?;
+    lent.copy_from_slice(&cabinet.bytes());
+    Ok(())
+}
+
 /// The record of an entity, a part of the lent bytes.
 pub fn find<'a>(lent: &'a [u8], identity: &[u8]) -> Result<&'a [u8], Refusal> {
     let cabinet = Cabinet::read(lent)?;
@@ -186,23 +227,44 @@ mod tests {
     const EXPIRY: i64 = 252_676_411_199;
 
     #[test]
-    fn a_place_is_all_zeros_or_a_public_key_zeros_and_its_number() {
+    fn a_place_is_all_zeros_or_a_public_key_zeros_a_tvp_and_its_number() {
         let key = worked("PUBKEY_SM");
-        let with = |bytes: &[u8], number: i64| {
+        let with = |bytes: &[u8], tvp: &[u8; 16], number: i64| {
             let mut place = bytes.to_vec();
-            place.resize(NUMBER_AT, 0);
+            place.resize(TVP_AT, 0);
+            place.extend(tvp);
             place.extend(number.to_be_bytes());
             read_place(&place)
         };
-        let place = |bytes: &[u8]| with(bytes, EXPIRY);
-        assert_eq!(with(b"", 0), Some(None));
+        let place = |bytes: &[u8]| with(bytes, &START, EXPIRY);
+        assert_eq!(with(b"", &[0; 16], 0), Some(None));
+        assert_eq!(with(b"", &START, 0), None);
+        assert_eq!(with(b"", &[0; 16], EXPIRY), None);
         assert_eq!(place(b""), None);
         let held = place(&key).flatten().expect("a key");
         assert_eq!((held.record, held.gnt), (key.clone(), b"20180120T090000Z".to_vec()));
         for other in [0, EXPIRY - 1, EXPIRY + 1, -EXPIRY, EXPIRY.swap_bytes(), !EXPIRY] {
-            assert_eq!(with(&key, other), None);
+            assert_eq!(with(&key, &START, other), None);
         }
         assert_eq!(held.entity, (Kind::Smid, b"Prism".to_vec(), b"06000001".to_vec()));
+        for tvp in [START, *b"19930101T000001Z", *b"20180125T150000Z", *b"99991231T235959Z"] {
+            let held = with(&key, &tvp, EXPIRY).flatten().expect("a key");
+            assert_eq!(held.tvp, tvp);
+        }
+        for tvp in [
+            [0; 16],
+            [b' '; 16],
+            *b"19921231T235959Z",
+            *b"00010101T000000Z",
+            *b"19930101t000000Z",
+            *b"19930101T000000z",
+            *b"19930431T000000Z",
+            *b"20190229T000000Z",
+            *b"19930101T000000\0",
+            *b"19930101T240000Z",
+        ] {
+            assert_eq!(with(&key, &tvp, EXPIRY), None, "{tvp:?}");
+        }
         for other in [
             [&key[..], b"\0\x01"].concat(),
             [&key[..], b"\n"].concat(),

@@ -112,9 +112,10 @@ calls! {
     RemoveKey "remove_key" Case::filed;
     KeyPlace "key_place" Case::filed;
     FindKey "find_key" Case::filed;
-    Filing "make_cabinet,check_cabinet,count_keys,put_key,remove_key,key_place,find_key" Case::history;
+    Filing "make_cabinet,check_cabinet,count_keys,put_key,remove_key,key_place,find_key,admit" Case::history;
     MomentOf "moment_of" |case| case.moment(moment::moment_of(&case.a));
     ExpiryOf "expiry_of" |case| case.expiry(moment::expiry_of(&case.a));
+    Admit "admit" Case::filed;
 }
 
 impl Op {

@@ -348,6 +348,7 @@ mod tests {
         assert_eq!(Op::Filing.number(), 54);
         assert_eq!(Op::MomentOf.number(), 55);
         assert_eq!(Op::ExpiryOf.number(), 56);
+        assert_eq!(Op::Admit.number(), 57);
     }
 
     #[test]
@@ -546,7 +547,7 @@ mod tests {
 
     /// The place that holds the centre's key.
     fn place_of(key: &[u8]) -> Vec<u8> {
-        [key, &vec![0; 1016 - key.len()], &NUMBER].concat()
+        [key, &vec![0; 1000 - key.len()], b"19930101T000000Z", &NUMBER].concat()
     }
 
     /// The check is that of all lent bytes; the steps stand in c and take their parts from a.
@@ -570,16 +571,40 @@ mod tests {
         ] {
             assert_eq!(line(op, n, parts), said);
         }
-        let text = [&key[..], &NUMBER].concat();
-        let number = Part { start: length, end: text.len() };
+        let text = [&key[..], b"19930101T000000Z", &NUMBER].concat();
+        let behind = Part { start: length, end: text.len() };
         let write =
-            [(whole, 63 * 1024), (number, 65_528)].map(|(part, at)| Step::Write(part, at).bytes());
+            [(whole, 63 * 1024), (behind, 65_512)].map(|(part, at)| Step::Write(part, at).bytes());
         let image = [vec![0; 63 * 1024], place_of(&key)].concat();
         let check = crc16(&image);
         let place = line(Op::KeyPlace, 65_536, [&text, &identity, &write.concat()]);
         assert_eq!(place, format!("key_place 0 0 64512 {length} {check}"));
         let found = line(Op::FindKey, 65_536, [&text, &identity, &write.concat()]);
         assert_eq!(found, format!("find_key 0 0 {length} {} {check}", crc16(&key)));
+    }
+
+    /// The TVP that is stored is all that changes.
+    #[test]
+    fn an_admission_has_its_line() {
+        let (key, request) = (worked("PUBKEY_SM"), worked("VKLOADREQ"));
+        let put = Step::Call(Op::PutKey, Part { start: 0, end: key.len() }).bytes();
+        // Of 99991231T115959Z: 252,676,411,199.
+        let number = [0, 0, 0, 0x3A, 0xD4, 0xB0, 0x0F, 0x3F];
+        let with = |tvp: &[u8]| {
+            let place = [&key[..], &vec![0; 1000 - key.len()], tvp, &number].concat();
+            crc16(&[place, vec![0; 63 * 1024]].concat())
+        };
+        let [before, after] = [&b"19930101T000000Z"[..], &worked("TVP")].map(with);
+        assert_eq!(line(Op::PutKey, 65_536, [b"", &key, b""]), format!("put_key 0 0 {before}"));
+        let admitted = line(Op::Admit, 65_536, [&key, &request, &put]);
+        assert_eq!(admitted, format!("admit 0 0 {after}"));
+        let text = [&key[..], &request].concat();
+        let again = Step::Call(Op::Admit, Part { start: key.len(), end: text.len() }).bytes();
+        let again = line(Op::Admit, 65_536, [&text, &request, &[put, again].concat()]);
+        assert_eq!(again, format!("admit 27 0 {after}"));
+        let nobody = line(Op::Admit, 65_536, [b"", &request, b""]);
+        assert_eq!(nobody, format!("admit 26 0 {}", crc16(&[0; 65_536])));
+        assert_eq!(line(Op::Admit, 0, [b"", &request, b""]), "admit 23 0 65535");
     }
 
     /// The answers of all steps, and the check behind four of them and at the end.

@@ -5,8 +5,8 @@
 //! load request, the walk over a file of records and its list, the choice of the newer of two public
 //! keys, SHA-384, the Fingerprint of a public key, HMAC-SHA-384-192, the keys and confirmation tags
 //! of a load request and its response, SHA-1, manufacturers' record files, records by mail, the
-//! centre's key cabinet, and Expiry as a number. What it takes inside is its own: only the library's
-//! calls for users and its lister are answered.
+//! centre's key cabinet with the load requests that it admits, and Expiry as a number. What it takes
+//! inside is its own: only the library's calls for users and its lister are answered.
 //!
 //! It shares no line with the library that it is held against, and it is written for plain
 //! reading rather than for proof: slices, iterators, `Result`. Two implementations that come from
@@ -32,7 +32,7 @@
 //! | [`sha1`] | SHA-1 |
 //! | [`trailed`] | manufacturers' record files, whose lines have a trailer |
 //! | [`mail`] | one record by mail, between its guards |
-//! | [`cabinet`] | the centre's key cabinet |
+//! | [`cabinet`] | the centre's key cabinet, and which load requests it admits |
 //! | [`moment`] | dates and Expiry as numbers of seconds |
 //! | [`random`] | the numbers that inputs are drawn by |
 //! | [`sample`] | inputs: permitted records, faults, damage |

@@ -53,8 +53,10 @@ pub enum Refusal {
     NotLater,
     /// 25: no place is free.
     NoPlace,
-    /// 26: the cabinet has no record to find or to remove.
+    /// 26: the cabinet has no record to find or to remove, or none of the module whose request it is.
     NotThere,
+    /// 27: the request's TVP is not later than the last one accepted for its module.
+    TvpNotLater,
 }
 
 impl Refusal {
@@ -87,6 +89,7 @@ impl Refusal {
             Refusal::NotLater => 24,
             Refusal::NoPlace => 25,
             Refusal::NotThere => 26,
+            Refusal::TvpNotLater => 27,
         }
     }
 

@@ -15,7 +15,7 @@ const LENGTH: usize = 1 + 3 + 3 + 2;
 const CHECKED: usize = 4;
 
 /// The calls that a step can be.
-pub const CALLS: [Op; 7] = [
+pub const CALLS: [Op; 8] = [
     Op::MakeCabinet,
     Op::CheckCabinet,
     Op::CountKeys,
@@ -23,6 +23,7 @@ pub const CALLS: [Op; 7] = [
     Op::RemoveKey,
     Op::KeyPlace,
     Op::FindKey,
+    Op::Admit,
 ];
 
 /// A part of a.
@@ -108,11 +109,13 @@ impl Case {
         self.said(b"", &numbers, Some(number))
     }
 
-    /// The answer of a call on a place that begins with a, when all other places are free.
+    /// The answer of a call on a place that begins with a, when all other places are free. Where a is shorter, the
+    /// place has the TVP of a first put.
     pub fn filed_place(&self) -> Answer {
         let mut lent = vec![0; SIZE];
-        let start = self.n as usize * cabinet::WIDTH;
-        lent[start..start + self.a.len()].copy_from_slice(&self.a);
+        let place = &mut lent[self.n as usize * cabinet::WIDTH..][..cabinet::WIDTH];
+        place[cabinet::TVP_AT..cabinet::NUMBER_AT].copy_from_slice(&cabinet::START);
+        place[..self.a.len()].copy_from_slice(&self.a);
         let numbers = call(self.op, &mut lent, &self.b);
         self.said(b"", &numbers, Some(numbers[0] as u8))
     }
@@ -150,6 +153,7 @@ fn call(op: Op, lent: &mut [u8], part: &[u8]) -> Vec<u64> {
         Op::MakeCabinet => outcome(cabinet::make(lent)).to_vec(),
         Op::PutKey => outcome(cabinet::put(lent, part)).to_vec(),
         Op::RemoveKey => outcome(cabinet::remove(lent, part)).to_vec(),
+        Op::Admit => outcome(cabinet::admit(lent, part)).to_vec(),
         Op::CheckCabinet => outcome(cabinet::check(lent)).to_vec(),
         Op::CountKeys => {
             let count = cabinet::count(lent);
@@ -183,8 +187,10 @@ mod tests {
         let part = Part { start: 0x01_02_03, end: 0x04_05_06 };
         let put = Step::Call(Op::PutKey, part);
         assert_eq!(put.bytes(), [50, 1, 2, 3, 4, 5, 6, 0, 0]);
+        let admit = Step::Call(Op::Admit, part);
+        assert_eq!(admit.bytes(), [57, 1, 2, 3, 4, 5, 6, 0, 0]);
         let write = Step::Write(part, 0xFF_FE);
         assert_eq!(write.bytes(), [0, 1, 2, 3, 4, 5, 6, 255, 254]);
-        assert_eq!([put, write].map(|step| Step::of(&step.bytes())), [put, write]);
+        assert_eq!([put, admit, write].map(|step| Step::of(&step.bytes())), [put, admit, write]);
     }
 }

@@ -1,14 +1,16 @@
-//! The implementation held against requests E8 and E9: what is a cabinet, where a key is put, where numbers 23 to
-//! 26 stand, and where the number of Expiry does.
+//! The implementation held against requests E8, E9 and E10: what is a cabinet, where a key is put, where numbers 23
+//! to 27 stand, where the number of Expiry does, and which load requests are admitted.
 
-use compare::cabinet::{check, count, find, make, put, remove, NUMBER_AT, PLACES, SIZE, WIDTH};
+use compare::cabinet::{
+    admit, check, count, find, make, put, remove, NUMBER_AT, PLACES, SIZE, START, TVP_AT, WIDTH,
+};
 use compare::kind::Kind;
 use compare::moment::moment_of;
 use compare::random::Random;
 use compare::refusal::Refusal;
-use compare::sample::{self, Fault, PublicKey, Signed, Subject};
+use compare::sample::{self, Exchange, Fault, PublicKey, Signed, Subject};
 use compare::worked::{worked, IDENTITIES, RECORDS};
-use std::collections::BTreeMap;
+use std::collections::{BTreeMap, BTreeSet};
 
 /// An empty cabinet.
 fn empty() -> Vec<u8> {
@@ -27,7 +29,7 @@ fn bare(places: &[(usize, &[u8])]) -> Vec<u8> {
 }
 
 /// The same, with the number of what stands in them where Expiry does, if they leave room for it.
-fn image(places: &[(usize, &[u8])]) -> Vec<u8> {
+fn numbered(places: &[(usize, &[u8])]) -> Vec<u8> {
     let mut lent = bare(places);
     for (place, bytes) in places.iter().filter(|(_, bytes)| bytes.len() <= NUMBER_AT) {
         let expiry = bytes.split(|&byte| byte == b'|').nth(3).and_then(moment_of);
@@ -36,8 +38,26 @@ fn image(places: &[(usize, &[u8])]) -> Vec<u8> {
     lent
 }
 
+/// And with the TVP of a first put.
+fn image(places: &[(usize, &[u8])]) -> Vec<u8> {
+    let mut lent = numbered(places);
+    for (place, _) in places.iter().filter(|(_, bytes)| bytes.len() <= TVP_AT) {
+        write_tvp(&mut lent, *place, &START);
+    }
+    lent
+}
+
 fn write_number(lent: &mut [u8], place: usize, number: i64) {
     lent[place * WIDTH..][NUMBER_AT..WIDTH].copy_from_slice(&number.to_be_bytes());
+}
+
+fn write_tvp(lent: &mut [u8], place: usize, tvp: &[u8; 16]) {
+    lent[place * WIDTH..][TVP_AT..NUMBER_AT].copy_from_slice(tvp);
+}
+
+/// The TVP that stands in a place.
+fn tvp_in(lent: &[u8], place: usize) -> &[u8] {
+    &lent[place * WIDTH..][1000..1016]
 }
 
 /// A key of Subject number so many, with this GNT.
@@ -95,7 +115,7 @@ fn the_keys_of_document_003_are_put_found_and_removed() {
 
 #[test]
 fn a_cabinet_has_65_536_bytes() {
-    assert_eq!((PLACES, WIDTH, SIZE, NUMBER_AT), (64, 1024, 65_536, 1016));
+    assert_eq!((PLACES, WIDTH, SIZE, TVP_AT, NUMBER_AT), (64, 1024, 65_536, 1000, 1016));
     for length in [0, 1, 1024, 65_535, 65_537, 131_072] {
         let lent = vec![0; length];
         let (record, identity) = (worked("PUBKEY_SM"), worked("ID_SM"));
@@ -103,6 +123,8 @@ fn a_cabinet_has_65_536_bytes() {
         refuses(&lent, Refusal::NoCabinet, |lent| put(lent, &record));
         refuses(&lent, Refusal::NoCabinet, |lent| put(lent, b"x"));
         refuses(&lent, Refusal::NoCabinet, |lent| remove(lent, &identity));
+        refuses(&lent, Refusal::NoCabinet, |lent| admit(lent, &worked("VKLOADREQ")));
+        refuses(&lent, Refusal::NoCabinet, |lent| admit(lent, b"x"));
         assert_eq!(check(&lent), Err(Refusal::NoCabinet));
         assert_eq!(count(&lent), Err(Refusal::NoCabinet));
         assert_eq!(find(&lent, b"x"), Err(Refusal::NoCabinet));
@@ -200,6 +222,7 @@ fn other_memory_is_no_cabinet() {
         assert_eq!(find(&lent, &identity(&one)), Err(Refusal::NoCabinet));
         refuses(&lent, Refusal::NoCabinet, |lent| put(lent, &other));
         refuses(&lent, Refusal::NoCabinet, |lent| remove(lent, &identity(&one)));
+        refuses(&lent, Refusal::NoCabinet, |lent| admit(lent, &worked("VKLOADREQ")));
         let mut lent = lent;
         assert_eq!((make(&mut lent), lent == empty()), (Ok(()), true));
     }
@@ -227,7 +250,7 @@ fn expiring(gnt: &str, expiry: &str) -> Vec<u8> {
     key.record()
 }
 
-/// After a put, a replacement and a removal, with zeros before it.
+/// After a put, a replacement and a removal, with the TVP and zeros before it.
 #[test]
 fn the_number_of_expiry_stands_at_the_end_of_its_place() {
     for (first, number) in TIMES {
@@ -236,7 +259,8 @@ fn the_number_of_expiry_stands_at_the_end_of_its_place() {
         assert_eq!(put(&mut lent, &old), Ok(()));
         let (place, behind) = lent.split_at(WIDTH);
         assert_eq!(place[1016..], number.to_be_bytes());
-        assert!(place[old.len()..1016].iter().chain(behind).all(|&byte| byte == 0));
+        assert_eq!(place[1000..1016], START);
+        assert!(place[old.len()..1000].iter().chain(behind).all(|&byte| byte == 0));
         assert_eq!(place[..old.len()], old);
         for (second, number) in TIMES {
             let mut lent = lent.clone();
@@ -281,20 +305,46 @@ fn another_number_than_that_of_the_text_is_no_cabinet() {
     }
 }
 
-/// An image without numbers, as request E8 had it, is a cabinet only where all of them are 0.
+/// A number that is not written is 0, and right where the key expires so.
 #[test]
 fn an_image_without_numbers_is_none() {
     for (expiry, number) in TIMES {
-        let lent = bare(&[(5, &expiring("20180120T090000Z", expiry))]);
+        let mut lent = bare(&[(5, &expiring("20180120T090000Z", expiry))]);
+        write_tvp(&mut lent, 5, &START);
         assert_eq!(check(&lent).is_ok(), number == 0, "{expiry}");
     }
     let (key, other) = (expiring("20180120T090000Z", "19930101T000000Z"), worked("PUBKEY_KMC"));
-    assert_eq!(check(&bare(&[(5, &key), (6, &other)])), Err(Refusal::NoCabinet));
+    let mut lent = bare(&[(5, &key), (6, &other)]);
+    write_tvp(&mut lent, 5, &START);
+    write_tvp(&mut lent, 6, &START);
+    assert_eq!(check(&lent), Err(Refusal::NoCabinet));
 }
 
-/// Nothing stands before the number but zeros, and nothing at all in a free place.
+/// An image without TVPs, as requests E8 and E9 had it, is a cabinet only where all places are free.
 #[test]
-fn what_is_not_the_record_or_its_number_is_zero() {
+fn an_image_without_tvps_is_none() {
+    for (expiry, _) in TIMES {
+        let key = expiring("20180120T090000Z", expiry);
+        for mut lent in [bare(&[(5, &key)]), numbered(&[(5, &key)])] {
+            assert_eq!(check(&lent), Err(Refusal::NoCabinet), "{expiry}");
+            // It is rebuilt by putting the record in again.
+            assert_eq!((make(&mut lent), put(&mut lent, &key)), (Ok(()), Ok(())));
+            assert!(lent == image(&[(0, &key)]));
+        }
+    }
+    let keys = ["PUBKEY_KMC", "PUBKEY_MAN", "PUBKEY_SM"].map(worked);
+    let mut lent = numbered(&[(0, &keys[0]), (1, &keys[1]), (2, &keys[2])]);
+    for place in 0..3 {
+        assert_eq!(check(&lent), Err(Refusal::NoCabinet));
+        write_tvp(&mut lent, place, &START);
+    }
+    assert_eq!(count(&lent), Ok(3));
+    assert_eq!(check(&empty()), Ok(()));
+}
+
+/// Nothing stands before the TVP but zeros, and nothing at all in a free place.
+#[test]
+fn what_is_not_the_record_its_tvp_or_its_number_is_zero() {
     let key = expiring("20180120T090000Z", "20000229T000000Z");
     let right = image(&[(0, &key)]);
     for at in (key.len()..1016).chain(63 * WIDTH..SIZE) {
@@ -302,9 +352,9 @@ fn what_is_not_the_record_or_its_number_is_zero() {
         lent[at] = 1;
         assert_eq!(check(&lent), Err(Refusal::NoCabinet), "{at}");
     }
-    // Texts that go as far as the number and farther.
+    // Texts that go as far as the TVP or the number and farther.
     let mut random = Random::with_seed(7);
-    for length in [1015, 1016, 1017, 1023, 1024] {
+    for length in [999, 1000, 1001, 1015, 1016, 1017, 1023, 1024] {
         let long = sample::padded(&mut random, Kind::PkEcdh, 4, length);
         for mut lent in [bare(&[(0, &long)]), image(&[(0, &long)])] {
             assert_eq!(check(&lent), Err(Refusal::NoCabinet));
@@ -366,7 +416,7 @@ fn the_longest_key_fits() {
     for kind in Kind::PUBLIC_KEYS {
         let longest = sample::longest_record(&mut random, kind);
         assert_eq!(longest.len(), kind.longest());
-        assert!(longest.len() < NUMBER_AT);
+        assert!(longest.len() < TVP_AT);
         let mut lent = empty();
         assert_eq!(put(&mut lent, &longest), Ok(()));
         assert_eq!(find(&lent, &identity(&longest)), Ok(&longest[..]));
@@ -404,4 +454,247 @@ fn a_history_holds_what_the_request_says() {
         let found = kept.get(&subject).map(|&time| &keys[subject][time][..]);
         assert_eq!(find(&lent, &named), found.ok_or(Refusal::NotThere));
     }
+}
+
+/// 003's request with another TVP, and of another module where one is named.
+fn asking(id_sm: &[u8], tvp: &str) -> Vec<u8> {
+    let id_sm = id_sm.to_vec();
+    Exchange { id_sm, tvp: tvp.into(), ..Exchange::worked() }.confirmed().request()
+}
+
+/// The vendor's second delivery: once, and not again, whatever is put over the key; and again after a first put.
+#[test]
+fn the_request_of_document_003_is_admitted_once() {
+    let (request, id_sm, tvp) = (worked("VKLOADREQ"), worked("ID_SM"), worked("TVP"));
+    for name in ["PUBKEY_SM", "PUBKEY_SM_NOSIG"] {
+        let mut lent = empty();
+        refuses(&lent, Refusal::NotThere, |lent| admit(lent, &request));
+        assert_eq!(put(&mut lent, &worked("PUBKEY_KMC")), Ok(()));
+        refuses(&lent, Refusal::NotThere, |lent| admit(lent, &request));
+        assert_eq!(put(&mut lent, &worked(name)), Ok(()));
+        assert_eq!(tvp_in(&lent, 1), START);
+        let mut after = lent.clone();
+        assert_eq!(admit(&mut after, &request), Ok(()));
+        // The sixteen bytes, and no other.
+        lent[WIDTH + 1000..WIDTH + 1016].copy_from_slice(&tvp);
+        assert!(after == lent);
+        refuses(&lent, Refusal::TvpNotLater, |lent| admit(lent, &request));
+        // A replacement keeps the TVP, and a refused one too.
+        refuses(&lent, Refusal::NotLater, |lent| put(lent, &worked("PUBKEY_SM")));
+        let later = expiring("20180120T090001Z", "20400101T000000Z");
+        assert_eq!(put(&mut lent, &later), Ok(()));
+        assert_eq!(tvp_in(&lent, 1), tvp);
+        refuses(&lent, Refusal::TvpNotLater, |lent| admit(lent, &request));
+        // A removal drops it: the place is all zeros, and a first put starts anew.
+        assert_eq!(remove(&mut lent, &id_sm), Ok(()));
+        assert!(lent == image(&[(0, &worked("PUBKEY_KMC"))]));
+        refuses(&lent, Refusal::NotThere, |lent| admit(lent, &request));
+        assert_eq!(put(&mut lent, &worked(name)), Ok(()));
+        assert_eq!(tvp_in(&lent, 1), START);
+        assert_eq!(admit(&mut lent, &request), Ok(()));
+        refuses(&lent, Refusal::TvpNotLater, |lent| admit(lent, &request));
+    }
+}
+
+/// TVPs from the start on, one after another.
+const TVPS: [&str; 7] = [
+    "19930101T000000Z",
+    "19930101T000001Z",
+    "19991231T235959Z",
+    "20000101T000000Z",
+    "20180125T150000Z",
+    "20180125T150001Z",
+    "99991231T235959Z",
+];
+
+#[test]
+fn a_tvp_is_later_than_the_last_one() {
+    let id_sm = worked("ID_SM");
+    let key = worked("PUBKEY_SM");
+    for (last, stored) in TVPS.iter().enumerate() {
+        let mut lent = image(&[(63, &key)]);
+        write_tvp(&mut lent, 63, stored.as_bytes().try_into().unwrap());
+        for (this, tvp) in TVPS.iter().enumerate() {
+            let request = asking(&id_sm, tvp);
+            if this <= last {
+                refuses(&lent, Refusal::TvpNotLater, |lent| admit(lent, &request));
+            } else {
+                let mut lent = lent.clone();
+                assert_eq!(admit(&mut lent, &request), Ok(()));
+                assert_eq!(tvp_in(&lent, 63), tvp.as_bytes());
+                refuses(&lent, Refusal::TvpNotLater, |lent| admit(lent, &request));
+            }
+        }
+        // Those before the start are earlier than all.
+        for tvp in ["00010101T000000Z", "19921231T235959Z"] {
+            refuses(&lent, Refusal::TvpNotLater, |lent| admit(lent, &asking(&id_sm, tvp)));
+        }
+    }
+}
+
+#[test]
+fn a_tvp_that_is_no_timestamp_or_before_the_start_is_no_cabinet() {
+    let keys = ["PUBKEY_KMC", "PUBKEY_MAN", "PUBKEY_SM"].map(worked);
+    let right = image(&[(0, &keys[0]), (31, &keys[1]), (63, &keys[2])]);
+    for place in [0, 31, 63] {
+        for tvp in TVPS {
+            let mut lent = right.clone();
+            write_tvp(&mut lent, place, tvp.as_bytes().try_into().unwrap());
+            assert_eq!((check(&lent), count(&lent)), (Ok(()), Ok(3)), "{tvp}");
+        }
+        for tvp in [
+            b"19921231T235959Z",
+            b"00010101T000000Z",
+            b"00000101T000000Z",
+            b"19930101t000000Z",
+            b"19930101T000000z",
+            b"19930431T000000Z",
+            b"19930229T000000Z",
+            b"21000229T000000Z",
+            b"19930101T240000Z",
+            b"19930101T000060Z",
+            b"19930101T000000\0",
+            b"                ",
+            &[0; 16],
+            &[0xFF; 16],
+        ] {
+            let mut lent = right.clone();
+            write_tvp(&mut lent, place, tvp);
+            let (identity, request) = (worked("ID_KMC"), worked("VKLOADREQ"));
+            assert_eq!(check(&lent), Err(Refusal::NoCabinet), "{tvp:?}");
+            assert_eq!(count(&lent), Err(Refusal::NoCabinet));
+            assert_eq!(find(&lent, &identity), Err(Refusal::NoCabinet));
+            refuses(&lent, Refusal::NoCabinet, |lent| put(lent, &worked("PUBKEY_SM")));
+            refuses(&lent, Refusal::NoCabinet, |lent| remove(lent, &identity));
+            refuses(&lent, Refusal::NoCabinet, |lent| admit(lent, &request));
+            refuses(&lent, Refusal::NoCabinet, |lent| admit(lent, b"x"));
+        }
+    }
+}
+
+/// By the kind, Manufacturer and MID of ID_SM: a centre and a manufacturer with its names are not the module.
+#[test]
+fn a_request_names_its_module() {
+    let request = worked("VKLOADREQ");
+    let module = PublicKey::of_record(&worked("PUBKEY_SM"));
+    let mut random = Random::with_seed(8);
+    let [centre, maker] = [Kind::Kmcid, Kind::Smman].map(|kind| {
+        let subject = Subject { kind, ..module.subject.clone() };
+        PublicKey::of(&mut random, subject, Signed::No).record()
+    });
+    let lent = image(&[(0, &centre), (1, &maker)]);
+    assert_eq!(count(&lent), Ok(2));
+    refuses(&lent, Refusal::NotThere, |lent| admit(lent, &request));
+    let mut lent = image(&[(0, &centre), (1, &maker), (2, &module.record())]);
+    assert_eq!(admit(&mut lent, &request), Ok(()));
+    assert_eq!([0, 1, 2].map(|place| tvp_in(&lent, place)), [&START, &START, &worked("TVP")[..]]);
+    // Its GNT and Fingerprint are ignored, the rest of its names is not.
+    let lent = image(&[(2, &module.record())]);
+    let print = b"0000000000000000".to_vec();
+    for gnt in ["00010101T000000Z", "99991231T235959Z"] {
+        let id_sm = Subject { gnt: gnt.into(), ..module.subject.clone() }.identity(print.clone());
+        let mut lent = lent.clone();
+        assert_eq!(admit(&mut lent, &asking(&id_sm, "20180125T150000Z")), Ok(()));
+    }
+    for (manufacturer, mid) in
+        [("prism", "06000001"), ("Prism", "0600000"), ("Prism0", "6000001"), ("Prism", "060000010")]
+    {
+        let (manufacturer, mid) = (manufacturer.into(), mid.into());
+        let id_sm = Subject { manufacturer, mid, ..module.subject.clone() }.identity(print.clone());
+        let request = asking(&id_sm, "20180125T150000Z");
+        refuses(&lent, Refusal::NotThere, |lent| admit(lent, &request));
+    }
+}
+
+/// The request's own refusals are before 26 and 27, and another kind answers 2.
+#[test]
+fn a_requests_own_refusals_come_first() {
+    let mut random = Random::with_seed(9);
+    let mut admitted = image(&[(0, &worked("PUBKEY_SM"))]);
+    assert_eq!(admit(&mut admitted, &worked("VKLOADREQ")), Ok(()));
+    for lent in [empty(), image(&[(0, &worked("PUBKEY_SM"))]), admitted] {
+        for _ in 0..20 {
+            for &fault in Fault::of(Kind::VkloadReq) {
+                let bad = sample::faulty(&mut random, Kind::VkloadReq, &[fault]);
+                let no = compare::record::read(&bad, &[Kind::VkloadReq]).expect_err("a fault");
+                refuses(&lent, no, |lent| admit(lent, &bad));
+            }
+        }
+        for name in RECORDS.into_iter().chain(IDENTITIES).filter(|&name| name != "VKLOADREQ") {
+            refuses(&lent, Refusal::UnknownKind, |lent| admit(lent, &worked(name)));
+        }
+        let no_day = Exchange { tvp: b"20180431T150000Z".to_vec(), ..Exchange::worked() };
+        refuses(&lent, Refusal::WrongText(3), |lent| admit(lent, &no_day.request()));
+        let no_module = Exchange { id_sm: worked("ID_KMC"), ..Exchange::worked() };
+        refuses(&lent, Refusal::WrongIdentity(1), |lent| admit(lent, &no_module.request()));
+    }
+}
+
+/// The request's words: two requests of a module that were admitted since its latest first put never share a TVP, and
+/// the last of them stands in its place.
+#[test]
+fn no_tvp_is_admitted_twice_since_the_latest_first_put() {
+    let mut random = Random::with_seed(10);
+    let times = ["20180101T000000Z", "20180101T000001Z", "20180102T000000Z"];
+    let subject = |module: usize| Subject {
+        kind: Kind::Smid,
+        manufacturer: b"Prism".to_vec(),
+        mid: format!("{module:08}").into_bytes(),
+        gnt: times[0].into(),
+    };
+    let keys: Vec<[Vec<u8>; 3]> = (0..5)
+        .map(|module| {
+            times.map(|gnt| Subject { gnt: gnt.into(), ..subject(module) }.key(&mut random))
+        })
+        .collect();
+    let mut lent = empty();
+    // What is there, with the TVPs that were admitted.
+    let mut kept: BTreeMap<usize, (usize, BTreeSet<&str>)> = BTreeMap::new();
+    let mut counts = [0; 3];
+    for _ in 0..3000 {
+        let module = random.below(keys.len());
+        let named = identity(&keys[module][0]);
+        match random.below(16) {
+            0 => {
+                let answer = remove(&mut lent, &named);
+                assert_eq!(answer, kept.remove(&module).map(|_| ()).ok_or(Refusal::NotThere));
+            }
+            1 | 2 => {
+                let time = random.below(3);
+                let answer = put(&mut lent, &keys[module][time]);
+                let held = kept.entry(module).or_insert((3, BTreeSet::new()));
+                let is_refused = held.0 < 3 && time <= held.0;
+                assert_eq!(answer, if is_refused { Err(Refusal::NotLater) } else { Ok(()) });
+                if !is_refused {
+                    held.0 = time;
+                }
+            }
+            _ => {
+                let tvp = random.one_of(&TVPS);
+                let answer = admit(&mut lent, &asking(&named, tvp));
+                let expected = match kept.get_mut(&module) {
+                    None => Err(Refusal::NotThere),
+                    Some((_, tvps)) if tvps.last().copied().unwrap_or(TVPS[0]) >= tvp => {
+                        Err(Refusal::TvpNotLater)
+                    }
+                    Some((_, tvps)) => {
+                        assert!(tvps.insert(tvp), "admitted twice");
+                        Ok(())
+                    }
+                };
+                assert_eq!(answer, expected);
+                counts[match answer {
+                    Ok(()) => 0,
+                    Err(Refusal::NotThere) => 1,
+                    Err(_) => 2,
+                }] += 1;
+            }
+        }
+        let place =
+            find(&lent, &named).map(|found| found.as_ptr() as usize - lent.as_ptr() as usize);
+        let last = kept.get(&module).map(|(_, tvps)| tvps.last().copied().unwrap_or(TVPS[0]));
+        let stored = place.ok().map(|start| &lent[start + 1000..start + 1016]);
+        assert_eq!(stored, last.map(str::as_bytes));
+    }
+    assert!(counts.into_iter().all(|count| count >= 200), "{counts:?}");
 }

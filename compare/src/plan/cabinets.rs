@@ -1,12 +1,12 @@
-//! Request E8: the centre's key cabinet. Many calls one after another are in `histories.rs`, and the numbers in its
-//! places in `stored.rs`.
+//! Request E8: the centre's key cabinet. Many calls one after another are in `histories.rs`, the numbers in its
+//! places in `stored.rs`, and the TVPs in `admissions.rs`.
 
 use super::long::{Block, Part as LongPart, MORE};
-use super::pool::{hold, write, Pool, SUBJECTS};
+use super::pool::{hold, write, Pool, GNTS, NEAR_NAMES, SUBJECTS};
 use super::Plan;
 use crate::calls::Op;
 use crate::steps::{Part, Step};
-use compare::cabinet::{NUMBER_AT, PLACES, SIZE, WIDTH};
+use compare::cabinet::{NUMBER_AT, PLACES, SIZE, START, TVP_AT, WIDTH};
 use compare::kind::Kind;
 use compare::moment::moment_of;
 use compare::sample::{self, PublicKey, Subject};
@@ -200,23 +200,13 @@ fn names(plan: &mut Plan, pool: &Pool) {
             plan.file(pool, op, &steps, &identity);
         }
     };
-    for gnt in ["00010101T000000Z", "20180120T090000Z", "99991231T235959Z"] {
+    for gnt in GNTS {
         named(Subject { gnt: gnt.into(), ..subject.clone() });
     }
     for kind in [Kind::Smman, Kind::Kmcid] {
         named(Subject { kind, ..subject.clone() });
     }
-    for (manufacturer, mid) in [
-        ("prism", "06000001"),
-        ("Pris", "06000001"),
-        ("Prism", "0600000"),
-        ("Prism", "06000002"),
-        ("Prism", "060000011"),
-        ("Prism1", "06000001"),
-        ("Prism0", "6000001"),
-        ("06000001", "Prism"),
-        ("P", "0"),
-    ] {
+    for (manufacturer, mid) in NEAR_NAMES {
         let (manufacturer, mid) = (manufacturer.into(), mid.into());
         named(Subject { manufacturer, mid, ..subject.clone() });
     }
@@ -268,8 +258,8 @@ fn images(plan: &mut Plan, pool: &Pool) {
     let mut images: Vec<Vec<Step>> = vec![
         // Something behind the zeros, and right behind the record.
         with(&[(key, 0)], &[at(letter, 0, length + 1)]),
-        with(&[(key, 0)], &[at(letter, 0, NUMBER_AT - 1)]),
-        with(&[(key, 63)], &[at(letter, 63, NUMBER_AT - 1)]),
+        with(&[(key, 0)], &[at(letter, 0, TVP_AT - 1)]),
+        with(&[(key, 63)], &[at(letter, 63, TVP_AT - 1)]),
         with(&[(key, 5)], &[at(line_feed, 5, length)]),
         [&[write(pool.ones, 2)][..], &hold(key, 2)].concat(),
         // A free place that is none.
@@ -294,7 +284,7 @@ fn images(plan: &mut Plan, pool: &Pool) {
         with(&[(pool.worked[2], 20), (pool.worked[3], 4)], &[]),
         // The last of all places.
         [&pool.lowest(63)[..], &hold(pool.keys[0].later, 63)].concat(),
-        [&pool.full()[..], &[at(letter, 63, NUMBER_AT - 1)]].concat(),
+        [&pool.full()[..], &[at(letter, 63, TVP_AT - 1)]].concat(),
         (0..PLACES).map(|place| write(pool.ones, place)).collect(),
     ];
     // What is no public key, in a place: records of other kinds, an identity, and one with each fault.
@@ -311,7 +301,7 @@ fn images(plan: &mut Plan, pool: &Pool) {
     plan.file_all(pool, SIZE, &images[0], [b"x", b"x"]);
     plan.file_all(pool, SIZE, &images[15], [pool.record(1), pool.identity(4)]);
     // Each damage made good again.
-    let spoiled = with(&[(key, 0)], &[at(letter, 0, NUMBER_AT - 1)]);
+    let spoiled = with(&[(key, 0)], &[at(letter, 0, TVP_AT - 1)]);
     let again = [&spoiled[..], &[write(pool.zeros, 0)], &hold(key, 0)].concat();
     plan.file_all(pool, SIZE, &again, [pool.record(70), pool.identity(1)]);
     plan.file(pool, Op::MakeCabinet, &images[0], b"");
@@ -342,19 +332,20 @@ fn longest(plan: &mut Plan, pool: &Pool) {
     }
 }
 
-/// Every byte value in a place with a record: behind it, in its number, in its first byte, and in its names and its
-/// Expiry, with the check made right again; and in a free place. The number of the last sort is 0.
+/// Every byte value in a place with a record: behind it, in its TVP and its number, in its first byte, and in its names
+/// and its Expiry, with the check made right again; and in a free place. The number of the last sort is 0.
 fn every_byte(plan: &mut Plan) {
     let key = PublicKey::of_record(&worked("PUBKEY_KMC"));
     for (expiry, from) in [("20210110T120000Z", 0), ("19000301T000000Z", 1)] {
         let key = PublicKey { expiry: expiry.into(), ..key.clone() }.record();
-        let place = [&key[..], &vec![0; NUMBER_AT - key.len()], &number_bytes(expiry)].concat();
-        let behind = [0, key.len() - 1, key.len(), key.len() + 1, NUMBER_AT - 2, NUMBER_AT - 1];
+        let zeros = vec![0; TVP_AT - key.len()];
+        let place = [&key[..], &zeros, &START, &number_bytes(expiry)].concat();
+        let behind = [0, key.len() - 1, key.len(), key.len() + 1, TVP_AT - 2, TVP_AT - 1];
         for (index, byte) in behind.into_iter().chain(NUMBER_AT..WIDTH).enumerate().skip(from) {
             plan.every_byte(Op::CheckCabinet, [0, 63, 31][index % 3], &place, byte);
         }
     }
-    for byte in [0, 1, NUMBER_AT - 1, NUMBER_AT, WIDTH - 1] {
+    for byte in [0, 1, TVP_AT - 1, TVP_AT, NUMBER_AT - 1, NUMBER_AT, WIDTH - 1] {
         plan.every_byte(Op::CheckCabinet, 63, &[0; WIDTH], byte);
     }
     let expiry = b"19930101T000000Z".to_vec();

@@ -1,4 +1,4 @@
-//! Request E8: histories, calls on one cabinet one after another.
+//! Request E8: histories, calls on one cabinet one after another. Those with admissions are in `admissions.rs`.
 
 use super::pool::{Pool, SUBJECTS};
 use super::Plan;
@@ -22,13 +22,18 @@ pub fn add(plan: &mut Plan) {
 }
 
 impl Plan {
-    fn history(&mut self, pool: &Pool, steps: impl IntoIterator<Item = Step>) {
+    /// A history whose steps take their parts from a text.
+    pub(super) fn history(
+        &mut self,
+        text: &impl AsRef<[u8]>,
+        steps: impl IntoIterator<Item = Step>,
+    ) {
         let c = steps.into_iter().flat_map(Step::bytes).collect();
-        self.case(Op::Filing, 0, pool.text.clone(), Vec::new(), c);
+        self.case(Op::Filing, 0, text.as_ref().to_vec(), Vec::new(), c);
     }
 }
 
-const NOTHING: Part = Part { start: 0, end: 0 };
+pub(super) const NOTHING: Part = Part { start: 0, end: 0 };
 
 /// A step of a history that asks how many there are.
 fn counted() -> Step {
@@ -138,6 +143,13 @@ mod tests {
             ("find_key", 0, 200),
             ("find_key", 26, 50),
             ("count_keys", 0, 200),
+            ("admit", 0, 500),
+            ("admit", 26, 200),
+            ("admit", 27, 500),
+            ("admit", 2, 20),
+            ("admit", 4, 5),
+            ("admit", 6, 5),
+            ("admit", 9, 5),
         ] {
             let count = counts.get(&(name, number)).copied().unwrap_or(0);
             assert!(count >= least, "{name} {number}: {count}");

@@ -1,6 +1,7 @@
 //! The cases, group by group. Each group has its own seed, so that a change in one leaves the
 //! others as they are.
 
+mod admissions;
 mod agreement;
 mod alphabets;
 mod attributes;
@@ -75,6 +76,7 @@ pub fn all() -> Vec<Case> {
         moments::add,
         expiries::add,
         stored::add,
+        admissions::add,
     ];
     let mut plan = Plan { cases: Vec::new(), random: Random::with_seed(0) };
     for (seed, add) in (1..).zip(groups) {

@@ -1,10 +1,11 @@
-//! What the steps of cabinets take: records, each with the number of its Expiry behind it, and identities of many
-//! Subjects, and what is none, one behind the other in one text. So the case file has each of them once.
+//! What the steps of cabinets take: records, each with the TVP of a first put and the number of its Expiry behind it,
+//! and identities of many Subjects, and what is none, one behind the other in one text. So the case file has each of
+//! them once.
 
 use super::Plan;
 use crate::calls::Op;
 use crate::steps::{Part, Step};
-use compare::cabinet::{NUMBER_AT, PLACES, SIZE, WIDTH};
+use compare::cabinet::{NUMBER_AT, PLACES, SIZE, START, TVP_AT, WIDTH};
 use compare::kind::Kind;
 use compare::moment::moment_of;
 use compare::random::Random;
@@ -21,6 +22,22 @@ const TIMES: [[&str; 3]; 4] = [
     ["20180110T115959Z", "20180110T120000Z", "20180111T120000Z"],
     ["19991231T235959Z", "20000101T000000Z", "20000201T000000Z"],
     ["00010101T000000Z", "50000615T123456Z", "99991231T235959Z"],
+];
+
+/// GNTs that do not tell a Subject from another: the first that there is, document 003's, and the last.
+pub(super) const GNTS: [&str; 3] = ["00010101T000000Z", "20180120T090000Z", "99991231T235959Z"];
+
+/// Manufacturer and MID of other Subjects than document 003's module, which are nearly its own.
+pub(super) const NEAR_NAMES: [(&str, &str); 9] = [
+    ("prism", "06000001"),
+    ("Pris", "06000001"),
+    ("Prism", "0600000"),
+    ("Prism", "06000002"),
+    ("Prism", "060000011"),
+    ("Prism1", "06000001"),
+    ("Prism0", "6000001"),
+    ("06000001", "Prism"),
+    ("P", "0"),
 ];
 
 /// The keys of one Subject, and an identity that names it, with another GNT and Fingerprint.
@@ -115,9 +132,11 @@ pub(super) fn write(part: Part, place: usize) -> Step {
     Step::Write(part, place * WIDTH)
 }
 
-/// The steps that write a key of such a text to the start of a place, and its number to the end.
+/// The steps that write a key of such a text to the start of a place, and the TVP of a first put and its number to
+/// the end.
 pub(super) fn hold(key: Part, place: usize) -> [Step; 2] {
-    [write(key, place), number(number_of(key), place)]
+    let end = Part { start: tvp_of(key).start, end: number_of(key).end };
+    [write(key, place), tvp(end, place)]
 }
 
 /// The step that writes a number to the end of a place.
@@ -125,9 +144,20 @@ pub(super) fn number(part: Part, place: usize) -> Step {
     Step::Write(part, place * WIDTH + NUMBER_AT)
 }
 
-/// The number that stands behind a key.
-fn number_of(key: Part) -> Part {
+/// The step that writes where the TVP stands in a place.
+pub(super) fn tvp(part: Part, place: usize) -> Step {
+    Step::Write(part, place * WIDTH + TVP_AT)
+}
+
+/// The TVP that stands behind a key.
+pub(super) fn tvp_of(key: Part) -> Part {
     let start = key.end + 1;
+    Part { start, end: start + NUMBER_AT - TVP_AT }
+}
+
+/// The number that stands behind it.
+pub(super) fn number_of(key: Part) -> Part {
+    let start = tvp_of(key).end;
     Part { start, end: start + WIDTH - NUMBER_AT }
 }
 
@@ -157,8 +187,8 @@ impl Plan {
         self.case(op, room as u64, text.as_ref()[..end].to_vec(), b.to_vec(), c);
     }
 
-    /// Every call but the making one on what these steps made: the put of a record, and the others of an
-    /// identity.
+    /// Every call but the making one on what these steps made: the put of a record, the others of an identity, and
+    /// the admission of 003's request.
     pub(super) fn file_all(
         &mut self,
         text: &impl AsRef<[u8]>,
@@ -173,6 +203,7 @@ impl Plan {
         for op in [Op::RemoveKey, Op::KeyPlace, Op::FindKey] {
             self.file_in(room, text, op, steps, identity);
         }
+        self.file_in(room, text, Op::Admit, steps, &worked("VKLOADREQ"));
     }
 }
 
@@ -189,12 +220,13 @@ impl Text {
         Part { start, end }
     }
 
-    /// The same, and in the next line the number of its Expiry; 0 where none stands there.
+    /// The same, and in the next line the TVP of a first put and the number of its Expiry; 0 where none stands
+    /// there.
     pub(super) fn add_key(&mut self, record: Vec<u8>) -> Part {
         let expiry = record.split(|&byte| byte == b'|').nth(3).unwrap_or_default();
         let number = moment_of(expiry).unwrap_or(0);
         let part = self.add(record);
-        self.add(number.to_be_bytes());
+        self.add([&START[..], &number.to_be_bytes()].concat());
         part
     }
 }
@@ -291,7 +323,7 @@ mod tests {
 
     /// What is written is what is put.
     #[test]
-    fn a_key_of_the_pool_is_held_with_its_number() {
+    fn a_key_of_the_pool_is_held_with_its_tvp_and_its_number() {
         let pool = Pool::new();
         let mut cabinet = Cabinet::empty();
         let mut lent = vec![0; SIZE];

@@ -2,11 +2,11 @@
 
 use super::expiries::ends;
 use super::moments::at;
-use super::pool::{hold, number, write, Pool, Text};
+use super::pool::{hold, number, number_of, tvp, tvp_of, write, Pool, Text};
 use super::Plan;
 use crate::calls::Op;
 use crate::steps::{Part, Step};
-use compare::cabinet::{NUMBER_AT, SIZE, WIDTH};
+use compare::cabinet::{NUMBER_AT, SIZE, TVP_AT, WIDTH};
 use compare::kind::Kind;
 use compare::moment::moment_of;
 use compare::random::Random;
@@ -41,7 +41,7 @@ struct Timed {
 struct Shelf {
     text: Text,
     keys: Vec<Timed>,
-    /// A record that is too long for what stands before the number by as many bytes, up to the whole place.
+    /// Records that end around the TVP and the number, up to the whole place.
     long: Vec<Part>,
     /// A letter.
     letter: Part,
@@ -73,9 +73,12 @@ impl Shelf {
             keys[index].wrong = wrong.map(|number| text.add(number.to_be_bytes())).to_vec();
         }
         let mut long = |length| text.add(sample::padded(random, Kind::PkEcdh, 4, length));
-        let long = [NUMBER_AT - 1, NUMBER_AT, NUMBER_AT + 1, WIDTH - 1, WIDTH].map(&mut long);
+        let lengths = [NUMBER_AT - 1, NUMBER_AT, NUMBER_AT + 1, WIDTH - 1, WIDTH];
+        let mut long = lengths.map(&mut long).to_vec();
         let letter = text.add(b"x");
-        Shelf { text, keys, long: long.to_vec(), letter }
+        let mut longer = |length| text.add_key(sample::padded(random, Kind::PkEcdh, 4, length));
+        long.extend([TVP_AT - 1, TVP_AT, TVP_AT + 1].map(&mut longer));
+        Shelf { text, keys, long, letter }
     }
 
     fn bytes(&self, part: Part) -> &[u8] {
@@ -133,7 +136,7 @@ fn wrong(plan: &mut Plan, shelf: &Shelf) {
         // All of them for every third time.
         let count = if index % 3 == 1 { timed.wrong.len() } else { 5 };
         for &other in &timed.wrong[..count] {
-            let steps = [write(timed.key, place), number(other, place)];
+            let steps = [&hold(timed.key, place)[..], &[number(other, place)]].concat();
             plan.file(&shelf.text, Op::CheckCabinet, &steps, b"");
         }
     }
@@ -152,31 +155,35 @@ fn wrong_for_every_call(plan: &mut Plan, shelf: &Shelf) {
     }
     // The numbers of two places exchanged, and made right again.
     let mut steps = [hold(first.key, 1), hold(other.key, 2)].concat();
-    let [one, two] = [steps[1].part(), steps[3].part()];
+    let [one, two] = [first.key, other.key].map(number_of);
     steps.extend([number(two, 1), number(one, 2)]);
     plan.file(&shelf.text, Op::CheckCabinet, &steps, b"");
     steps.extend([number(one, 1), number(two, 2)]);
     plan.file(&shelf.text, Op::CheckCabinet, &steps, b"");
 }
 
-/// Something before the number, and texts that leave no room for it.
+/// Something before the TVP, and texts that leave no room for it or for the number.
 fn between(plan: &mut Plan, shelf: &Shelf) {
     let start = |byte: usize| Step::Write(shelf.letter, 9 * WIDTH + byte);
     for index in [6, 7, 13] {
         let timed = &shelf.keys[index];
         let length = timed.key.end - timed.key.start;
-        for byte in [length, length + 1, 600, NUMBER_AT - 8, NUMBER_AT - 1] {
+        for byte in [length, length + 1, 600, TVP_AT - 8, TVP_AT - 1] {
             let steps = [&hold(timed.key, 9)[..], &[start(byte)]].concat();
             plan.file(&shelf.text, Op::CheckCabinet, &steps, b"");
         }
-        // The number one byte and eight bytes too early.
+        // The number one byte and eight bytes too early, and with it the TVP.
         for early in [1, 8] {
-            let number = hold(timed.key, 9)[1].part();
-            let steps = [write(timed.key, 9), Step::Write(number, 10 * WIDTH - 8 - early)];
-            plan.file(&shelf.text, Op::CheckCabinet, &steps, b"");
+            let dated = tvp(tvp_of(timed.key), 9);
+            let alone = Step::Write(number_of(timed.key), 9 * WIDTH + NUMBER_AT - early);
+            let both = Step::Write(hold(timed.key, 9)[1].part(), 9 * WIDTH + TVP_AT - early);
+            for steps in [&[dated, alone][..], &[alone, dated], &[both], &[both, dated]] {
+                let steps = [&[write(timed.key, 9)], steps].concat();
+                plan.file(&shelf.text, Op::CheckCabinet, &steps, b"");
+            }
         }
-        // And the record at the end of its place, or over the number's bytes.
-        for byte in [WIDTH - length, NUMBER_AT - length, NUMBER_AT] {
+        // And the record at the end of its place, or over the bytes of the number or of the TVP.
+        for byte in [WIDTH - length, NUMBER_AT - length, NUMBER_AT, TVP_AT - length, TVP_AT] {
             let fits = length.min(WIDTH - byte);
             let part = Part { start: timed.key.start, end: timed.key.start + fits };
             let moved = Step::Write(part, 9 * WIDTH + byte);
@@ -188,29 +195,34 @@ fn between(plan: &mut Plan, shelf: &Shelf) {
     for &long in &shelf.long {
         plan.file(&shelf.text, Op::CheckCabinet, &[write(long, 9)], b"");
         for index in [6, 13] {
-            let steps = [write(long, 9), number(hold(shelf.keys[index].key, 9)[1].part(), 9)];
+            // With a number behind it, and with a TVP before that.
+            let key = shelf.keys[index].key;
+            let steps = [write(long, 9), number(number_of(key), 9)];
             plan.file(&shelf.text, Op::CheckCabinet, &steps, b"");
+            let steps = [write(long, 9), hold(key, 9)[1]];
             plan.file(&shelf.text, Op::CountKeys, &steps, b"");
         }
     }
 }
 
-/// A free place has no number, not even that of the record that was in it.
+/// A free place has no TVP and no number, not even those of the record that was in it.
 fn free(plan: &mut Plan, shelf: &Shelf) {
-    for byte in NUMBER_AT..WIDTH {
+    for byte in TVP_AT..WIDTH {
         let steps = [Step::Write(shelf.letter, 63 * WIDTH + byte)];
         plan.file(&shelf.text, Op::CheckCabinet, &steps, b"");
     }
     for timed in shelf.keys.iter().step_by(2) {
-        let [record, its] = hold(timed.key, 0);
+        let [record, both] = hold(timed.key, 0);
+        let its = number(number_of(timed.key), 0);
         plan.file(&shelf.text, Op::CheckCabinet, &[its], b"");
         let removed = Step::Call(Op::RemoveKey, timed.identity);
-        plan.file(&shelf.text, Op::CountKeys, &[record, its, removed], b"");
-        plan.file(&shelf.text, Op::CheckCabinet, &[record, its, removed, its], b"");
+        plan.file(&shelf.text, Op::CountKeys, &[record, both, removed], b"");
+        plan.file(&shelf.text, Op::CheckCabinet, &[record, both, removed, its], b"");
+        plan.file(&shelf.text, Op::CheckCabinet, &[record, both, removed, both], b"");
     }
 }
 
-/// Images as they were without numbers.
+/// Images as they were without numbers, and the same with a TVP.
 fn without(plan: &mut Plan) {
     let pool = Pool::new();
     let records = |count: usize| -> Vec<Step> {
@@ -221,6 +233,8 @@ fn without(plan: &mut Plan) {
     }
     for part in pool.worked {
         plan.file(&pool, Op::CheckCabinet, &[write(part, 3)], b"");
+        let steps = [write(part, 3), tvp(tvp_of(part), 3)];
+        plan.file(&pool, Op::CheckCabinet, &steps, b"");
     }
     // All but one have it.
     for place in [0, 31, 63] {
@@ -277,10 +291,10 @@ fn flipped(plan: &mut Plan) {
         let subject = plan.random.below(pool.keys.len());
         let place = plan.random.below(64);
         let key = pool.keys[subject].first;
-        let right = hold(key, place)[1].part();
+        let right = number_of(key);
         let right = text.0[right.start..right.end].try_into().expect("eight bytes");
         let other = text.add((i64::from_be_bytes(right) ^ 1 << bit).to_be_bytes());
-        let steps = [write(key, place), number(other, place)];
+        let steps = [&hold(key, place)[..], &[number(other, place)]].concat();
         let op = [Op::CheckCabinet, Op::CountKeys, Op::KeyPlace][bit % 3];
         let identity = pool.keys[subject].identity;
         let identity = text.0[identity.start..identity.end].to_vec();

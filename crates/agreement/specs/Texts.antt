@@ -7,33 +7,16 @@ use lib.ListN.{getD}
 use Rattle.text.specs.Text.{Bytes, ascii}
 use Rattle.text.specs.Base16.{base16Decode}
 use Rattle.format.specs.Kinds.{REQ}
+use Rattle.format.specs.Requests.{idSm, idKmc, tvp, hwid, fwid}
 use Rattle.format.specs.Read.{readOf}
 use Rattle.items.specs.Items.{lvConcat}
 use Rattle.put.specs.Made.{Made}
 use Rattle.given.specs.Given.{given}
 
--- ---- the fields of a request, by their names in the table of kinds
+-- ---- the items: QE goes in as 97 decoded bytes; all else as the request's own bytes
 
-abbrev pub idSm : List Bytes → Bytes
-idSm fs = getD fs 0 []
-
-abbrev pub idKmc : List Bytes → Bytes
-idKmc fs = getD fs 1 []
-
-abbrev pub tvp : List Bytes → Bytes
-tvp fs = getD fs 2 []
-
-abbrev pub hwid : List Bytes → Bytes
-hwid fs = getD fs 3 []
-
-abbrev pub fwid : List Bytes → Bytes
-fwid fs = getD fs 4 []
-
--- QE goes in as 97 decoded bytes; all else as the request's own bytes
 abbrev pub qe : List Bytes → Bytes
 qe fs = base16Decode (getD fs 5 [])
-
--- ---- the items
 
 abbrev pub sharedItems : List Bytes → List Bytes
 sharedItems fs = ascii "STS.KAA.1" ∷ idSm fs ∷ idKmc fs ∷ tvp fs ∷ []

@@ -17,7 +17,7 @@ use borrow.Author.Tests.{eq-eqb, ne-eqb}
 use Rattle.text.specs.Text.{Bytes, without}
 use Rattle.text.proofs.Tests.{T-true, T-false, by-test}
 use Rattle.shelf.specs.Places.{Names, Held, Place, free, held, isFree, holds, lowest, occupied, alone, distinct}
-use Rattle.shelf.specs.Cabinet.{places, width, numberAt, numberOf, zeros, encode, parts, decodeAll, provided, whereDistinct, shelf}
+use Rattle.shelf.specs.Cabinet.{places, width, tvpAt, numberOf, zeros, encode, parts, decodeAll, provided, whereDistinct, shelf}
 use Rattle.shelf.proofs.Readings.{fitting}
 use Rattle.shelf.proofs.Images.{Good, decode-some, parts-some, provided-some, distinct-some}
 use Rattle.cabinet.specs.Steps.{isSome, isPlaceAt, partAt, namesIn, subjectAt, startsSo, first, firstFrom, allPass, hasNames, isFreeAt, aloneAt, occupiedOf}
@@ -65,21 +65,21 @@ free-front : (p : Place) → Good p → eqb (getD (encode p) 0 0) 0 ≡ isFree p
 unfolding encode width
 free-front free g = refl
 free-front (held h) g =
-    let f = fitting (h .text) (h .names) (h .gnt) g in
+    let f = fitting (h .text) (h .names) (h .gnt) (g .0) in
     go (h .text) (f .some-byte) (f .no-zero)
   where
-    go : (t : Bytes) → length t ≢ 0 → T (without 0 t) → eqb (getD ((t ++ zeros (numberAt - length (h .text))) ++ numberOf (h .text)) 0 0) 0 ≡ false
+    go : (t : Bytes) → length t ≢ 0 → T (without 0 t) → eqb (getD (((t ++ zeros (tvpAt - length (h .text))) ++ h .tvp) ++ numberOf (h .text)) 0 0) 0 ≡ false
     go [] n w = absurd (n refl)
     go (c ∷ t) n w = T-false (eqb c 0) (and-yes (not (eqb c 0)) (without 0 t) w .0)
 
 names-front : (k : Names) → Clean k → (p : Place) → Good p → startsSo (encode p) (namesText k) ≡ holds k p
 unfolding encode
 names-front k c free g = free-names k c
-names-front k c (held h) g = held-names h g k c
+names-front k c (held h) g = held-names h (g .0) k c
 
 -- the names of a record are clean, and the code takes them from its place
 names-held : (h : Held) → Good (held h) → Clean (h .names) × (namesIn (subjectAt (encode (held h))) ≡ namesText (h .names))
-names-held h g = (clean (its-subject h g), ap namesIn (subject-taken h g) ∙ names-taken (its-subject h g))
+names-held h g = (clean (its-subject h (g .0)), ap namesIn (subject-taken h (g .0)) ∙ names-taken (its-subject h (g .0)))
 
 module _ {s : Bytes} {ps : List Place} (R : Read s ps) where
   pub free-so : (i : ℕ) → i < 64 → isFreeAt s i ≡ isFree (getD ps i free)

@@ -5,16 +5,19 @@ use mathlib.Core.Path.{_≡_, refl, sym, ap, ap₂, _∙_, subst}
 use mathlib.Core.Logic.{_≢_}
 use mathlib.Core.Bool.{Bool, true, false}
 use mathlib.Core.Option.{Option, none, some}
-use mathlib.Core.List.{List, [], _++_, append-nil}
+use mathlib.Core.List.{List, [], _∷_, _++_}
 use native.Mathlib.Omega.{arith}
 use lib.ListN.{length, take, drop, getD, replicate-append-replicate}
 use denote.Ref.{RefT, ptr, now}
 use mir.Facts.{yes-eqb}
 use borrow.Author.Tests.{eq-eqb, ne-eqb}
 use Rattle.text.specs.Text.{Bytes}
+use Rattle.text.specs.Seconds.{start}
 use Rattle.text.specs.Later.{later}
 use Rattle.text.specs.Part.{Part}
-use Rattle.format.specs.Kinds.{name, identityKinds, pubkeyKinds}
+use Rattle.text.proofs.Types.{timestamp-length}
+use Rattle.format.specs.Kinds.{REQ, name, identityKinds, pubkeyKinds}
+use Rattle.format.specs.Requests.{idSm, tvp}
 use Rattle.format.specs.Build.{Built}
 use Rattle.format.specs.Read.{Outcome, accepted, refused, readIdentity, readOf}
 use Rattle.format.specs.Files.{upTo}
@@ -22,22 +25,27 @@ use Rattle.format.proofs.Exactly.{identity-says, read-says}
 use Rattle.format.proofs.Outcomes.{Honest}
 use Rattle.reading.specs.Reading.{answerOf}
 use Rattle.reading.specs.declared.Answer.{Answer}
+use Rattle.reading.proofs.Answers.{taken, untaken}
+use Rattle.places.specs.Places.{fieldAt}
 use Rattle.fields.specs.declared.Place.{Place}
 use Rattle.frame.specs.Frame.{nextMark}
 use Rattle.subjects.specs.Subjects.{manufacturer, mid, gnt}
-use Rattle.subjects.proofs.Keys.{key}
+use Rattle.subjects.specs.Requests.{Request}
+use Rattle.subjects.proofs.Keys.{key, read-field}
+use Rattle.subjects.proofs.Requests.{request, request-tvp}
 use Rattle.expiry.specs.Expiry.{expiryBy, expiryOf}
 use Rattle.expiry.specs.declared.Expiry.{Expiry}
 use Rattle.shelf.specs.Places as shelf-places
 use Rattle.shelf.specs.Places.{Names, named, Held, free, held, isFree, holds, contents, lookup, lowest}
-use Rattle.shelf.specs.Cabinet.{nothing, places, width, numberAt, numberOf, about, declined, asks, reads, zeros, encode, shelf, entry, Result, makeCabinet, putKey, removeKey, Finding, findKey, countIn, countKeys, checkCabinet}
+use Rattle.shelf.specs.Cabinet.{nothing, places, width, tvpAt, numberAt, numberOf, about, declined, asks, reads, requests, zeros, encode, entry, shelf, Result, makeCabinet, putKey, removeKey, admit, Finding, findKey, countIn, countKeys, checkCabinet}
 use Rattle.shelf.proofs.Places.{lookup-lowest, lowest-passes, lowest-most, missing-none}
-use Rattle.shelf.proofs.Readings.{Asked, asked, asks-accepted, asks-refused, reads-accepted, reads-refused, fitting}
-use Rattle.shelf.proofs.Images.{Good, number-length, text-back, shelf-some}
-use Rattle.shelf.proofs.Stores.{storedAt, found-part, put-23, put-own, put-later, put-not-later, put-first, put-full, remove-23, remove-own, remove-some, remove-none, find-23, find-own, find-some, find-none}
+use Rattle.shelf.proofs.Readings.{Asked, asked, asks-accepted, asks-refused, reads-accepted, reads-refused, requests-accepted, requests-refused, fitting}
+use Rattle.shelf.proofs.Images.{Good, number-length, text-back, front-back, tvp-back, number-back, shelf-some}
+use Rattle.shelf.proofs.Stores.{storedAt, found-part, put-23, put-own, put-later, put-not-later, put-first, put-full, remove-23, remove-own, remove-some, remove-none, admit-23, admit-own, admit-none, admit-not-later, admit-later, find-23, find-own, find-some, find-none}
 use Rattle.cabinet.specs.declared.Filed.{Filed}
 use Rattle.cabinet.specs.Cabinet.{Files, checked, counted, FindSaid, FindPart}
-use Rattle.cabinet.specs.Steps.{isSome, partAt, withPart, filledWith, namesIn, subjectAt, isLaterThan, firstFrom, hasNames, isFreeAt, occupiedOf}
+use Rattle.cabinet.specs.Steps.{isSome, partAt, withPart, padded, filledWith, keyIn, tvpBetween, namesIn, subjectAt, isLaterThan, isLaterTvp, firstFrom, hasNames, isFreeAt, occupiedOf, TvpFits}
+use Rattle.cabinet.proofs.Bytes.{padded-whole}
 use Rattle.cabinet.proofs.Names.{clean, names-taken, its-subject, subject-alone, held-later}
 use Rattle.cabinet.proofs.Bridge.{missing-lowest}
 use Rattle.cabinet.proofs.Decoding.{text-end}
@@ -132,7 +140,7 @@ module _ {s i : Bytes} {k : Names} {g : Bytes} {at : ℕ} (L : Looked s i k g at
   pub record There : Type 0 where
     pub h : Held
     pub found : lookup k (L .ps) ≡ some h
-    pub good : reads (h .text) ≡ about (h .names) (h .gnt)
+    pub good : Good (held h)
     pub bytes : encode (held h) ≡ partAt s at
     pub low : lowest (holds k) (L .ps) < length (L .ps)
 
@@ -154,15 +162,35 @@ module _ {s i : Bytes} {k : Names} {g : Bytes} {at : ℕ} (L : Looked s i k g at
             low = low;
           }
 
-stored-so : (s : Bytes) (at : ℕ) (k : Names) (g r : Bytes) → storedAt s at (entry k g r) ≡ withPart s at (filledWith r (numberOf r))
-unfolding encode width numberAt
-stored-so s at k g r =
-    let whole : numberOf r ++ zeros (8 - length (numberOf r)) ≡ numberOf r = ap (λ (n : ℕ). numberOf r ++ zeros (8 - n)) (number-length r) ∙ append-nil (numberOf r) in
-    ap (λ (v : Bytes). withPart s at ((r ++ zeros (1016 - length r)) ++ v)) (sym whole)
+-- ---- what is written there is the place that was to be stored
 
-emptied-so : (s : Bytes) (at : ℕ) → storedAt s at free ≡ withPart s at (filledWith [] [])
+number-whole : (r : Bytes) → padded 8 (numberOf r) ≡ numberOf r
+number-whole r = padded-whole 8 (numberOf r) (number-length r)
+
+-- a first put
+stored-so : (s : Bytes) (at : ℕ) (k : Names) (g r t : Bytes) → length t ≡ 16 → storedAt s at (entry k g r t) ≡ withPart s at (filledWith r t (numberOf r))
+unfolding encode width tvpAt
+stored-so s at k g r t l = ap₂ (λ (d v : Bytes). withPart s at ((padded 1000 r ++ d) ++ v)) (sym (padded-whole 16 t l)) (sym (number-whole r))
+
+emptied-so : (s : Bytes) (at : ℕ) → storedAt s at free ≡ withPart s at (filledWith [] [] [])
 unfolding encode width
-emptied-so s at = ap (withPart s at) (sym (replicate-append-replicate 1016 8 0))
+emptied-so s at = ap (withPart s at) (sym (ap (λ (x : Bytes). x ++ zeros 8) (replicate-append-replicate 1000 16 0) ∙ replicate-append-replicate 1016 8 0))
+
+-- over the record h
+module _ (s : Bytes) (at : ℕ) (h : Held) (g : Good (held h)) {p : Bytes} (b : p ≡ encode (held h)) where
+  its-tvp : take 16 (drop 1000 p) ≡ h .tvp
+  unfolding tvpAt numberAt
+  its-tvp = ap (λ (x : Bytes). take 16 (drop 1000 x)) b ∙ tvp-back h g
+
+  replaced-so : (k : Names) (d r : Bytes) → storedAt s at (entry k d r (h .tvp)) ≡ withPart s at (keyIn p r (numberOf r))
+  unfolding encode width tvpAt
+  replaced-so k d r = ap₂ (λ (x v : Bytes). withPart s at ((padded 1000 r ++ x) ++ v)) (sym its-tvp) (sym (number-whole r))
+
+  pub dated-so : (t : Bytes) → length t ≡ 16 → storedAt s at (entry (h .names) (h .gnt) (h .text) t) ≡ withPart s at (tvpBetween p t)
+  unfolding encode width tvpAt numberAt
+  dated-so t l =
+      ap (λ (x : Bytes). withPart s at ((padded 1000 (h .text) ++ x) ++ numberOf (h .text))) (sym (padded-whole 16 t l))
+      ∙ ap₂ (λ (x v : Bytes). withPart s at ((x ++ padded 16 t) ++ v)) (sym (ap (take 1000) b ∙ front-back h g)) (sym (ap (drop 1016) b ∙ number-back h g))
 
 -- ---- remove and find
 
@@ -193,7 +221,7 @@ module _ (s i : Bytes) where
       pub removes-26 : {r : Filed} → at ≡ 64 → r ≡ record { no = 26; field = 0 } → Files (removeKey s i) s r
       removes-26 m f = files-of (removeKey s i) (remove-none s (L .ps) (L .there) i _ _ (asks-so (L .asker)) (nothing-there L m)) f
 
-      pub removes-done : {r : Filed} {out : Bytes} → (at ≡ 64 → ⊥) → out ≡ withPart s at (filledWith [] []) → r ≡ record { no = 0; field = 0 } → Files (removeKey s i) out r
+      pub removes-done : {r : Filed} {out : Bytes} → (at ≡ 64 → ⊥) → out ≡ withPart s at (filledWith [] [] []) → r ≡ record { no = 0; field = 0 } → Files (removeKey s i) out r
       removes-done m o f =
           let t = something-there L (within L m) in
           files-of (removeKey s i)
@@ -205,7 +233,7 @@ module _ (s i : Bytes) where
 
       pub finds-done : {m : ℕ} {p : Bytes} → (at ≡ 64 → ⊥) → p ≡ partAt s at → m ≡ nextMark 0 p 0
           → FindSaid (findKey s i) s (record { no = 0; field = 0; start = at * 1024; len = m })
-      unfolding width numberAt
+      unfolding width tvpAt
       finds-done {m} {p} o b q =
           let l′ = within L o in
           let t = something-there L l′ in
@@ -216,7 +244,7 @@ module _ (s i : Bytes) where
           rw (find-some s (L .ps) (L .there) i _ _ (asks-so (L .asker)) (t .h) (t .found), ← (L .at-so))
           (record {
             said = rw size;
-            inside = omega (arith, L .read .long, size, fitting (t .h .text) (t .h .names) (t .h .gnt) (t .good) .long);
+            inside = omega (arith, L .read .long, size, fitting (t .h .text) (t .h .names) (t .h .gnt) (t .good .0) .long);
             bytes = rw size part;
           })
 
@@ -246,7 +274,7 @@ known-key r {x} e z {j} f = go (readOf pubkeyKinds r) refl (ap (λ (y : Expiry).
         let k : Names = named (name (q .who)) (manufacturer (q .names)) (mid (q .names)) in
         let g : Bytes = gnt (q .names) in
         let good = reads-accepted r q in
-        let its : Held = record { names = k; gnt = g; text = r } in
+        let its : Held = record { names = k; gnt = g; text = r; tvp = [] } in
         (k, g, good, subst (λ (x : Bytes). Asked x k g) (sym (f ∙ subject-alone its good)) (its-subject its good))
     go (refused zero l) h n w = absurd w
     go (refused (suc m) l) h n w = absurd (omega arith)
@@ -268,8 +296,8 @@ module _ (s r : Bytes) where
     puts-own z f = let (ps, q, R) = some-there s e in files-of (putKey s r) (put-own s ps q r (a .no) (a .field) (refused-key r ans z)) f
 
     module _ (z : a .no ≡ 0) {j : Bytes} (sub : j ≡ subjectAt r) where
-      pub puts-short : length r ≤ 1016
-      unfolding numberAt
+      pub puts-short : length r ≤ 1000
+      unfolding tvpAt
       puts-short = let (k, g, b, o) = known-key r ans z sub in omega (arith, fitting r k g b .long)
 
       module _ {v : Bytes} (n : v ≡ namesIn j) {at : ℕ} (l : at ≡ firstFrom (hasNames s v) 0) where
@@ -282,7 +310,7 @@ module _ (s r : Bytes) where
         later-so : (m : at < 64) {p : Bytes} {b : Bool} → p ≡ partAt s at → b ≡ isLaterThan j p → b ≡ later (K .1) (something-there M m .h .gnt)
         later-so m b q =
             let t = something-there M m in
-            q ∙ ap (isLaterThan j) (b ∙ sym (t .bytes)) ∙ held-later (t .h) (t .good) (K .3)
+            q ∙ ap (isLaterThan j) (b ∙ sym (t .bytes)) ∙ held-later (t .h) (t .good .0) (K .3)
 
         pub puts-24 : {x : Filed} {p : Bytes} {b : Bool} → at < 64 → p ≡ partAt s at → b ≡ isLaterThan j p → b ≡ false → x ≡ record { no = 24; field = 0 } → Files (putKey s r) s x
         puts-24 m d q w f =
@@ -290,13 +318,16 @@ module _ (s r : Bytes) where
             files-of (putKey s r) (put-not-later s (M .ps) (M .there) r (K .0) (K .1) (K .2) (t .h) (t .found) (sym (later-so m d q) ∙ w)) f
 
         pub puts-again : {x : Filed} {p out v : Bytes} {b : Bool} → at < 64 → p ≡ partAt s at → b ≡ isLaterThan j p → b ≡ true
-            → v ≡ numberOf r → out ≡ withPart s at (filledWith r v) → x ≡ record { no = 0; field = 0 } → Files (putKey s r) out x
+            → v ≡ numberOf r → out ≡ withPart s at (keyIn (partAt s at) r v) → x ≡ record { no = 0; field = 0 } → Files (putKey s r) out x
         puts-again m d q w u o f =
             let t = something-there M m in
             files-of (putKey s r)
             (put-later s (M .ps) (M .there) r (K .0) (K .1) (K .2) (t .h) (t .found) (sym (later-so m d q) ∙ w) (t .low)
             ∙ ap (λ (y : Bytes). record { no = 0; field = 0; bytes = y })
-            (ap (λ (i : ℕ). storedAt s i (entry (K .0) (K .1) r)) (sym (M .at-so)) ∙ stored-so s at (K .0) (K .1) r ∙ ap (λ (y : Bytes). withPart s at (filledWith r y)) (sym u) ∙ sym o)) f
+            (ap (λ (i : ℕ). storedAt s i (entry (K .0) (K .1) r (t .h .tvp))) (sym (M .at-so))
+            ∙ replaced-so s at (t .h) (t .good) (sym (t .bytes)) (K .0) (K .1) r
+            ∙ ap (λ (y : Bytes). withPart s at (keyIn (partAt s at) r y)) (sym u)
+            ∙ sym o)) f
 
         module _ (m : 64 ≤ at) {to : ℕ} (w : to ≡ firstFrom (isFreeAt s) 0) where
           absent : lookup (K .0) (M .ps) ≡ none
@@ -311,12 +342,77 @@ module _ (s r : Bytes) where
           pub to-within : (to ≡ 64 → ⊥) → to < 64
           to-within q = let q′ : to ≢ 64 = q in omega (arith, to-so, lowest-most isFree (M .ps), M .read .number)
 
-          pub puts-first : {x : Filed} {out v : Bytes} → (to ≡ 64 → ⊥) → v ≡ numberOf r → out ≡ withPart s to (filledWith r v) → x ≡ record { no = 0; field = 0 } → Files (putKey s r) out x
+          pub puts-first : {x : Filed} {out v : Bytes} → (to ≡ 64 → ⊥) → v ≡ numberOf r → out ≡ withPart s to (filledWith r start v) → x ≡ record { no = 0; field = 0 } → Files (putKey s r) out x
           puts-first q u o f =
               files-of (putKey s r)
               (put-first s (M .ps) (M .there) r (K .0) (K .1) (K .2) absent (omega (arith, to-so, to-within q, M .read .number))
               ∙ ap (λ (y : Bytes). record { no = 0; field = 0; bytes = y })
-              (ap (λ (i : ℕ). storedAt s i (entry (K .0) (K .1) r)) (sym to-so) ∙ stored-so s to (K .0) (K .1) r ∙ ap (λ (y : Bytes). withPart s to (filledWith r y)) (sym u) ∙ sym o)) f
+              (ap (λ (i : ℕ). storedAt s i (entry (K .0) (K .1) r start)) (sym to-so) ∙ stored-so s to (K .0) (K .1) r start refl ∙ ap (λ (y : Bytes). withPart s to (filledWith r start y)) (sym u) ∙ sym o)) f
+
+-- ---- admit
+
+-- an accepted request, and its ID_SM and TVP as the code takes them
+module _ (q : Bytes) {a : Answer} (e : a ≡ answerOf (readOf (REQ ∷ []) q)) where
+  known-request : a .no ≡ 0 → {i : Bytes} → i ≡ fieldAt q (a .starts) (a .lens) 1 → (r : Request q) × (k : Names) × (g : Bytes) × (requests q ≡ about k (tvp (r .fields))) × Asked i k g
+  known-request z {i} f =
+      let o = taken (Built (REQ ∷ []) q) (readOf (REQ ∷ []) q) a (read-says (REQ ∷ []) q) e z in
+      let r = request q (o .kind) (o .fields) (o .is) in
+      let its : idSm (r .fields) ≡ i = sym (f ∙ read-field (REQ ∷ []) q (r .is) a e 0) in
+      (r, _, _, requests-accepted q r, asked i _ _ (ap asks (sym its) ∙ asks-accepted (idSm (r .fields)) (r .known)))
+
+  refused-request : (a .no ≡ 0 → ⊥) → requests q ≡ declined (a .no) (a .field)
+  refused-request z = requests-refused q (a .no) (a .field) (untaken (readOf (REQ ∷ []) q) a e z)
+
+module _ (s q : Bytes) where
+  pub admits-23 : {x : Filed} → false ≡ isSome (shelf s) → x ≡ record { no = 23; field = 0 } → Files (admit s q) s x
+  admits-23 e f = files-of (admit s q) (admit-23 s q (none-there s e)) f
+
+  module _ (e : true ≡ isSome (shelf s)) {a : Answer} (ans : a ≡ answerOf (readOf (REQ ∷ []) q)) where
+    pub admits-own : {x : Filed} → (a .no ≡ 0 → ⊥) → x ≡ record { no = a .no; field = a .field } → Files (admit s q) s x
+    admits-own z f = let (ps, r, R) = some-there s e in files-of (admit s q) (admit-own s ps r q (a .no) (a .field) (refused-request q ans z)) f
+
+    module _ (z : a .no ≡ 0) {i : Bytes} (sub : i ≡ fieldAt q (a .starts) (a .lens) 1) {v : Bytes} (n : v ≡ namesIn i) {at : ℕ} (l : at ≡ firstFrom (hasNames s v) 0) where
+      abbrev Q : (r : Request q) × (k : Names) × (g : Bytes) × (requests q ≡ about k (tvp (r .fields))) × Asked i k g
+      Q = known-request q ans z sub
+
+      abbrev N : Looked s i (Q .1) (Q .2) at
+      N = looked s i (Q .4) e n l
+
+      pub admits-within : (at ≡ 64 → ⊥) → at < 64
+      admits-within = within N
+
+      pub admits-26 : {x : Filed} → at ≡ 64 → x ≡ record { no = 26; field = 0 } → Files (admit s q) s x
+      admits-26 m f = files-of (admit s q) (admit-none s (N .ps) (N .there) q (Q .1) _ (Q .3) (nothing-there N m)) f
+
+      module _ (m : at ≡ 64 → ⊥) {t : Bytes} (d : t ≡ fieldAt q (a .starts) (a .lens) 3) where
+        tvp-so : t ≡ tvp (Q .0 .fields)
+        tvp-so = d ∙ read-field (REQ ∷ []) q (Q .0 .is) a ans 2
+
+        tvp-long : length t ≡ 16
+        tvp-long = ap length tvp-so ∙ timestamp-length (tvp (Q .0 .fields)) (request-tvp (Q .0))
+
+        pub tvp-fits : TvpFits s at t
+        tvp-fits = record { in-place = record { long = N .read .long; place = within N m }; sixteen = omega (arith, tvp-long) }
+
+        abbrev O : There N
+        O = something-there N (within N m)
+
+        module _ {p : Bytes} (b : p ≡ partAt s at) {c : Bool} (w : c ≡ isLaterTvp t p) where
+          later-than : later (tvp (Q .0 .fields)) (O .h .tvp) ≡ c
+          unfolding isLaterTvp
+          later-than = sym (w ∙ ap₂ later tvp-so (its-tvp s at (O .h) (O .good) (b ∙ sym (O .bytes))))
+
+          pub admits-27 : {x : Filed} → c ≡ false → x ≡ record { no = 27; field = 0 } → Files (admit s q) s x
+          admits-27 u f = files-of (admit s q) (admit-not-later s (N .ps) (N .there) q (Q .1) _ (Q .3) (O .h) (O .found) (later-than ∙ u)) f
+
+          pub admits-done : {x : Filed} {out : Bytes} → c ≡ true → out ≡ withPart s at (tvpBetween (partAt s at) t) → x ≡ record { no = 0; field = 0 } → Files (admit s q) out x
+          admits-done u o f =
+              files-of (admit s q)
+              (admit-later s (N .ps) (N .there) q (Q .1) _ (Q .3) (O .h) (O .found) (later-than ∙ u) (O .low)
+              ∙ ap (λ (y : Bytes). record { no = 0; field = 0; bytes = y })
+              (ap₂ (λ (j : ℕ) (x : Bytes). storedAt s j (entry (O .h .names) (O .h .gnt) (O .h .text) x)) (sym (N .at-so)) (sym tvp-so)
+              ∙ dated-so s at (O .h) (O .good) (sym (O .bytes)) t tvp-long
+              ∙ sym o)) f
 
 -- ---- what the functions need
 

@@ -2,7 +2,7 @@
 -- Assumes nothing.
 use Prim.Native.Nat.{ℕ, zero, suc, _+_, _-_, _≤_, _<_}
 use mathlib.Core.Path.{_≡_, refl, sym, ap, ap₂, _∙_}
-use mathlib.Core.Bool.{Bool, true, false, cond, _&&_, and-false}
+use mathlib.Core.Bool.{Bool, true, false, not, cond, _&&_, and-true, and-false}
 use mathlib.Core.Option.{Option, none, some}
 use mathlib.Core.List.{[], _∷_, _++_}
 use native.Mathlib.Omega.{arith}
@@ -10,14 +10,17 @@ use native.Mathlib.Nat.{zero-add}
 use lib.ListN.{length, take, drop, length-append, length-drop, length-take, take-append-drop}
 use lib.Seq.{take-all, take-add, length-take-le}
 use lib.Dec.{eqb}
-use lib.IntN.{ℤ}
+use lib.IntN.{ℤ, pos, negsuc}
+use lib.Signed.{leZ, ltZ}
 use mir.Syntax.{w64}
 use mir.Val.{ofZ, toZ}
-use borrow.Author.Tests.{eq-eqb, ne-eqb}
+use borrow.Author.Tests.{eq-eqb, ne-eqb, le-leb, le-ltb}
 use Rattle.text.specs.Text.{Bytes, same, every}
-use Rattle.text.specs.Seconds.{secondsBytes}
+use Rattle.text.specs.Seconds.{momentOf, secondsBytes}
+use Rattle.text.specs.Later.{later}
+use Rattle.text.specs.declared.moment.Moment.{Moment}
 use Rattle.text.proofs.Tests.{T-true, T-false, by-test, same-true, same-false, same-append}
-use Rattle.text.proofs.Seconds.{bytes-length}
+use Rattle.text.proofs.Seconds.{moment-valid, moment-back, start-moment, bytes-length}
 use Rattle.format.specs.Kinds.{pubkeyKinds}
 use Rattle.format.specs.Build.{Built}
 use Rattle.format.specs.Read.{Outcome, accepted, refused, readOf}
@@ -31,7 +34,7 @@ use Rattle.expiry.specs.Expiry.{expiryBy, expiryOf}
 use Rattle.expiry.specs.declared.Expiry.{Expiry}
 use Rattle.expiry.proofs.Expiries.{expiry-back}
 use Rattle.shelf.specs.Places.{Names, Place, free}
-use Rattle.shelf.specs.Cabinet.{width, numberAt, numberOf, Reading, about, declined, reads, zeros, encode, decodeAs, decode, entry}
+use Rattle.shelf.specs.Cabinet.{width, tvpAt, numberAt, numberOf, Reading, about, declined, reads, zeros, encode, entry, isTvp, decodeAs, decode}
 use Rattle.shelf.proofs.Readings.{Fitting, fitting, reads-accepted, reads-refused}
 use Rattle.shelf.proofs.Images.{length-zeros, upTo-zeros}
 use Rattle.cabinet.specs.Steps.{isZero, isPlace}
@@ -111,54 +114,67 @@ module _ (b : Bytes) (l : length b ≡ 1024) {n : ℕ} (m : n ≡ nextMark 0 b 0
   held-so z = rw (same-false b (zeros width) (λ f. z (ends ∙ ap length (ap (upTo 0) f ∙ upTo-zeros width))))
 
   module _ (z : n ≡ 0 → ⊥) where
-    pub place-long : 1016 < n → false ≡ isPlace (decode b)
-    unfolding numberAt
+    pub place-long : 1000 < n → false ≡ isPlace (decode b)
+    unfolding tvpAt
     place-long h = sym (held-so z ∙ no-record (reads text) (unfitting (λ f. omega (arith, ends, f .long))))
 
-    module _ (h : n ≤ 1016) where
-      -- the bytes between the text and the number
+    module _ (h : n ≤ 1000) where
+      -- the bytes between the text and the TVP, and the TVP
       abbrev between : Bytes
-      between = take (1016 - n) (drop n b)
+      between = take (1000 - n) (drop n b)
 
-      split : b ≡ (text ++ between) ++ drop 1016 b
+      abbrev date : Bytes
+      date = take 16 (drop 1000 b)
+
+      split : b ≡ ((text ++ between) ++ date) ++ drop 1016 b
       split =
-          let all : 1016 ≡ n + (1016 - n) = omega arith in
-          let front : take 1016 b ≡ text ++ between =
-          ap (λ (k : ℕ). take k b) all ∙ take-add n (1016 - n) b ∙ ap (λ (x : Bytes). x ++ between) (ap (λ (k : ℕ). take k b) ends ∙ take-upTo 0 b) in
-          sym (take-append-drop 1016 b) ∙ ap (λ (x : Bytes). x ++ drop 1016 b) front
+          let all : 1000 ≡ n + (1000 - n) = omega arith in
+          let front : take 1000 b ≡ text ++ between =
+          ap (λ (k : ℕ). take k b) all ∙ take-add n (1000 - n) b ∙ ap (λ (x : Bytes). x ++ between) (ap (λ (k : ℕ). take k b) ends ∙ take-upTo 0 b) in
+          sym (take-append-drop 1016 b) ∙ ap (λ (x : Bytes). x ++ drop 1016 b) (take-add 1000 16 b ∙ ap (λ (x : Bytes). x ++ date) front)
 
-      length-between : length between ≡ 1016 - length text
-      length-between = length-take-le (1016 - n) (drop n b) (omega (arith, length-drop n b)) ∙ ap (λ (k : ℕ). 1016 - k) ends
+      length-between : length between ≡ 1000 - length text
+      length-between = length-take-le (1000 - n) (drop n b) (omega (arith, length-drop n b)) ∙ ap (λ (k : ℕ). 1000 - k) ends
 
       -- a record's place: zeros stand there, and the number is its own
-      whole-so : (k : Names) (g : Bytes) → same b (encode (entry k g text)) ≡ (every isZero between && same (drop 1016 b) (numberOf text))
-      unfolding encode numberAt
+      whole-so : (k : Names) (g : Bytes) → same b (encode (entry k g text date)) ≡ (every isZero between && same (drop 1016 b) (numberOf text))
+      unfolding encode tvpAt
       whole-so k g =
-          let pad = zeros (1016 - length text) in
+          let pad = zeros (1000 - length text) in
           let padded : same between pad ≡ every isZero between = ap (λ (i : ℕ). same between (zeros i)) (sym length-between) ∙ same-zeros between in
           let front : same (text ++ between) (text ++ pad) ≡ every isZero between = same-append text between text pad refl ∙ rw (same-true text text refl) padded in
           let as-long : length (text ++ between) ≡ length (text ++ pad) =
-          length-append text between ∙ omega (arith, length-between, length-append text pad, length-zeros (1016 - length text)) in
-          ap (λ (x : Bytes). same x ((text ++ pad) ++ numberOf text)) split
-          ∙ same-append (text ++ between) (drop 1016 b) (text ++ pad) (numberOf text) as-long
-          ∙ ap (λ (q : Bool). q && same (drop 1016 b) (numberOf text)) front
+          length-append text between ∙ omega (arith, length-between, length-append text pad, length-zeros (1000 - length text)) in
+          let two : same ((text ++ between) ++ date) ((text ++ pad) ++ date) ≡ every isZero between =
+          same-append (text ++ between) date (text ++ pad) date as-long ∙ rw (front, same-true date date refl) (and-true (every isZero between)) in
+          let two-long : length ((text ++ between) ++ date) ≡ length ((text ++ pad) ++ date) =
+          length-append (text ++ between) date ∙ ap (λ (m : ℕ). m + length date) as-long ∙ sym (length-append (text ++ pad) date) in
+          ap (λ (x : Bytes). same x (((text ++ pad) ++ date) ++ numberOf text)) split
+          ∙ same-append ((text ++ between) ++ date) (drop 1016 b) ((text ++ pad) ++ date) (numberOf text) two-long
+          ∙ ap (λ (q : Bool). q && same (drop 1016 b) (numberOf text)) two
 
-      as-read : (x : Reading) → isPlace (decodeAs b text x) ≡ (isAbout x && (every isZero between && same (drop 1016 b) (numberOf text)))
+      as-read : (x : Reading) → isPlace (decodeAs b text x) ≡ (isAbout x && (isTvp date && (every isZero between && same (drop 1016 b) (numberOf text))))
+      unfolding tvpAt numberAt
       as-read (declined i j) = refl
-      as-read (about k g) = go (same b (encode (entry k g text))) ∙ whole-so k g
+      as-read (about k g) = go (isTvp date) (same b (encode (entry k g text date))) ∙ ap (λ (q : Bool). isTvp date && q) (whole-so k g)
         where
-          go : (q : Bool) → isPlace (cond q (some (entry k g text)) none) ≡ q
-          go true = refl
-          go false = refl
+          go : (p q : Bool) → isPlace (cond p (cond q (some (entry k g text date)) none) none) ≡ (p && q)
+          go true true = refl
+          go true false = refl
+          go false q = refl
 
-      held-as : isPlace (decode b) ≡ (isAbout (reads text) && (every isZero between && same (drop 1016 b) (numberOf text)))
+      held-as : isPlace (decode b) ≡ (isAbout (reads text) && (isTvp date && (every isZero between && same (drop 1016 b) (numberOf text))))
       held-as = held-so z ∙ as-read (reads text)
 
       -- something else stands between
       pub place-gap : every isZero between ≡ false → false ≡ isPlace (decode b)
-      place-gap e = sym (held-as ∙ rw e (and-false (isAbout (reads text))))
+      place-gap e = sym (held-as ∙ rw (e, and-false (isTvp date)) (and-false (isAbout (reads text))))
 
-      module _ (e : every isZero between ≡ true) {x : Expiry} (f : x ≡ expiryOf (take (n - 0) b)) where
+      -- no TVP
+      pub place-dateless : isTvp date ≡ false → false ≡ isPlace (decode b)
+      place-dateless e = sym (held-as ∙ rw e (and-false (isAbout (reads text))))
+
+      module _ (e : every isZero between ≡ true) (d : isTvp date ≡ true) {x : Expiry} (f : x ≡ expiryOf (take (n - 0) b)) where
         read-so : x ≡ expiryOf text
         read-so =
             let q : n - 0 ≡ length text = omega (arith, ends) in
@@ -172,4 +188,22 @@ module _ (b : Bytes) (l : length b ≡ 1024) {n : ℕ} (m : n ≡ nextMark 0 b 0
         pub place-number : x .no ≡ 0 → {v : Bytes} → v ≡ secondsBytes (toZ w64 (ofZ w64 (x .seconds))) → same (take (length b - 1016) (drop 1016 b)) v ≡ isPlace (decode b)
         place-number w {v} g =
             ap₂ same (take-all (length b - 1016) (drop 1016 b) (omega (arith, length-drop 1016 b))) (number-so text read-so g)
-            ∙ sym (held-as ∙ rw (e, sym (about-so text read-so) ∙ eq-eqb (x .no) 0 w))
+            ∙ sym (held-as ∙ rw (e, d, sym (about-so text read-so) ∙ eq-eqb (x .no) 0 w))
+
+-- ---- the TVP, as the code asks for it: m is what the date call answered
+
+from-start : (z : ℤ) → leZ (pos 0) z ≡ not (ltZ z (pos 0))
+from-start (pos n) = le-leb 0 n (omega arith) ∙ ap not (sym (le-ltb n 0 (omega arith)))
+from-start (negsuc n) = refl
+
+module _ (t : Bytes) {m : Moment} (e : m ≡ momentOf t) where
+  pub tvp-invalid : m .valid ≡ false → false ≡ isTvp t
+  unfolding isTvp
+  tvp-invalid f = sym (rw (sym (moment-valid t) ∙ ap (λ (x : Moment). x .valid) (sym e) ∙ f))
+
+  pub tvp-valid : m .valid ≡ true → leZ (pos 0) (toZ w64 (ofZ w64 (m .seconds))) ≡ isTvp t
+  unfolding isTvp later
+  tvp-valid f =
+      ap (leZ (pos 0)) (moment-back t e)
+      ∙ from-start (momentOf t .seconds)
+      ∙ sym (rw (sym (moment-valid t) ∙ ap (λ (x : Moment). x .valid) (sym e) ∙ f, start-moment))

@@ -31,7 +31,7 @@ use Rattle.subjects.specs.Subjects.{manufacturer, mid, gnt}
 use Rattle.subjects.specs.Keys.{subject, Key}
 use Rattle.subjects.proofs.Subjects.{identity-field}
 use Rattle.shelf.specs.Places.{Names, named, sameNames, Held, held}
-use Rattle.shelf.specs.Cabinet.{width, numberAt, numberOf, reads, about, zeros, encode}
+use Rattle.shelf.specs.Cabinet.{width, tvpAt, numberOf, reads, about, zeros, encode}
 use Rattle.shelf.proofs.Readings.{Asked, held-of}
 use Rattle.cabinet.specs.Steps.{namesIn, subjectAt, startsSo, isLaterThan}
 
@@ -199,9 +199,9 @@ module _ (h : Held) (good : reads (h .text) ≡ about (h .names) (h .gnt)) where
   place-so : (r : Bytes) × (encode (held h) ≡ joined (code "|") (name (key-so .kind) ∷ subject (key-so .fields) ∷ []) ++ r)
   unfolding encode
   place-so =
-      let rest = zeros (numberAt - length (h .text)) in
-      let (r, e) = text-so (rest ++ numberOf (h .text)) in
-      (r, append-assoc (h .text) rest (numberOf (h .text)) ∙ e)
+      let rest = zeros (tvpAt - length (h .text)) in
+      let (r, e) = text-so (rest ++ (h .tvp ++ numberOf (h .text))) in
+      (r, append-assoc (h .text ++ rest) (h .tvp) (numberOf (h .text)) ∙ append-assoc (h .text) rest (h .tvp ++ numberOf (h .text)) ∙ e)
 
   two-parts : WithoutAll (code "|") (name (key-so .kind) ∷ subject (key-so .fields) ∷ [])
   two-parts = (key-parts .0, (go (key-so .fields) (key-parts .1), tt))

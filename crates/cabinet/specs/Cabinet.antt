@@ -1,5 +1,5 @@
--- What the calls of the cabinet answer: document 02, E8. `makeCabinet`, `putKey`, `removeKey`, `findKey`, `countKeys` and `checkCabinet` of shelf say it; here it is
--- put into the words of an answer.
+-- What the calls of the cabinet answer: document 02, E8 and E10. `makeCabinet`, `putKey`, `removeKey`, `admit`, `findKey`, `countKeys` and `checkCabinet` of shelf say it;
+-- here it is put into the words of an answer.
 -- Assumes nothing.
 use Prim.Native.Nat.{ℕ}
 use mathlib.Core.Path.{_≡_}

@@ -36,9 +36,20 @@ partAt s i = take 1024 (drop (i * 1024) s)
 abbrev pub withPart : Bytes → ℕ → Bytes → Bytes
 withPart s i v = (take (i * 1024) s ++ v) ++ drop (i * 1024 + 1024) s
 
--- what is written into a place: the text with zeros after it, and the number behind them, with zeros where it is empty
-abbrev pub filledWith : Bytes → Bytes → Bytes
-filledWith text number = (text ++ zeros (1016 - length text)) ++ (number ++ zeros (8 - length number))
+-- the text, and zeros after it up to n bytes
+abbrev pub padded : ℕ → Bytes → Bytes
+padded n text = text ++ zeros (n - length text)
+
+-- what is written into a place: the text with zeros after it, the TVP, and the number, with zeros where these are empty
+abbrev pub filledWith : Bytes → Bytes → Bytes → Bytes
+filledWith text tvp number = (padded 1000 text ++ padded 16 tvp) ++ padded 8 number
+
+-- the bytes of a place with another text and another number, and with another TVP
+abbrev pub keyIn : Bytes → Bytes → Bytes → Bytes
+keyIn b text number = (padded 1000 text ++ take 16 (drop 1000 b)) ++ padded 8 number
+
+abbrev pub tvpBetween : Bytes → Bytes → Bytes
+tvpBetween b tvp = (take 1000 b ++ padded 16 tvp) ++ drop 1016 b
 
 -- ---- the names
 
@@ -57,6 +68,10 @@ startsSo s v = same (take (length v) (drop (partStart (code "|") s 1) s)) v
 -- the third field of the identity i is after that of the identity in the place s
 unfoldable pub isLaterThan : Bytes → Bytes → Bool
 isLaterThan i s = later (identityPart i 3) (identityPart (subjectAt s) 3)
+
+-- the TVP is after that in the place s
+unfoldable pub isLaterTvp : Bytes → Bytes → Bool
+isLaterTvp t s = later t (take 16 (drop 1000 s))
 
 -- ---- all places
 
@@ -103,13 +118,20 @@ pub record PlaceIn (s : Bytes) (i : ℕ) : Type 0 where
   pub long : length s ≡ 65536
   pub place : i < 64
 
-pub record Fits (place text number : Bytes) : Type 0 where
+pub record PlaceFits (place text number : Bytes) : Type 0 where
   pub long : length place ≡ 1024
-  pub short : length text ≤ 1016
+  pub short : length text ≤ 1000
   pub eight : length number ≤ 8
 
-pub record Writing (s : Bytes) (i : ℕ) (text number : Bytes) : Type 0 where
-  pub long : length s ≡ 65536
-  pub place : i < 64
-  pub short : length text ≤ 1016
+pub record KeyFits (s : Bytes) (i : ℕ) (text number : Bytes) : Type 0 where
+  pub in-place : PlaceIn s i
+  pub short : length text ≤ 1000
   pub eight : length number ≤ 8
+
+pub record TvpFits (s : Bytes) (i : ℕ) (tvp : Bytes) : Type 0 where
+  pub in-place : PlaceIn s i
+  pub sixteen : length tvp ≤ 16
+
+pub record Fits (s : Bytes) (i : ℕ) (text tvp number : Bytes) : Type 0 where
+  pub key : KeyFits s i text number
+  pub date : TvpFits s i tvp

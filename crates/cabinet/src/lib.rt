@@ -1,16 +1,17 @@
-// The centre's key cabinet: document 02, E8 and E9. 64 places of 1,024 bytes in 65,536 lent bytes; each is all zeros, or an accepted public key, zeros after it and
-// in the last eight bytes the number of its Expiry, and no two records share Subject kind, Manufacturer and MID. Every call takes any bytes and asks first whether they
-// are a cabinet; none has a `requires`.
-// Two accepted public keys share the three names exactly where their Subjects begin alike, up to the third ':', so names are compared where they stand.
+// The centre's key cabinet: document 02, E8, E9 and E10. 64 places of 1,024 bytes in 65,536 lent bytes; each is all zeros, or an accepted public key, zeros after it, the
+// last TVP accepted for its module and in the last eight bytes the number of its Expiry, and no two records share Subject kind, Manufacturer and MID. Every call takes any
+// bytes and asks first whether they are a cabinet; none has a `requires`.
+mod naming;
+mod tvps;
 mod writing;
 
 ghost use mathlib.Core.Path.{_≡_};
 ghost use Prim.Native.Nat.{_+_, _-_, _≤_, _<_};
 ghost use lib.ListN.{length};
 ghost use Rattle.text.specs.Text.{every};
-ghost use Rattle.shelf.specs.Cabinet.{decode, shelf, makeCabinet, putKey, removeKey, findKey};
+ghost use Rattle.shelf.specs.Cabinet.{decode, shelf, makeCabinet, putKey, removeKey, admit, findKey};
 ghost use Rattle.cabinet.specs.Cabinet.{Files, counted, checked, FindSaid, FindPart};
-ghost use Rattle.cabinet.specs.Steps.{isZero, isPlace, isSome, partAt, namesIn, subjectAt, startsSo, isLaterThan, firstFrom, allPass, hasNames, isPlaceAt, isFreeAt, isHeldAt, aloneAt, occupiedOf, Sized, PlaceIn};
+ghost use Rattle.cabinet.specs.Steps.{isZero, isPlace, isSome, partAt, firstFrom, allPass, hasNames, isPlaceAt, isFreeAt, isHeldAt, aloneAt, occupiedOf, Sized, PlaceIn};
 
 pub const PLACES: usize = 64;
 
@@ -19,7 +20,9 @@ pub const WIDTH: usize = 1024;
 
 pub const SIZE: usize = 65536;
 
-// Where the number of Expiry begins in a place: the record and the zeros after it stand before.
+// Where the last TVP begins in a place, the record and the zeros after it before it; and behind it the number of Expiry.
+pub const TVP_AT: usize = 1000;
+
 pub const NUMBER_AT: usize = 1016;
 
 // What a call answers that changes a cabinet, or asks whether it is one: the number, and the field's number, 0 where none is named.
@@ -57,7 +60,7 @@ fn are_zeros(s: &[u8]) -> bool
     seen == 0
 }
 
-// Whether the bytes are all zeros, or a public key, zeros after it and the number of its Expiry: the record is what stands before the first zero.
+// Whether the bytes are all zeros, or a public key, zeros after it, a TVP and the number of its Expiry: the record is what stands before the first zero.
 fn is_place(place: &[u8]) -> bool
     requires { ⌜ length (now place) ≡ 1024 ⌝ }
     ensures { λ r. ⌜ r ≡ isPlace (decode (now (place .entry))) ⌝ }
@@ -66,10 +69,13 @@ fn is_place(place: &[u8]) -> bool
     if len == 0 {
         return are_zeros(place);
     }
-    if NUMBER_AT < len {
+    if TVP_AT < len {
         return false;
     }
-    if !are_zeros(&place[len..NUMBER_AT]) {
+    if !are_zeros(&place[len..TVP_AT]) {
+        return false;
+    }
+    if !tvps::is_tvp(&place[TVP_AT..NUMBER_AT]) {
         return false;
     }
     let expiry = expiry::expiry_of(&place[0..len]);
@@ -90,41 +96,6 @@ fn place_at<'a>(cabinet: &'a [u8], i: usize) -> &'a [u8]
     &cabinet[start..end]
 }
 
-// ---- the names
-
-// What stands in an identity before its GNT: its kind's name, Manufacturer and MID, each followed by ':'. Nothing, of bytes without so many marks.
-fn names_in<'a>(identity: &'a [u8]) -> &'a [u8]
-    ensures { λ r. ⌜ now r ≡ namesIn (now (identity .entry)) ⌝ }
-{
-    let end = frame::part_start(b':', identity, table::IDENTITY_GNT);
-    if identity.len() < end {
-        return &identity[0..0];
-    }
-    &identity[0..end]
-}
-
-// The Subject of a record, alone or in its place.
-fn subject_in<'a>(bytes: &'a [u8]) -> &'a [u8]
-    ensures { λ r. ⌜ now r ≡ subjectAt (now (bytes .entry)) ⌝ }
-{
-    frame::part(b'|', bytes, table::PUBKEY_SUBJECT)
-}
-
-// The Subject of the record in a place begins with these names.
-fn has_names(place: &[u8], names: &[u8]) -> bool
-    ensures { λ r. ⌜ r ≡ startsSo (now (place .entry)) (now (names .entry)) ⌝ }
-{
-    let start = frame::part_start(b'|', place, table::PUBKEY_SUBJECT);
-    if place.len() < start {
-        return names.len() == 0;
-    }
-    if place.len() - start < names.len() {
-        return false;
-    }
-    let end = start + names.len();
-    text::are_same(&place[start..end], names)
-}
-
 // ---- all places
 
 // The lowest place at or after `from` whose record has these names, or PLACES.
@@ -134,7 +105,7 @@ fn place_of(cabinet: &[u8], from: usize, names: &[u8]) -> usize
 {
     let mut i = from;
     while i < PLACES {
-        if has_names(place_at(cabinet, i), names) {
+        if naming::has_names(place_at(cabinet, i), names) {
             return i;
         }
         i += 1;
@@ -166,7 +137,7 @@ fn is_alone(cabinet: &[u8], i: usize) -> bool
     if place[0] == 0 {
         return true;
     }
-    place_of(cabinet, i + 1, names_in(subject_in(place))) == PLACES
+    place_of(cabinet, i + 1, naming::names_in(naming::subject_in(place))) == PLACES
 }
 
 // Whether no two places share their names.
@@ -281,18 +252,9 @@ pub fn count_keys(cabinet: &[u8]) -> Counted
     }
 }
 
-// The GNT of this Subject is later than that of the record in a place.
-fn is_later_than(subject: &[u8], place: &[u8]) -> bool
-    ensures { λ r. ⌜ r ≡ isLaterThan (now (subject .entry)) (now (place .entry)) ⌝ }
-{
-    text::is_later(
-        subjects::field_in(subject, table::IDENTITY_GNT),
-        subjects::field_in(subject_in(place), table::IDENTITY_GNT),
-    )
-}
-
-// Puts a public key in. It replaces the one with the same Subject kind, Manufacturer and MID, in its place, and else takes the lowest free place. 23 before
-// all; the record's own numbers (another kind answers 2); 24 where its GNT is not later than that of the one it is to replace; 25 where no place is free.
+// Puts a public key in. It replaces the one with the same Subject kind, Manufacturer and MID, in its place, where the TVP stays, and else takes the lowest free place, with
+// 19930101T000000Z as TVP. 23 before all; the record's own numbers (another kind answers 2); 24 where its GNT is not later than that of the one it is to replace; 25 where no
+// place is free.
 pub fn put_key(cabinet: &mut [u8], record: &[u8]) -> Filed
     ensures { λ r. ⌜ Files (putKey (now (cabinet .entry)) (now («record» .entry))) (now (cabinet .exit)) r ⌝ }
 {
@@ -304,24 +266,24 @@ pub fn put_key(cabinet: &mut [u8], record: &[u8]) -> Filed
         return file(expiry.no, expiry.field);
     }
     let number = text::seconds_bytes(expiry.seconds);
-    let subject = subject_in(record);
-    let its = place_of(cabinet, 0, names_in(subject));
+    let subject = naming::subject_in(record);
+    let its = place_of(cabinet, 0, naming::names_in(subject));
     if its < PLACES {
-        if !is_later_than(subject, place_at(cabinet, its)) {
+        if !naming::is_later_than(subject, place_at(cabinet, its)) {
             return file(numbers::NOT_LATER, 0);
         }
-        writing::write_place(cabinet, its, record, &number);
+        writing::write_key(cabinet, its, record, &number);
         return file(numbers::ACCEPTED, 0);
     }
     let free = free_at(cabinet);
     if free == PLACES {
         return file(numbers::NO_PLACE, 0);
     }
-    writing::write_place(cabinet, free, record, &number);
+    writing::write_place(cabinet, free, record, &tvps::START, &number);
     file(numbers::ACCEPTED, 0)
 }
 
-// Takes the public key of this identity's kind, Manufacturer and MID out: its place is all zeros afterwards. 23 before all; the identity's own numbers; 26 where
+// Takes the public key of this identity's kind, Manufacturer and MID out: its place is all zeros afterwards, the TVP too. 23 before all; the identity's own numbers; 26 where
 // there is none.
 pub fn remove_key(cabinet: &mut [u8], identity: &[u8]) -> Filed
     ensures { λ r. ⌜ Files (removeKey (now (cabinet .entry)) (now (identity .entry))) (now (cabinet .exit)) r ⌝ }
@@ -333,11 +295,40 @@ pub fn remove_key(cabinet: &mut [u8], identity: &[u8]) -> Filed
     if answer.no != numbers::ACCEPTED {
         return file(answer.no, answer.field);
     }
-    let its = place_of(cabinet, 0, names_in(identity));
+    let its = place_of(cabinet, 0, naming::names_in(identity));
     if its == PLACES {
         return file(numbers::NOT_THERE, 0);
     }
-    writing::write_place(cabinet, its, &identity[0..0], &identity[0..0]);
+    let none = &identity[0..0];
+    writing::write_place(cabinet, its, none, none, none);
+    file(numbers::ACCEPTED, 0)
+}
+
+// Admits a load request: the module of its ID_SM, by kind, Manufacturer and MID, is in the cabinet, and its TVP is later than the last one accepted for that module. The TVP
+// is then stored, and nothing else changes. 23 before all; the request's own numbers (another kind answers 2); 26 where the module is not there; 27 where the TVP is not
+// later: the request was answered before, or a later one was.
+pub fn admit(cabinet: &mut [u8], request: &[u8]) -> Filed
+    ensures { λ r. ⌜ Files (admit (now (cabinet .entry)) (now (request .entry))) (now (cabinet .exit)) r ⌝ }
+{
+    if !is_cabinet(cabinet) {
+        return file(numbers::NOT_CABINET, 0);
+    }
+    let answer = reading::read_of(table::REQ, table::RESP, request);
+    if answer.no != numbers::ACCEPTED {
+        return file(answer.no, answer.field);
+    }
+    let starts = answer.starts;
+    let lens = answer.lens;
+    let id_sm = places::field_at(request, &starts, &lens, table::REQ_ID_SM);
+    let its = place_of(cabinet, 0, naming::names_in(id_sm));
+    if its == PLACES {
+        return file(numbers::NOT_THERE, 0);
+    }
+    let tvp = places::field_at(request, &starts, &lens, table::REQ_TVP);
+    if !tvps::is_later_tvp(tvp, place_at(cabinet, its)) {
+        return file(numbers::TVP_NOT_LATER, 0);
+    }
+    writing::write_tvp(cabinet, its, tvp);
     file(numbers::ACCEPTED, 0)
 }
 
@@ -364,7 +355,7 @@ pub fn key_place(cabinet: &[u8], identity: &[u8]) -> fields::Place
     if answer.no != numbers::ACCEPTED {
         return find_none(answer.no, answer.field);
     }
-    let its = place_of(cabinet, 0, names_in(identity));
+    let its = place_of(cabinet, 0, naming::names_in(identity));
     if its == PLACES {
         return find_none(numbers::NOT_THERE, 0);
     }

@@ -35,6 +35,7 @@ fn change(op: usize, lent: &mut [u8], part: &[u8]) -> cabinet::Filed {
         47 => cabinet::make_cabinet(lent),
         50 => cabinet::put_key(lent, part),
         51 => cabinet::remove_key(lent, part),
+        57 => cabinet::admit(lent, part),
         _ => cabinet::check_cabinet(lent),
     }
 }
@@ -110,9 +111,11 @@ pub(crate) fn go(a: &[u8], c: &[u8]) {
     print_check(input::cut(&space, 0, 65536));
 }
 
-// Whether the bytes are a cabinet whose place n begins with the text and whose other places are free.
+// Whether the bytes are a cabinet whose place n begins with the text and whose other places are free. Where the text is
+// shorter, the place has the TVP of a first put.
 pub(crate) fn check_place(n: usize, text: &[u8]) -> cabinet::Filed {
     let mut space = outputs::zeros();
+    put::put(&mut space, n % 64 * 1024 + 1000, b"19930101T000000Z");
     put::put(&mut space, n % 64 * 1024, text);
     cabinet::check_cabinet(input::cut(&space, 0, 65536))
 }

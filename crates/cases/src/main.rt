@@ -35,7 +35,7 @@ fn run_case(file: &[u8], head: &[u8]) {
         24..=27 | 35 | 44..=46 => outputs::write(op, a, b, c, n, input::cut(file, 0, 1024)),
         37 => confirmations::print_request(a, b, c, n, input::cut(file, 0, 1024)),
         38 => confirmations::print_response(a, b, c),
-        47..=53 => filing::file(op, a, b, c, n),
+        47..=53 | 57 => filing::file(op, a, b, c, n),
         54 => filing::go(a, c),
         55 => moments::print_moment(a),
         56 => moments::print_expiry(a),

@@ -13,9 +13,10 @@ use Rattle.sha384.specs.Sha384.{sha384}
 use Rattle.hmac.specs.Hmac.{hmac}
 use Rattle.numbers.specs.Numbers.{shortOutput, wrongZ, otherRequest, wrongTag}
 use Rattle.format.specs.Kinds.{REQ, RESP}
+use Rattle.format.specs.Requests.{idSm, idKmc, tvp}
 use Rattle.format.specs.Read.{Outcome, accepted, refused, readOf}
 use Rattle.items.specs.Items.{lvConcat}
-use Rattle.agreement.specs.Texts.{idSm, idKmc, tvp, sharedItems, moduleItems, centreItems}
+use Rattle.agreement.specs.Texts.{sharedItems, moduleItems, centreItems}
 use Rattle.put.specs.Made.{Made, made, denied, leaves}
 use Rattle.confirm.specs.declared.Confirmed.{Confirmed}
 

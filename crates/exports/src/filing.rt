@@ -1,6 +1,6 @@
 // The centre's key cabinet, in 65,536 bytes that the caller lends to every call.
 ghost use mathlib.Core.Path.{_≡_};
-ghost use Rattle.shelf.specs.Cabinet.{makeCabinet, putKey, removeKey, findKey};
+ghost use Rattle.shelf.specs.Cabinet.{makeCabinet, putKey, removeKey, admit, findKey};
 ghost use Rattle.cabinet.specs.Cabinet.{Files, checked, counted, FindSaid};
 
 // Makes the lent bytes an empty cabinet.
@@ -41,6 +41,14 @@ pub extern "C" fn obscurlane_remove_key(cabinet: &mut [u8], identity: &[u8]) -> 
     ensures { λ r. ⌜ Files (removeKey (now (cabinet .entry)) (now (identity .entry))) (now (cabinet .exit)) r ⌝ }
 {
     cabinet::remove_key(cabinet, identity)
+}
+
+// Admits a load request of a module whose public key is there.
+#[no_mangle]
+pub extern "C" fn obscurlane_admit(cabinet: &mut [u8], request: &[u8]) -> cabinet::Filed
+    ensures { λ r. ⌜ Files (admit (now (cabinet .entry)) (now (request .entry))) (now (cabinet .exit)) r ⌝ }
+{
+    cabinet::admit(cabinet, request)
 }
 
 // Where the public key of an identity stands in the cabinet's bytes.

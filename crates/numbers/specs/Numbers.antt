@@ -79,3 +79,6 @@ noPlace = 25
 
 abbrev pub notThere : ℕ
 notThere = 26
+
+abbrev pub tvpNotLater : ℕ
+tvpNotLater = 27

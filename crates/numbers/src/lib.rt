@@ -53,3 +53,5 @@ pub const NOT_LATER: u8 = 24;
 pub const NO_PLACE: u8 = 25;
 
 pub const NOT_THERE: u8 = 26;
+
+pub const TVP_NOT_LATER: u8 = 27;

@@ -5,14 +5,14 @@ use Prim.Native.Nat.{ℕ, _-_, _*_}
 use mathlib.Core.Path.{_≡_, refl}
 use mathlib.Core.Bool.{Bool, true, false, cond, _&&_}
 use mathlib.Core.Option.{Option, none, some}
-use mathlib.Core.List.{List}
+use mathlib.Core.List.{List, [], _∷_}
 use lib.Dec.{leb, eqb}
 use lib.ListN.{length, take, drop}
 use Rattle.text.specs.Text.{Bytes, same, between}
 use Rattle.text.specs.Later.{later}
 use Rattle.text.proofs.Tests.{T-true, T-false, by-test}
-use Rattle.numbers.specs.Numbers.{tooLong, unknownKind, wrongCount, shortOutput, unfinished, missingItem, notAlike, wrongFingerprint, wrongZ, otherRequest, wrongTag, missingTrailer, wrongHash, missingBegins, missingEnds, notCabinet, notLater, noPlace, notThere}
-use Rattle.format.specs.Kinds.{Kind, fieldsOf, recordKinds, pubkeyKinds, allKinds}
+use Rattle.numbers.specs.Numbers.{tooLong, unknownKind, wrongCount, shortOutput, unfinished, missingItem, notAlike, wrongFingerprint, wrongZ, otherRequest, wrongTag, missingTrailer, wrongHash, missingBegins, missingEnds, notCabinet, notLater, noPlace, notThere, tvpNotLater}
+use Rattle.format.specs.Kinds.{Kind, REQ, fieldsOf, recordKinds, pubkeyKinds, allKinds}
 use Rattle.format.specs.Build.{recordOf, longestRecord}
 use Rattle.format.specs.Read.{Outcome, accepted, refused, answer, place, provided, judged, readIdentity, readOf, readRecord}
 use Rattle.format.specs.Files.{lineAtOver}
@@ -33,8 +33,8 @@ use Rattle.mail.specs.Mail.{linesIn, alone, readFound, readMail}
 use Rattle.mail.proofs.Blocks.{opened-found}
 use Rattle.expiry.specs.Expiry.{expiryBy, expiryOf}
 use Rattle.shelf.specs.Places.{Names, Held, Place, holds, lookup, lowest, anyFree}
-use Rattle.shelf.specs.Cabinet.{places, width, Reading, about, declined, asks, reads, zeros, shelf, putAt, putRead, removeAt, removeRead, leaving, told, onPlaces, makeCabinet, putKey, removeKey, foundAt, findRead, findIn, findKey, countIn, countKeys, checkCabinet}
-use Rattle.shelf.proofs.Readings.{asks-own, reads-own}
+use Rattle.shelf.specs.Cabinet.{places, width, Reading, about, declined, asks, reads, requests, zeros, shelf, putAt, putRead, removeAt, removeRead, admitAt, admitRead, leaving, told, onPlaces, makeCabinet, putKey, removeKey, admit, foundAt, findRead, findIn, findKey, countIn, countKeys, checkCabinet}
+use Rattle.shelf.proofs.Readings.{asks-own, reads-own, requests-own}
 use Rattle.subjects.specs.Subjects.{gnt, alike}
 use Rattle.fingerprint.specs.Fingerprint.{rightPrint, printIn, checkBy}
 use Rattle.confirm.specs.Confirm as confirm
@@ -208,6 +208,23 @@ module _ (P : ℕ → ℕ → Type 0) (z : P 0 0) where
         go : (o : Option (List Place)) → let x = onPlaces (λ ps. putRead r ps (reads r)) s o in P (x .no) (x .field)
         go none = other
         go (some ps) = read ps (reads r) refl
+
+    -- admit: 26 and 27 besides
+    pub admit-answered : ((s : Bytes) → Of (readOf (REQ ∷ []) s)) → P notThere 0 → P tvpNotLater 0 → (s q : Bytes) → P (admit s q .no) (admit s q .field)
+    unfolding admit admitAt
+    admit-answered own missing early s q = go (shelf s)
+      where
+        enter : (k : Names) (t : Bytes) (ps : List Place) (o : Option Held) → let x = told s (admitAt k t ps o) in P (x .no) (x .field)
+        enter k t ps none = missing
+        enter k t ps (some h) = by-test (later t (h .tvp)) (λ u. rw (T-true (later t (h .tvp)) u) z) (λ u. rw (T-false (later t (h .tvp)) u) early)
+
+        read : (ps : List Place) (x : Reading) → requests q ≡ x → let y = told s (admitRead ps x) in P (y .no) (y .field)
+        read ps (about k t) e = enter k t ps (lookup k ps)
+        read ps (declined n i) e = rw (requests-own q n i e .0) at (own q)
+
+        go : (o : Option (List Place)) → let x = onPlaces (λ ps. admitRead ps (requests q)) s o in P (x .no) (x .field)
+        go none = other
+        go (some ps) = read ps (requests q) refl
 
     -- remove and find: 26 besides
     module _ (own : (s : Bytes) → Of (readIdentity s)) (missing : P notThere 0) where

@@ -14,35 +14,42 @@ use mir.Facts.{T-not, yes-eqb}
 use borrow.Author.Tests.{eq-eqb, ne-eqb}
 use denote.Ref.{now}
 use Rattle.text.specs.Text.{Bytes, oneOf}
-use Rattle.text.specs.Seconds.{secondsBytes}
+use Rattle.text.specs.Seconds.{start, secondsBytes}
 use Rattle.text.specs.Later.{later}
-use Rattle.text.proofs.Tests.{T-true, by-test, cond-yes}
+use Rattle.text.proofs.Tests.{T-true, T-false, by-test, cond-yes}
+use Rattle.text.proofs.Types.{timestamp-length}
 use Rattle.text.proofs.Later.{later-itself}
-use Rattle.numbers.specs.Numbers.{notCabinet, notLater, noPlace}
-use Rattle.format.specs.Kinds.{Kind, name}
+use Rattle.numbers.specs.Numbers.{notCabinet, notLater, noPlace, notThere, tvpNotLater}
+use Rattle.format.specs.Kinds.{Kind, SMID, name}
 use Rattle.format.specs.Read.{accepted, readIdentity}
 use Rattle.format.proofs.Table.{name-inj}
 use Rattle.fields.specs.declared.Place.{Place}
 use Rattle.subjects.specs.Subjects.{manufacturer, mid, gnt}
 use Rattle.subjects.specs.Keys.{Key, gntOf}
+use Rattle.subjects.specs.Requests.{Request}
+use Rattle.subjects.proofs.Requests.{request-tvp}
 use Rattle.expiry.proofs.Expiries.{expiry-seconds}
 use Rattle.shelf.specs.Places as shelves
 use Rattle.shelf.specs.Places.{Names, named, sameNames, Held, free, held, isFree, holds, lookup, lowest, occupied, distinct, others}
-use Rattle.shelf.specs.Cabinet.{places, width, numberAt, numberOf, about, asks, reads, encode, decode, shelf, image, entry, Result, leaving, Finding, nothing, foundAt, makeCabinet, putKey, removeKey, findKey, countIn, countKeys, checkCabinet}
-use Rattle.shelf.specs.History.{lastPut, removals, nowhere, textOf, heldIn, Call, putting, removing, finding, checking, counting, Moment, putEvent, removeEvent, onto, noted, afterCall, run}
+use Rattle.shelf.specs.Cabinet.{places, width, tvpAt, numberOf, about, asks, reads, requests, encode, entry, isTvp, decode, shelf, image, Result, leaving, Finding, nothing, foundAt, makeCabinet, putKey, removeKey, admit, findKey, countIn, countKeys, checkCabinet}
+use Rattle.shelf.specs.History.{nowhere, heldIn, textOf, tvpOf, lastPut, removals, lastTvp, admittedOf, Call, putting, removing, finding, admitting, checking, counting, Moment, putEvent, removeEvent, admitEvent, onto, noted, afterCall, run}
 use Rattle.shelf.proofs.Places.{names-refl, found-at, Once, distinct-once, once-distinct, lookup-at, lowest-there, lowest-free-at}
-use Rattle.shelf.proofs.Readings.{asks-accepted, asks-refused, asked, reads-accepted, reads-refused, held-of}
+use Rattle.shelf.proofs.Tvps.{tvp-parts, parts-tvp, AllEarlier, Under, rising-at, rising-apart, earlier-at}
+use Rattle.shelf.proofs.Readings.{asks-accepted, asks-refused, asked, reads-accepted, reads-refused, held-of, requests-accepted, requests-refused, requested}
 use Rattle.shelf.proofs.Images.{Good, AllGood, lookup-good, decode-encode, shelf-image, shelf-some}
-use Rattle.shelf.proofs.Stores.{storedAt, put-23, put-own, put-later, put-first, remove-23, remove-own, remove-some, find-23, find-own, find-some}
+use Rattle.shelf.proofs.Stores.{storedAt, put-23, put-own, put-later, put-first, remove-23, remove-own, remove-some, admit-23, admit-own, admit-none, admit-later, admit-not-later, find-23, find-own, find-some}
 use Rattle.shelf.proofs.Histories.{Kept, kept-run, shelved-empty, lookup-empty, occupied-empty, shelf-empty, since-made, since-image}
-use Rattle.shelf.proofs.Numbers.{others-all, all-others-so, putNumbers, findNumbers, put-leaves, remove-leaves, find-leaves, put-given, exactly-24, exactly-25, remove-given, find-given, remove-exactly-26, find-exactly-26}
+use Rattle.shelf.proofs.Numbers.{others-all, all-others-so, putNumbers, findNumbers, admitNumbers, put-leaves, remove-leaves, admit-leaves, find-leaves, put-given, exactly-24, exactly-25, remove-given, find-given, remove-exactly-26, find-exactly-26, admit-given, admit-exactly-26, admit-exactly-27}
 use Rattle.cabinet.specs.declared.Filed.{Filed}
 use Rattle.cabinet.specs.declared.Counted.{Counted}
 use Rattle.cabinet.specs.Cabinet.{Files}
 use Rattle.cabinet.specs.Steps.{isPlace, isSome, first, allPass, isPlaceAt}
 use Rattle.cabinet.proofs.Bridge.{first-none}
+use Rattle.cabinet.proofs.Bytes.{tvp-alone}
+use Rattle.cabinet.proofs.Calls.{dated-so}
 use Rattle.cabinet.proofs.Cabinets.{places-are, width-is, Read, its, all-read, read-all, distinct-so, cabinet-so, none-there, some-there}
-use Rattle.promises.specs.Cabinet.{placeIn, placeOf, Filled, Share, Shared, IsCabinet, withPlace, PutSaid, There, RemoveSaid, FindSaid, Step, Ran, Gives, Remembers, begun, Cabinet}
+use Rattle.promises.specs.Cabinet.{placeIn, firstTvp, IsTvp, placeOf, Filled, Share, Shared, IsCabinet, withPlace, withTvp, PutSaid, There, RemoveSaid, Module, AdmitSaid, FindSaid, Step, Ran, Gives, answerTo, Remembers, begun, Cabinet}
+use Rattle.promises.specs.Cabinet as said
 
 -- ---- a public key's names, and what a place holds
 
@@ -50,7 +57,7 @@ abbrev namesOf : {r : Bytes} → Key r → Names
 namesOf q = named (name (q .who)) (manufacturer (q .names)) (mid (q .names))
 
 abbrev heldBy : {b : Bytes} → Filled b → Held
-heldBy q = record { names = namesOf (q .key); gnt = gntOf (q .key); text = q .text }
+heldBy q = record { names = namesOf (q .key); gnt = gntOf (q .key); text = q .text; tvp = q .tvp }
 
 share-names : (j k : Kind) (fs gs : List Bytes) → Share j fs k gs ↔ (named (name j) (manufacturer fs) (mid fs) ≡ named (name k) (manufacturer gs) (mid gs))
 share-names j k fs gs = (λ (a, b, c). rw (a, b, c), λ e. (name-inj j k cc, cc, cc))
@@ -66,16 +73,22 @@ zeros-place : encode free ≡ replicate 1024 0
 unfolding encode width
 zeros-place = refl
 
--- the bytes of the place for a key, whatever names and GNT are kept beside it
-key-place : {r : Bytes} (p : Key r) (k : Names) (g : Bytes) → encode (entry k g r) ≡ placeOf p
-unfolding encode numberAt numberOf
-key-place {r} p k g = ap (λ (z : ℤ). (r ++ replicate (1016 - length r) 0) ++ secondsBytes z) (expiry-seconds p)
+-- the bytes of the place for a key with a TVP, whatever names and GNT are kept beside it
+key-place : {r : Bytes} (p : Key r) (k : Names) (g t : Bytes) → encode (entry k g r t) ≡ placeOf p t
+unfolding encode tvpAt numberOf
+key-place {r} p k g t = ap (λ (z : ℤ). ((r ++ replicate (1000 - length r) 0) ++ t) ++ secondsBytes z) (expiry-seconds p)
 
 filled-encode : {b : Bytes} (q : Filled b) → encode (held (heldBy q)) ≡ b
-filled-encode q = key-place (q .key) (namesOf (q .key)) (gntOf (q .key)) ∙ sym (q .so)
+filled-encode q = key-place (q .key) (namesOf (q .key)) (gntOf (q .key)) (q .tvp) ∙ sym (q .so)
+
+tvp-so : (t : Bytes) → T (isTvp t) → IsTvp t
+tvp-so t h = let (a, b) = tvp-parts t h in record { stamp = a; from-start = T-false (later start t) b }
+
+so-tvp : {t : Bytes} → IsTvp t → T (isTvp t)
+so-tvp {t} h = parts-tvp t (h .stamp) (rw (h .from-start) tt)
 
 filled-good : {b : Bytes} (q : Filled b) → Good (held (heldBy q))
-filled-good q = reads-accepted (q .text) (q .key)
+filled-good q = (reads-accepted (q .text) (q .key), so-tvp (q .is-tvp))
 
 -- ---- bytes whose places are ps
 
@@ -95,10 +108,12 @@ module _ {s : Bytes} {ps : List shelves.Place} (R : Read s ps) (j : ℕ) (l : j 
   unfolding encode width
   place-filled h e =
       let (b, g) = R .at j l in
-      let g′ : reads (h .text) ≡ about (h .names) (h .gnt) = subst Good e g in
-      let k = held-of (h .text) (h .names) (h .gnt) g′ .key in
-      let (n, m) = key-reads k g′ in
-      (record { text = h .text; key = k; so = sym b ∙ ap encode e ∙ key-place k (h .names) (h .gnt) }, ap₂ (λ (x : Names) (y : Bytes). record { names = x; gnt = y; text = h .text }) n m)
+      let g′ : Good (held h) = subst Good e g in
+      let k = held-of (h .text) (h .names) (h .gnt) (g′ .0) .key in
+      let (n, m) = key-reads k (g′ .0) in (
+        record { text = h .text; key = k; tvp = h .tvp; is-tvp = tvp-so (h .tvp) (g′ .1); so = sym b ∙ ap encode e ∙ key-place k (h .names) (h .gnt) (h .tvp) },
+        ap₂ (λ (x : Names) (y : Bytes). record { names = x; gnt = y; text = h .text; tvp = h .tvp }) n m,
+      )
 
   place-free : getD ps j free ≡ free → placeIn s j ≡ replicate 1024 0
   place-free e = sym (R .at j l .0) ∙ ap encode e ∙ zeros-place
@@ -199,9 +214,9 @@ module _ {s : Bytes} {ps : List shelves.Place} (e : shelf s ≡ some ps) (R : Re
       go none g = g
       go (some h) g = let (j, l, q, u, n) = place-of k h g in absurd (f j l q n)
 
-stored-place : (s : Bytes) (j : ℕ) {r : Bytes} (p : Key r) → storedAt s j (entry (namesOf p) (gntOf p) r) ≡ withPlace s j (placeOf p)
+stored-place : (s : Bytes) (j : ℕ) {r : Bytes} (p : Key r) (t : Bytes) → storedAt s j (entry (namesOf p) (gntOf p) r t) ≡ withPlace s j (placeOf p t)
 unfolding width
-stored-place s j p = ap (withPlace s j) (key-place p (namesOf p) (gntOf p))
+stored-place s j p t = ap (withPlace s j) (key-place p (namesOf p) (gntOf p) t)
 
 emptied-place : (s : Bytes) (j : ℕ) → storedAt s j free ≡ withPlace s j (replicate 1024 0)
 unfolding encode width
@@ -224,14 +239,14 @@ put-said s r after x w =
           let (a, b) = at-place q R j l f (namesOf p) (shared-names p (f .key) .0 sh) in
           done-so w
           (put-later s ps q r (namesOf p) (gntOf p) (reads-accepted r p) (heldBy f) a t (lowest-there (namesOf p) ps (heldBy f) a)
-          ∙ ap (λ (y : Bytes). record { no = 0; field = 0; bytes = y }) (ap (λ (i : ℕ). storedAt s i (entry (namesOf p) (gntOf p) r)) b ∙ stored-place s j p));
+          ∙ ap (λ (y : Bytes). record { no = 0; field = 0; bytes = y }) (ap (λ (i : ℕ). storedAt s i (entry (namesOf p) (gntOf p) r (f .tvp))) b ∙ stored-place s j p (f .tvp)));
       first = λ c p f j l z low.
           let (ps, q, R) = of-cabinet s c in
           let b : lowest isFree ps ≡ j =
           lowest-free-at j ps (omega (arith, R .number)) (free-place R j l z) (λ i m. let i< : i < 64 = omega arith in (heldBy (low i m), filled-place R i i< (low i m))) in
           done-so w
           (put-first s ps q r (namesOf p) (gntOf p) (reads-accepted r p) (none-found q R (namesOf p) (λ i m g n. f i m g (shared-names p (g .key) .1 n))) (omega (arith, b, R .number))
-          ∙ ap (λ (y : Bytes). record { no = 0; field = 0; bytes = y }) (ap (λ (i : ℕ). storedAt s i (entry (namesOf p) (gntOf p) r)) b ∙ stored-place s j p));
+          ∙ ap (λ (y : Bytes). record { no = 0; field = 0; bytes = y }) (ap (λ (i : ℕ). storedAt s i (entry (namesOf p) (gntOf p) r firstTvp)) b ∙ stored-place s j p firstTvp));
     }
   where
     later-to : (ps : List shelves.Place) → shelf s ≡ some ps → Read s ps → x .no ≡ notLater
@@ -322,6 +337,74 @@ remove-said s i after x w =
           ∙ ap (λ (y : Bytes). record { no = 0; field = 0; bytes = y }) (ap (λ (m : ℕ). storedAt s m free) b ∙ emptied-place s j));
     }
 
+-- ---- admit
+
+module _ (s q after : Bytes) (x : Filed) (w : Files (admit s q) after x) where
+  module _ {ps : List shelves.Place} (e : shelf s ≡ some ps) (R : Read s ps) where
+    -- what is read of a request is its own
+    its-names : (r : Request q) (k : Names) (t : Bytes) → requests q ≡ about k t → (k ≡ askedNames SMID (r .names)) × (t ≡ said.tvpOf r)
+    its-names r k t a = let f = sym a ∙ requests-accepted q r in (cc, cc)
+
+    there-to : x .no ≡ notThere → (r : Request q) × ((j : ℕ) → Module s r j → ⊥)
+    there-to n =
+        let (k, t, a, f) = admit-exactly-26 s q ps e .0 (sym (number-of w) ∙ n) in
+        let r = requested q k t a .request in
+        let (u, v) = its-names r k t a in (
+          r,
+          λ j m.
+              let (b, c) = there-so s q e R SMID (r .names) j m in
+              let z = sym f ∙ ap (λ (y : Names). lookup y ps) u ∙ b in
+              let o : _≡_ {A = ℕ} 0 1 = cc in omega arith,
+        )
+
+    later-to : x .no ≡ tvpNotLater → (r : Request q) × (j : ℕ) × (m : Module s r j) × (later (said.tvpOf r) (m .1 .tvp) ≡ false)
+    later-to n =
+        let (k, t, h, a, f, l) = admit-exactly-27 s q ps e .0 (sym (number-of w) ∙ n) in
+        let r = requested q k t a .request in
+        let (u, v) = its-names r k t a in
+        let (j, i, p, y, m) = place-of e R k h f in
+        (r, j, (i, p, share-names SMID (p .key .who) (r .names) (p .key .names) .1 (sym u ∙ m)), ap₂ later (sym v) (ap (λ (z : Held). z .tvp) y) ∙ l)
+
+    module _ (r : Request q) (j : ℕ) (m : Module s r j) where
+      found : lookup (askedNames SMID (r .names)) ps ≡ some (heldBy (m .1))
+      found = there-so s q e R SMID (r .names) j m .0
+
+      later-from : later (said.tvpOf r) (m .1 .tvp) ≡ false → x .no ≡ tvpNotLater
+      later-from l = number-of w ∙ admit-exactly-27 s q ps e .1 (askedNames SMID (r .names), said.tvpOf r, heldBy (m .1), requests-accepted q r, found, l)
+
+      -- the place, with the request's TVP
+      dated-place : storedAt s j (entry (namesOf (m .1 .key)) (gntOf (m .1 .key)) (m .1 .text) (said.tvpOf r)) ≡ withTvp s j (said.tvpOf r)
+      dated-place =
+          let long = timestamp-length (said.tvpOf r) (request-tvp r) in
+          dated-so s j (heldBy (m .1)) (filled-good (m .1)) (sym (filled-encode (m .1))) (said.tvpOf r) long
+          ∙ tvp-alone (said.tvpOf r) (record { long = R .long; place = m .0 }) long
+
+      admits-so : later (said.tvpOf r) (m .1 .tvp) ≡ true → (x .no ≡ 0) × (after ≡ withTvp s j (said.tvpOf r))
+      admits-so l =
+          done-so w
+          (admit-later s ps e q (askedNames SMID (r .names)) (said.tvpOf r) (requests-accepted q r) (heldBy (m .1)) found l (lowest-there (askedNames SMID (r .names)) ps (heldBy (m .1)) found)
+          ∙ ap (λ (y : Bytes). record { no = 0; field = 0; bytes = y })
+          (ap (λ (i : ℕ). storedAt s i (entry (namesOf (m .1 .key)) (gntOf (m .1 .key)) (m .1 .text) (said.tvpOf r))) (there-so s q e R SMID (r .names) j m .1) ∙ dated-place))
+
+  admit-said : AdmitSaid s q after x
+  admit-said =
+      record {
+        refuses = record {
+          no-cabinet =
+              exactly-23 s (x .no) (λ e. number-of w ∙ ap (λ (y : Result). y .no) (admit-23 s q e))
+              (λ ps e n. listed admitNumbers (admit s q .no) notCabinet (admit-given s q ps e) tt (sym (number-of w) ∙ n));
+          untouched = λ n. w .left ∙ admit-leaves s q (λ z. n (number-of w ∙ z));
+        };
+        own = λ c n i f. let (ps, e, R) = of-cabinet s c in result-so w (admit-own s ps e q n i (requests-refused q n i f)) .0;
+        not-there = λ c.
+            let (ps, e, R) = of-cabinet s c in (
+              there-to e R,
+              λ (r, f). number-of w ∙ ap (λ (y : Result). y .no) (admit-none s ps e q (askedNames SMID (r .names)) (said.tvpOf r) (requests-accepted q r) (nothing-so s q e R SMID (r .names) f)),
+            );
+        not-later = λ c. let (ps, e, R) = of-cabinet s c in (later-to e R, λ (r, j, m, l). later-from e R r j m l);
+        admits = λ c r j m l. let (ps, e, R) = of-cabinet s c in admits-so e R r j m l;
+      }
+
 -- of the definition, then of what a call answered
 find-so : (s i : Bytes) → let x = findKey s i in FindSaid s i (x .no) (x .field) (x .start) (x .text)
 find-so s i =
@@ -391,10 +474,15 @@ step-call m n (inr (inl (κs, (a, (r, (s, (p, (e, f)))))))) = (
   f ∙ ap₂ (λ (k : ℕ) (x : Bytes). record { bytes = x; events = cond (eqb k 0) (onto (removeEvent (asks (now (a .1 .0)))) (m .events)) (m .events) }) (number-of p) (p .left)
       ∙ ap (λ (x : Bytes). noted (removeEvent (asks (now (a .1 .0)))) (removeKey x (now (a .1 .0))) (m .events)) e,
 )
-step-call m n (inr (inr (inl (κs, (a, (r, (s, (p, (e, f))))))))) = (finding (now (a .1 .0)), f)
+step-call m n (inr (inr (inl (κs, (a, (r, (s, (p, (e, f))))))))) = (
+  admitting (now (a .1 .0)),
+  f ∙ ap₂ (λ (k : ℕ) (x : Bytes). record { bytes = x; events = cond (eqb k 0) (onto (admitEvent (requests (now (a .1 .0)))) (m .events)) (m .events) }) (number-of p) (p .left)
+      ∙ ap (λ (x : Bytes). noted (admitEvent (requests (now (a .1 .0)))) (admit x (now (a .1 .0))) (m .events)) e,
+)
 step-call m n (inr (inr (inr (inl (κs, (a, (r, (s, (p, (e, f)))))))))) = (finding (now (a .1 .0)), f)
-step-call m n (inr (inr (inr (inr (inl (κs, (a, (r, (s, (p, (e, f))))))))))) = (checking, f)
-step-call m n (inr (inr (inr (inr (inr (κs, (a, (r, (s, (p, (e, f))))))))))) = (counting, f)
+step-call m n (inr (inr (inr (inr (inl (κs, (a, (r, (s, (p, (e, f))))))))))) = (finding (now (a .1 .0)), f)
+step-call m n (inr (inr (inr (inr (inr (inl (κs, (a, (r, (s, (p, (e, f)))))))))))) = (checking, f)
+step-call m n (inr (inr (inr (inr (inr (inr (κs, (a, (r, (s, (p, (e, f)))))))))))) = (counting, f)
 
 ran-calls : (k : ℕ) (m n : Moment) → Ran k m n → (cs : List Call) × (n ≡ run cs m)
 unfolding run
@@ -404,7 +492,21 @@ ran-calls (suc k) m n (l, s, r) =
     let (cs, f) = ran-calls k l n r in
     (c ∷ cs, f ∙ ap (run cs) e)
 
-kept-remembers : (before : Names → Option Bytes) (many : ℕ) (m : Moment) → Kept before many m → Remembers before many m
+-- what is answered to a request, where `o` is held under the names of its module
+answer-so : (s q : Bytes) (ps : List shelves.Place) → shelf s ≡ some ps → (k : Names) (t : Bytes) → requests q ≡ about k t → (o : Option Held) → lookup k ps ≡ o → admit s q .no ≡ answerTo (tvpOf o) t
+answer-so s q ps e k t a none f = ap (λ (y : Result). y .no) (admit-none s ps e q k t a f)
+answer-so s q ps e k t a (some h) f =
+    by-test (later t (h .tvp))
+    (λ u. let l = T-true (later t (h .tvp)) u in rw l (ap (λ (y : Result). y .no) (admit-later s ps e q k t a h f l (lowest-there k ps h f))))
+    (λ u. let l = T-false (later t (h .tvp)) u in rw l (ap (λ (y : Result). y .no) (admit-not-later s ps e q k t a h f l)))
+
+-- a request that is admitted has a later TVP than all that were admitted before
+admitted-later : (o : Option Bytes) (t : Bytes) (ts : List Bytes) → Under o ts → answerTo o t ≡ 0 → AllEarlier t ts
+admitted-later none t ts u z = absurd (omega arith)
+admitted-later (some v) t ts u z =
+    by-test (later t v) (λ l. u t (T-true (later t v) l)) (λ l. absurd (omega (arith, ap (λ (b : Bool). cond {A = ℕ} b 0 tvpNotLater) (sym (T-false (later t v) l)) ∙ z)))
+
+kept-remembers : (before : Names → Option Held) (many : ℕ) (m : Moment) → Kept before many m → Remembers before many m
 unfolding countKeys findKey
 kept-remembers before many m H =
     record {
@@ -416,10 +518,21 @@ kept-remembers before many m H =
           let q : findKey (now (a .0)) (now (a .1 .0)) ≡ foundAt (lowest (holds k) (H .its-places)) (lookup k (H .its-places)) = rw (here (now (a .0)) e, f) in
           gives (lookup k (H .its-places)) (lowest (holds k) (H .its-places)) (lastPut before k (m .events)) (H .looks k)
           (p .its-no ∙ ap (λ (x : Finding). x .no) q) (p .its-part .holds ∙ ap (λ (x : Finding). x .text) q);
+      admits = λ κs a r s p e k t f. number-of p ∙ answers (now (a .0)) (now (a .1 .0)) e k t f;
+      unshared = λ k. rising-apart (admittedOf before k (m .events)) (H .rises k .0);
+      rise = λ k. rising-at (admittedOf before k (m .events)) (H .rises k .0);
+      comes-back = λ κs a r s p e k t f (i, l, same-tvp) z.
+          let ts = admittedOf before k (m .events) in
+          let later-than = admitted-later (lastTvp before k (m .events)) t ts (H .rises k .1) (sym (answers (now (a .0)) (now (a .1 .0)) e k t f) ∙ sym (number-of p) ∙ z) in
+          let itself = sym (later-itself t) ∙ ap (later t) same-tvp ∙ earlier-at t ts i later-than l in
+          let no-such : _≡_ {A = ℕ} 0 1 = cc in omega arith;
     }
   where
     here : (x : Bytes) → x ≡ m .bytes → shelf x ≡ some (H .its-places)
     here x e = ap shelf (e ∙ H .bytes-are) ∙ shelf-image (H .its-places) (H .shelved)
+
+    answers : (x q : Bytes) → x ≡ m .bytes → (k : Names) (t : Bytes) → requests q ≡ about k t → admit x q .no ≡ answerTo (lastTvp before k (m .events)) t
+    answers x q e k t f = answer-so x q (H .its-places) (here x e) k t f (lookup k (H .its-places)) refl ∙ ap (λ (o : Option Bytes). answerTo o t) (H .tvps k)
 
     gives : (o : Option Held) (j : ℕ) (l : Option Bytes) → textOf o ≡ l → {part : Bytes} {n : ℕ} → n ≡ foundAt j o .no → part ≡ foundAt j o .text → Gives l part n
     gives none j none e a b = a
@@ -446,6 +559,17 @@ zeros-shelf = shelf-empty
 pub empty-cabinet : IsCabinet (replicate 65536 0)
 empty-cabinet = let (ps, q, R) = some-there (replicate 65536 0) (sym (ap isSome zeros-shelf)) in is-cabinet (replicate 65536 0) ps q R
 
+empty-kept : Kept nowhere 0 (begun (replicate 65536 0))
+empty-kept = record {
+  its-places = replicate places free;
+  shelved = shelved-empty;
+  bytes-are = sym (shelf-some (replicate 65536 0) (replicate places free) zeros-shelf .0);
+  looks = λ k. ap textOf (lookup-empty places k);
+  tvps = λ k. ap tvpOf (lookup-empty places k);
+  counts = omega (arith, occupied-empty places);
+  rises = λ k. (tt, tt);
+}
+
 module _ (r : Bytes) (p : Key r) where
   pub first-done : putKey (replicate 65536 0) r .no ≡ 0
   unfolding places
@@ -457,22 +581,13 @@ module _ (r : Bytes) (p : Key r) where
   pub again : (s : Bytes) → s ≡ putKey (replicate 65536 0) r .bytes → IsCabinet s × (putKey s r .no ≡ notLater)
   unfolding run afterCall
   again s e =
-      let H = kept-run nowhere 0 (putting r ∷ []) (begun (replicate 65536 0)) start in
+      let H = kept-run nowhere 0 (putting r ∷ []) (begun (replicate 65536 0)) empty-kept in
       let bytes : s ≡ image (H .its-places) = e ∙ H .bytes-are in
       let here : shelf s ≡ some (H .its-places) = ap shelf bytes ∙ shelf-image (H .its-places) (H .shelved) in
       let (ps, q, R) = some-there s (sym (ap isSome here)) in
-      let look : heldIn (H .its-places) (namesOf p) ≡ some r = H .looks (namesOf p) ∙ last in
+      let look = H .looks (namesOf p) ∙ last in
       (is-cabinet s ps q R, exactly-24 s r (H .its-places) here .1 (found (H .its-places) (lookup (namesOf p) (H .its-places)) refl look (H .shelved .good)))
     where
-      start : Kept nowhere 0 (begun (replicate 65536 0))
-      start = record {
-        its-places = replicate places free;
-        shelved = shelved-empty;
-        bytes-are = sym (shelf-some (replicate 65536 0) (replicate places free) zeros-shelf .0);
-        looks = λ k. ap textOf (lookup-empty places k);
-        counts = omega (arith, occupied-empty places);
-      }
-
       last : lastPut nowhere (namesOf p) (run (putting r ∷ []) (begun (replicate 65536 0)) .events) ≡ some r
       last = rw (first-done, reads-accepted r p) (cond-yes (sameNames (namesOf p) (namesOf p)) (some r) none (names-refl (namesOf p)))
 
@@ -481,9 +596,39 @@ module _ (r : Bytes) (p : Key r) where
       found ps none f t a = let z : _≡_ {A = ℕ} 0 1 = cc in absurd (omega arith)
       found ps (some h) f t a =
           let text : h .text ≡ r = cc in
-          let good : reads (h .text) ≡ about (h .names) (h .gnt) = lookup-good (namesOf p) ps h a f in
+          let good = lookup-good (namesOf p) ps h a f .0 in
           let (n, m) = key-reads p (ap reads (sym text) ∙ good) in
           (namesOf p, gntOf p, h, reads-accepted r p, f, ap (later (gntOf p)) (sym m) ∙ later-itself (gntOf p))
+
+-- a request of the module whose key is there, with a TVP that is not the first
+module _ (r : Bytes) (p : Key r) (q : Bytes) (u : Request q) (n : askedNames SMID (u .names) ≡ namesOf p) (l : later (said.tvpOf u) start ≡ true) where
+  abbrev filledOnce : Bytes
+  filledOnce = putKey (replicate 65536 0) r .bytes
+
+  asks-it : requests q ≡ about (namesOf p) (said.tvpOf u)
+  asks-it = requests-accepted q u ∙ ap (λ (k : Names). about k (said.tvpOf u)) n
+
+  -- what is answered after these calls
+  answer-after : (cs : List Call) (x : Bytes) → x ≡ run cs (begun (replicate 65536 0)) .bytes → (v : Bytes) → lastTvp nowhere (namesOf p) (run cs (begun (replicate 65536 0)) .events) ≡ some v
+      → admit x q .no ≡ cond (later (said.tvpOf u) v) 0 tvpNotLater
+  answer-after cs x e v f =
+      let H = kept-run nowhere 0 cs (begun (replicate 65536 0)) empty-kept in
+      answer-so x q (H .its-places) (ap shelf (e ∙ H .bytes-are) ∙ shelf-image (H .its-places) (H .shelved)) (namesOf p) (said.tvpOf u) asks-it (lookup (namesOf p) (H .its-places)) refl
+      ∙ ap (λ (o : Option Bytes). answerTo o (said.tvpOf u)) (H .tvps (namesOf p) ∙ f)
+
+  pub admitted-once : admit filledOnce q .no ≡ 0
+  unfolding run afterCall
+  admitted-once =
+      answer-after (putting r ∷ []) filledOnce refl start
+      (rw (first-done r p, reads-accepted r p) (cond-yes (sameNames (namesOf p) (namesOf p)) (some start) none (names-refl (namesOf p))))
+      ∙ rw l
+
+  pub refused-then : admit (admit filledOnce q .bytes) q .no ≡ tvpNotLater
+  unfolding run afterCall
+  refused-then =
+      answer-after (putting r ∷ admitting q ∷ []) (admit filledOnce q .bytes) refl (said.tvpOf u)
+      (rw (admitted-once, asks-it) (cond-yes (sameNames (namesOf p) (namesOf p)) (some (said.tvpOf u)) _ (names-refl (namesOf p))))
+      ∙ rw (later-itself (said.tvpOf u))
 
 pub cabinet : Cabinet
 cabinet =
@@ -493,6 +638,7 @@ cabinet =
       counted = λ κs a r s p. rw p (count-so (now (a .0)));
       put = λ κs a r s p. put-said (now (a .0)) (now (a .1 .0)) (now (s .0)) r p;
       removed = λ κs a r s p. remove-said (now (a .0)) (now (a .1 .0)) (now (s .0)) r p;
+      admitted = λ κs a r s p. admit-said (now (a .0)) (now (a .1 .0)) (now (s .0)) r p;
       place = λ κs a r s p. rw (p .bytes, p .said) (find-so (now (a .0)) (now (a .1 .0)));
       found = λ κs a r s p. (
         findKey (now (a .0)) (now (a .1 .0)) .start,

@@ -23,13 +23,14 @@ use Rattle.sha384.specs.State.{begun, added, addedAll, together, ended}
 use Rattle.sha384.proofs.Digest.{digest-size}
 use Rattle.sha384.proofs.Pieces.{ended-all}
 use Rattle.format.specs.Kinds.{Kind, REQ, RESP, Field, Text, fieldsOf}
+use Rattle.format.specs.Requests.{idSm, idKmc, tvp}
 use Rattle.format.specs.Build.{FitAll, Fits, IsIdentity, Permitted, Built, recordOf}
 use Rattle.format.specs.Read.{Outcome, accepted, refused, answer, readOf}
 use Rattle.format.proofs.Fields.{fit-length, fit-at, record-short}
 use Rattle.format.proofs.Exactly.{identity-tame, read-exact, read-honest}
 use Rattle.format.proofs.Refusals.{Gives}
 use Rattle.items.specs.Items.{lvConcat}
-use Rattle.agreement.specs.Texts.{idSm, idKmc, tvp, sharedItems, moduleItems, centreItems}
+use Rattle.agreement.specs.Texts.{sharedItems, moduleItems, centreItems}
 use Rattle.agreement.proofs.Request.{one-built}
 use Rattle.hmac.specs.Hmac.{mixed, ipad, mac, hmac}
 use Rattle.hmac.specs.State.{hmacBegun, hmacEnded}

@@ -1,7 +1,7 @@
 -- The promises about dates as numbers, from the laws of text, expiry and shelf.
 -- Assumes nothing.
 use Prim.Native.Nat.{ℕ, suc, _+_, _-_, _*_, _<_}
-use mathlib.Core.Path.{_≡_, refl, sym, ap, _∙_}
+use mathlib.Core.Path.{_≡_, sym, ap, _∙_}
 use mathlib.Core.Logic.{_↔_, inl, inr}
 use mathlib.Core.Bool.{true}
 use mathlib.Core.List.{_++_}
@@ -12,19 +12,20 @@ use lib.Dec.{T}
 use lib.IntN.{ℤ, pos, subℕ, _+ℤ_}
 use lib.Signed.{_<ℤ_, ltZ}
 use denote.Ref.{now}
-use Rattle.text.specs.Calendar.{daysBefore, sumTo}
-use Rattle.text.specs.Text.{Bytes, ascii, after, numberFrom, year, month, day, isTimestamp}
+use Rattle.text.specs.Calendar.{daysBefore}
+use Rattle.text.specs.Text.{Bytes, after, year, month, day, isTimestamp}
 use Rattle.text.specs.Seconds.{sinceYearOne, start, seconds, secondsBytes}
 use Rattle.text.proofs.Tests.{T-true, true-T}
+use Rattle.text.proofs.Types.{timestamp-length}
 use Rattle.text.proofs.Counting.{next-day, next-month, next-year}
-use Rattle.text.proofs.Seconds.{parts, sub-more, moment-valid, moment-seconds, no-moment, seconds-fit, bytes-inj}
+use Rattle.text.proofs.Seconds.{parts, sub-more, start-zero, moment-valid, moment-seconds, no-moment, seconds-fit, bytes-inj}
 use Rattle.text.proofs.Later.{later-seconds, seconds-inj, later-by-seconds, later-by-bytes, later-by-parts}
 use Rattle.format.specs.Kinds.{pubkeyKinds}
 use Rattle.format.specs.Read.{refused, readOf}
 use Rattle.subjects.specs.Keys.{Key}
 use Rattle.expiry.specs.Expiry.{expiry, expiryOf}
 use Rattle.expiry.proofs.Expiries.{expiry-stamp, expiry-accepted}
-use Rattle.shelf.specs.Cabinet.{numberAt}
+use Rattle.shelf.specs.Cabinet.{tvpAt}
 use Rattle.shelf.proofs.Readings.{fitting, reads-accepted}
 use Rattle.shelf.proofs.Images.{length-zeros}
 use Rattle.promises.specs.Cabinet.{Filled}
@@ -75,18 +76,14 @@ module _ (s t : Bytes) (hs : T (isTimestamp s)) (ht : T (isTimestamp t)) where
   eight-inj : secondsBytes (seconds s) ≡ secondsBytes (seconds t) → s ≡ t
   eight-inj e = seconds-inj s t hs ht (bytes-inj (seconds s) (seconds t) (seconds-fit s hs) (seconds-fit t ht) e)
 
-start-zero : seconds (ascii "19930101T000000Z") ≡ pos 0
-unfolding seconds sinceYearOne daysBefore sumTo numberFrom
-start-zero = refl
-
 -- ---- public keys
 
 refused-so : (s : Bytes) (n i : ℕ) → readOf pubkeyKinds s ≡ refused n i → expiryOf s ≡ record { no = n; field = i; seconds = pos 0 }
 unfolding expiryOf
 refused-so s n i e = rw e
 
-key-short : {r : Bytes} → Key r → length r < 1016
-unfolding numberAt
+key-short : {r : Bytes} → Key r → length r < 1000
+unfolding tvpAt
 key-short {r} k = fitting r _ _ (reads-accepted r k) .long
 
 module _ {b : Bytes} (p : Filled b) where
@@ -94,9 +91,10 @@ module _ {b : Bytes} (p : Filled b) where
   place-number : drop 1016 b ≡ secondsBytes (seconds (expiry (p .key .fields)))
   place-number =
       let text = p .text in
-      let pad : Bytes = replicate (1016 - length text) 0 in
-      let long : length (text ++ pad) ≡ 1016 = length-append text pad ∙ omega (arith, length-zeros (1016 - length text), key-short (p .key)) in
-      ap (drop 1016) (p .so) ∙ drop-at (text ++ pad) (secondsBytes (seconds (expiry (p .key .fields)))) 1016 long
+      let pad : Bytes = replicate (1000 - length text) 0 in
+      let long : length ((text ++ pad) ++ p .tvp) ≡ 1016 =
+      length-append (text ++ pad) (p .tvp) ∙ omega (arith, length-append text pad, length-zeros (1000 - length text), key-short (p .key), timestamp-length (p .tvp) (p .is-tvp .stamp)) in
+      ap (drop 1016) (p .so) ∙ drop-at ((text ++ pad) ++ p .tvp) (secondsBytes (seconds (expiry (p .key .fields)))) 1016 long
 
 pub dates : Dates
 dates = record {

@@ -18,7 +18,7 @@ use Rattle.confirm.specs.Confirm.{confirmRequest, confirmResponse}
 use Rattle.trailed.specs.Trailed.{recordIn, readTrailed, writeTrailed}
 use Rattle.mail.specs.Mail.{writeMail}
 use Rattle.promises.specs.FieldNumbers.{FieldNumbers}
-use Rattle.promises.proofs.Answered.{answered, wanted-answered, attribute-answered, given-answered, judge-answered, build-answered, line-answered, last-answered, trailed-answered, mail-answered, make-answered, cabinet-answered, put-answered, remove-answered, find-answered, newer-answered, expiry-answered, check-answered, request-answered, response-answered}
+use Rattle.promises.proofs.Answered.{answered, wanted-answered, attribute-answered, given-answered, judge-answered, build-answered, line-answered, last-answered, trailed-answered, mail-answered, make-answered, cabinet-answered, put-answered, remove-answered, admit-answered, find-answered, newer-answered, expiry-answered, check-answered, request-answered, response-answered}
 
 identity-names : (s : Bytes) → Names (readIdentity s)
 unfolding readIdentity
@@ -73,6 +73,7 @@ field-numbers = record {
   check-cabinet = λ κs a r s p. rw p (cabinet-answered NamesAt refl refl (now (a .0)));
   put-key = λ κs a r s p. rw (p .said) (put-answered NamesAt refl refl (read-names pubkeyKinds) refl refl (now (a .0)) (now (a .1 .0)));
   remove-key = λ κs a r s p. rw (p .said) (remove-answered NamesAt refl refl identity-names refl (now (a .0)) (now (a .1 .0)));
+  admit = λ κs a r s p. rw (p .said) (admit-answered NamesAt refl refl (read-names (REQ ∷ [])) refl refl (now (a .0)) (now (a .1 .0)));
   key-place = λ κs a r s p. rw (p .said) (find-answered NamesAt refl refl identity-names refl (now (a .0)) (now (a .1 .0)));
   find-key = λ κs a r s p. rw (p .its-no, p .its-field) (find-answered NamesAt refl refl identity-names refl (now (a .0)) (now (a .1 .0)));
   newer-of = λ κs a r s p. rw p (newer-answered NamesAt refl refl identity-names (read-names pubkeyKinds) (now (a .0)) (now (a .1 .0)));

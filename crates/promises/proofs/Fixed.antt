@@ -6,6 +6,7 @@ use Rattle.crc16.specs.Crc.{bitStep, bitSteps, add, addAll, crcOf}
 use Rattle.text.specs.Text.{looks, numberFrom, isDigits, isAlphanumeric, isIdent, isTimestamp, isHex, isPoint, isPrintable, isProtected, isOctet}
 use Rattle.text.specs.Calendar.{daysBefore, sumTo}
 use Rattle.text.specs.Seconds.{momentOf, seconds, sinceYearOne, secondsBytes}
+use Rattle.text.specs.Later.{later}
 use Rattle.text.specs.Base16.{hexDigit, checkText}
 use Rattle.hashing.specs.Turns.{turns, grown}
 use Rattle.hashing.specs.Blocks.{block, hashed}
@@ -30,7 +31,7 @@ use Rattle.expiry.specs.Expiry.{expiryOf}
 use Rattle.shelf.specs.Cabinet as cabinet
 use Rattle.promises.specs.Values.{Value, AllCome, admittedFrom}
 use Rattle.promises.specs.Worked.{manufacturerIdFields, manufacturerId, moduleIdFields, moduleId, centreIdFields, centreId, manufacturerKeyFields, manufacturerKey, moduleKeyFields, moduleKey, centreKeyFields, centreKey, requestFields, request, responseFields, response, keyAttributes, keyFields, key, longAttributes}
-use Rattle.promises.specs.Fixed.{rows, alphabets, limits, labels, checks, numbers, building, texts, others, lists, keys, longKeys, days, dates, hashes, agreeing, differing, fingerprints, tags, confirming, shortHashes, printed, lines, fixed, posted, letters, instants, placed}
+use Rattle.promises.specs.Fixed.{rows, alphabets, limits, labels, checks, numbers, building, texts, others, lists, keys, longKeys, days, dates, hashes, agreeing, differing, fingerprints, tags, confirming, shortHashes, printed, lines, fixed, posted, letters, instants, placed, admissions}
 
 -- two sets of values are one; a record, so that the checker finds which two
 record Come (vs : List Value) : Type 0 where
@@ -149,9 +150,13 @@ unfolding instants expiryOf momentOf seconds sinceYearOne daysBefore sumTo secon
 all-instants = record { come = (refl, (refl, (refl, (refl, (refl, (refl, (refl, (refl, (refl, (refl, (refl, (refl, (refl, (refl, (refl, (refl, (refl, (refl, (refl, (refl, (refl, (refl, (refl, (refl, (refl, (refl, tt)))))))))))))))))))))))))) }
 
 all-placed : Come placed
-unfolding placed cabinet.asks cabinet.reads cabinet.width cabinet.numberAt cabinet.numberOf cabinet.encode cabinet.decode centreKeyFields centreKey requestFields request moduleIdFields moduleId centreIdFields centreId recordOf withCheck checkText hexDigit crcOf addAll add bitSteps bitStep isIdent isTimestamp looks numberFrom isHex isPoint checkNo identityAnswer fieldAnswer wholeAnswer judged readAs readOver readIdentity readOf expiryOf momentOf seconds sinceYearOne daysBefore sumTo secondsBytes
+unfolding placed cabinet.asks cabinet.reads cabinet.width cabinet.tvpAt cabinet.numberAt cabinet.numberOf cabinet.encode cabinet.isTvp cabinet.decode centreKeyFields centreKey requestFields request moduleIdFields moduleId centreIdFields centreId recordOf withCheck checkText hexDigit crcOf addAll add bitSteps bitStep isIdent isTimestamp looks numberFrom isHex isPoint checkNo identityAnswer fieldAnswer wholeAnswer judged readAs readOver readIdentity readOf expiryOf momentOf seconds sinceYearOne daysBefore sumTo secondsBytes later
 all-placed = record { come = (refl, (refl, (refl, (refl, (refl, (refl, (refl, (refl, (refl, (refl, (refl, (refl, (refl, tt))))))))))))) }
+
+all-admissions : Come admissions
+unfolding admissions cabinet.requests responseFields response cabinet.asks cabinet.reads cabinet.width cabinet.tvpAt cabinet.numberAt cabinet.numberOf cabinet.encode cabinet.isTvp cabinet.decode centreKeyFields centreKey requestFields request moduleIdFields moduleId centreIdFields centreId recordOf withCheck checkText hexDigit crcOf addAll add bitSteps bitStep isIdent isTimestamp looks numberFrom isHex isPoint checkNo identityAnswer fieldAnswer wholeAnswer judged readAs readOver readIdentity readOf expiryOf momentOf seconds sinceYearOne daysBefore sumTo secondsBytes later
+all-admissions = record { come = (refl, (refl, (refl, (refl, (refl, (refl, (refl, (refl, (refl, (refl, (refl, (refl, (refl, tt))))))))))))) }
 
 pub all-fixed : AllCome fixed
 unfolding fixed
-all-fixed = (all-rows and all-alphabets and all-limits and all-labels and all-checks and all-numbers and all-building and all-texts and all-others and all-lists and all-keys and all-long-keys and all-days and all-dates and all-hashes and all-agreeing and all-differing and all-fingerprints and all-tags and all-confirming and all-short-hashes and all-printed and all-lines and all-posted and all-letters and all-instants and all-placed) .come
+all-fixed = (all-rows and all-alphabets and all-limits and all-labels and all-checks and all-numbers and all-building and all-texts and all-others and all-lists and all-keys and all-long-keys and all-days and all-dates and all-hashes and all-agreeing and all-differing and all-fingerprints and all-tags and all-confirming and all-short-hashes and all-printed and all-lines and all-posted and all-letters and all-instants and all-placed and all-admissions) .come

@@ -87,5 +87,7 @@ interface = record {
   put-key-bytes = λ κs a r s p. p .left;
   remove-key-said = λ κs a r s p. p .said;
   remove-key-bytes = λ κs a r s p. p .left;
+  admit-said = λ κs a r s p. p .said;
+  admit-bytes = λ κs a r s p. p .left;
   find-key = λ κs a r s p. p .said;
 }

@@ -28,7 +28,7 @@ use Rattle.trailed.specs.Trailed.{recordIn, readTrailed, writeTrailed}
 use Rattle.mail.specs.Mail.{writeMail}
 use Rattle.shelf.specs.Cabinet.{checkCabinet}
 use Rattle.promises.specs.Refusals.{ofIdentities, ofRecords, ofPubkeys, ofKeys, ofLoads, ofTexts, Refusals}
-use Rattle.promises.proofs.Answered.{answered, wanted-answered, attribute-answered, given-answered, judge-answered, build-answered, line-answered, last-answered, trailed-answered, mail-answered, make-answered, cabinet-answered, put-answered, remove-answered, find-answered, newer-answered, expiry-answered, check-answered, request-answered, response-answered}
+use Rattle.promises.proofs.Answered.{answered, wanted-answered, attribute-answered, given-answered, judge-answered, build-answered, line-answered, last-answered, trailed-answered, mail-answered, make-answered, cabinet-answered, put-answered, remove-answered, admit-answered, find-answered, newer-answered, expiry-answered, check-answered, request-answered, response-answered}
 
 -- n is one of ns, whatever the field's number
 abbrev In : List ℕ → ℕ → ℕ → Type 0
@@ -175,6 +175,7 @@ refusals = record {
   count-keys = λ κs a r s p. rw p (cabinet-answered (In (0 ∷ 23 ∷ [])) tt tt (now (a .0)));
   put-key = λ κs a r s p. rw (p .said) (put-answered (In (23 ∷ 24 ∷ 25 ∷ ofPubkeys)) tt tt filed-given tt tt (now (a .0)) (now (a .1 .0)));
   remove-key = λ κs a r s p. rw (p .said) (remove-answered (In (23 ∷ 26 ∷ ofIdentities)) tt tt asked-given tt (now (a .0)) (now (a .1 .0)));
+  admit = λ κs a r s p. rw (p .said) (admit-answered (In (23 ∷ 26 ∷ 27 ∷ ofLoads)) tt tt (λ q. load-given q (23 ∷ 26 ∷ 27 ∷ ofLoads) tt .0) tt tt (now (a .0)) (now (a .1 .0)));
   key-place = λ κs a r s p. rw (p .said) (find-answered (In (23 ∷ 26 ∷ ofIdentities)) tt tt asked-given tt (now (a .0)) (now (a .1 .0)));
   find-key = λ κs a r s p. rw (p .its-no) (find-answered (In (23 ∷ 26 ∷ ofIdentities)) tt tt asked-given tt (now (a .0)) (now (a .1 .0)));
   newer-of = λ κs a r s p. rw p (newer-answered (In (13 ∷ ofPubkeys)) tt tt subject-given key-given (now (a .0)) (now (a .1 .0)));

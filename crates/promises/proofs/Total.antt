@@ -100,6 +100,7 @@ total = record {
   count-keys = λ κs a. search needs;
   put-key = λ κs a. search needs;
   remove-key = λ κs a. search needs;
+  admit = λ κs a. search needs;
   key-place = λ κs a. search needs;
   find-key = λ κs a. search needs;
   write-list = λ κs a. search needs;
@@ -166,5 +167,6 @@ total = record {
   c-count-keys = λ κs a. search needs;
   c-put-key = λ κs a. search needs;
   c-remove-key = λ κs a. search needs;
+  c-admit = λ κs a. search needs;
   c-find-key = λ κs a. search needs;
 }

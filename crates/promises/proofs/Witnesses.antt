@@ -15,7 +15,7 @@ use mir.Facts.{yes-and, yes-eqb}
 use Rattle.text.specs.Calendar.{daysBefore, sumTo}
 use Rattle.text.specs.Text.{Bytes, ascii, every, hexadecimal, TextType, Ident, Timestamp, Point, Sig, Mac, Print, Protected, Hex, isOf, looks, numberFrom, isIdent, isTimestamp, isHex, isPoint, isProtected}
 use Rattle.text.specs.Seconds.{momentOf, seconds, sinceYearOne}
-use Rattle.format.specs.Kinds.{Kind, KMCID, ECDH, REQ, KEY, identityKinds, recordKinds, pubkeyKinds, keyKinds}
+use Rattle.format.specs.Kinds.{Kind, SMID, KMCID, ECDH, REQ, KEY, among, identityKinds, recordKinds, pubkeyKinds, keyKinds}
 use Rattle.format.specs.Attributes.{cardsIn}
 use Rattle.format.specs.Build.{recordOf, IsIdentity, Permitted}
 use Rattle.format.specs.Read.{Outcome, accepted, place, readIdentity, readRecord}
@@ -28,6 +28,9 @@ use Rattle.files.specs.Walk.{lineSaid, nextOf}
 use Rattle.files.specs.Steps as steps
 use Rattle.files.specs.Steps.{Steps}
 use Rattle.text.specs.Later.{later}
+use Rattle.numbers.specs.Numbers.{tvpNotLater}
+use Rattle.subjects.specs.Requests.{Request}
+use Rattle.shelf.specs.Cabinet.{putKey, admit}
 use Rattle.newer.specs.Newer.{theFirst, theSecond, newer}
 use Rattle.newer.specs.Keys.{Key, Agreed}
 use Rattle.newer.proofs.Choosing.{newer-keys}
@@ -40,8 +43,8 @@ use Rattle.promises.specs.Dates.{Follows}
 use Rattle.promises.specs.Files.{PlainSays}
 use Rattle.promises.specs.Trailed.{TrailedSays}
 use Rattle.promises.specs.Demand3.{Called, none, more}
-use Rattle.promises.proofs.Cabinet.{empty-cabinet, first-done, again}
-use Rattle.promises.specs.Worked.{centreIdFields, centreId, centreKeyFields, centreKey, requestFields, request, keyAttributes, keyFields, key, fieldsOfWorked, laterIdFields, laterKeyFields, laterKey}
+use Rattle.promises.proofs.Cabinet.{empty-cabinet, first-done, again, admitted-once, refused-then}
+use Rattle.promises.specs.Worked.{moduleIdFields, moduleId, moduleKeyFields, moduleKey, centreIdFields, centreId, centreKeyFields, centreKey, requestFields, request, keyAttributes, keyFields, key, fieldsOfWorked, laterIdFields, laterKeyFields, laterKey}
 use Rattle.promises.specs.Attributes.{Wrapped}
 use Rattle.promises.proofs.Attributes.{wrapped}
 use Rattle.promises.proofs.Permitted.{names-permitted, permitted, unsigned, later-permitted, built-of}
@@ -67,23 +70,47 @@ texts (Hex n) = (replicate n (code "0"), yes-and (eqb (length (replicate n (code
 
 -- ---- two public keys
 
-key-of : (fs names : List Bytes) → Permitted ECDH fs → getD fs 0 [] ≡ recordOf KMCID names → Permitted KMCID names → Key (recordOf ECDH fs)
-key-of fs names p e q = record {
+known-as : (who : Kind) (names : List Bytes) → T (among who identityKinds) → Permitted who names → readIdentity (recordOf who names) ≡ accepted who names
+known-as who names t q = identity-exact (recordOf who names) who names .1 (built-of identityKinds who names t q)
+
+key-of : (who : Kind) → T (among who identityKinds) → (fs names : List Bytes) → Permitted ECDH fs → getD fs 0 [] ≡ recordOf who names → Permitted who names → Key (recordOf ECDH fs)
+key-of who t fs names p e q = record {
   kind = ECDH;
   fields = fs;
   is = read-exact pubkeyKinds (recordOf ECDH fs) ECDH fs .1 (built-of pubkeyKinds ECDH fs tt p);
-  who = KMCID;
+  who = who;
   names = names;
-  known = ap readIdentity e ∙ identity-exact (recordOf KMCID names) KMCID names .1 (built-of identityKinds KMCID names tt q);
+  known = ap readIdentity e ∙ known-as who names t q;
 }
 
 centre : Key centreKey
 unfolding centreKey centreKeyFields centreId
-centre = key-of centreKeyFields centreIdFields (unsigned .1) refl (names-permitted IsIdentity .2)
+centre = key-of KMCID tt centreKeyFields centreIdFields (unsigned .1) refl (names-permitted IsIdentity .2)
 
 later-centre : Key laterKey
 unfolding laterKey laterKeyFields centreKeyFields
-later-centre = key-of laterKeyFields laterIdFields later-permitted refl (names-permitted IsIdentity .3)
+later-centre = key-of KMCID tt laterKeyFields laterIdFields later-permitted refl (names-permitted IsIdentity .3)
+
+-- ---- the key of a module, and its request
+
+module-key : Key moduleKey
+unfolding moduleKey moduleKeyFields moduleId fieldsOfWorked
+module-key = key-of SMID tt moduleKeyFields moduleIdFields (permitted ECDH) refl (names-permitted IsIdentity .1)
+
+module-request : Request request
+unfolding request requestFields moduleId fieldsOfWorked
+module-request = record {
+  fields = requestFields;
+  is = read-exact (REQ ∷ []) (recordOf REQ requestFields) REQ requestFields .1 (built-of (REQ ∷ []) REQ requestFields tt (permitted REQ));
+  names = moduleIdFields;
+  known = known-as SMID moduleIdFields tt (names-permitted IsIdentity .1);
+}
+
+admitted-first : (admit (putKey (replicate 65536 0) moduleKey .bytes) request .no ≡ 0) × (admit (admit (putKey (replicate 65536 0) moduleKey .bytes) request .bytes) request .no ≡ tvpNotLater)
+unfolding module-key key-of module-request requestFields later momentOf seconds sinceYearOne daysBefore sumTo isTimestamp looks numberFrom
+admitted-first = (admitted-once moduleKey module-key request module-request refl refl, refused-then moduleKey module-key request module-request refl refl)
+
+-- ---- which of two public keys is the newer
 
 agreed : Agreed centreKey laterKey
 unfolding centre later-centre key-of centreIdFields laterIdFields
@@ -213,4 +240,5 @@ witnesses = record {
   empty-cabinet = empty-cabinet;
   filled = first-done centreKey centre;
   equal-gnt = again centreKey centre;
+  admitted-once = λ s e. rw e admitted-first;
 }

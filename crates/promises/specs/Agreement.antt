@@ -14,6 +14,7 @@ use Rattle.text.specs.Text.{Bytes, ascii, part}
 use Rattle.text.specs.Base16.{base16Decode}
 use Rattle.text.specs.Part.{Part, NoPart}
 use Rattle.format.specs.Kinds.{REQ}
+use Rattle.format.specs.Requests.{idSm, idKmc, tvp, hwid, fwid}
 use Rattle.numbers.specs.Numbers.{shortOutput}
 use Rattle.format.specs.Build.{Permitted, Built}
 use Rattle.format.specs.Read.{refused, readOf}
@@ -22,7 +23,7 @@ use Rattle.items.specs.Items.{lvConcat, concats, nth, itemsOf}
 use Rattle.items.specs.declared.Place.{Place}
 use Rattle.items.proofs.item_place.Reads as item-place
 use Rattle.items.proofs.text_item.Reads as text-item
-use Rattle.agreement.specs.Texts.{idSm, idKmc, tvp, hwid, fwid, qe, sharedItems, moduleItems, centreItems}
+use Rattle.agreement.specs.Texts.{qe, sharedItems, moduleItems, centreItems}
 use Rattle.agreement.proofs.shared_info.Reads as shared-info
 use Rattle.agreement.proofs.module_text.Reads as module-text
 use Rattle.agreement.proofs.centre_text.Reads as centre-text

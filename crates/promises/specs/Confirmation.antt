@@ -12,10 +12,11 @@ use Rattle.text.specs.Text.{Bytes}
 use Rattle.sha384.specs.Sha384.{sha384}
 use Rattle.sha384.specs.State.{addedAll, together}
 use Rattle.format.specs.Kinds.{REQ, RESP}
+use Rattle.format.specs.Requests.{idSm, idKmc, tvp}
 use Rattle.format.specs.Build.{Permitted, Built, recordOf}
 use Rattle.format.specs.Read.{refused, readOf}
 use Rattle.items.specs.Items.{lvConcat}
-use Rattle.agreement.specs.Texts.{idSm, idKmc, tvp, sharedItems}
+use Rattle.agreement.specs.Texts.{sharedItems}
 use Rattle.hmac.specs.Hmac.{hmac}
 use Rattle.hmac.specs.State.{hmacBegun, hmacEnded}
 use Rattle.hmac.proofs.hmac_of.Reads as hmac-of

@@ -100,6 +100,7 @@ use Rattle.cabinet.proofs.check_cabinet.Reads as check-cabinet
 use Rattle.cabinet.proofs.count_keys.Reads as count-keys
 use Rattle.cabinet.proofs.put_key.Reads as put-key
 use Rattle.cabinet.proofs.remove_key.Reads as remove-key
+use Rattle.cabinet.proofs.admit.Reads as admit
 use Rattle.cabinet.proofs.key_place.Reads as key-place
 use Rattle.cabinet.proofs.find_key.Reads as find-key
 use Rattle.list_text.proofs.write_list.Reads as write-list
@@ -269,6 +270,8 @@ pub record Determined : Type 0 where
   pub put-key-bytes : OneLeft put-key.Post (λ κs s. now (s .0))
   pub remove-key-said : OneAnswer remove-key.Post
   pub remove-key-bytes : OneLeft remove-key.Post (λ κs s. now (s .0))
+  pub admit-said : OneAnswer admit.Post
+  pub admit-bytes : OneLeft admit.Post (λ κs s. now (s .0))
   pub key-place : OneAnswer key-place.Post
   pub find-key-part : OnePart find-key.Post
   pub find-key-no : OneLeft find-key.Post (λ κs s. now (s .1 .1 .0))

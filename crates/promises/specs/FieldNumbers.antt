@@ -36,6 +36,7 @@ use Rattle.cabinet.proofs.make_cabinet.Reads as make-cabinet
 use Rattle.cabinet.proofs.check_cabinet.Reads as check-cabinet
 use Rattle.cabinet.proofs.put_key.Reads as put-key
 use Rattle.cabinet.proofs.remove_key.Reads as remove-key
+use Rattle.cabinet.proofs.admit.Reads as admit
 use Rattle.cabinet.proofs.key_place.Reads as key-place
 use Rattle.cabinet.proofs.find_key.Reads as find-key
 use Rattle.newer.proofs.newer_of.Reads as newer-of
@@ -80,6 +81,7 @@ pub record FieldNumbers : Type 0 where
   pub check-cabinet : NamesField check-cabinet.Post (λ κs r s. r .no) (λ κs r s. r .field)
   pub put-key : NamesField put-key.Post (λ κs r s. r .no) (λ κs r s. r .field)
   pub remove-key : NamesField remove-key.Post (λ κs r s. r .no) (λ κs r s. r .field)
+  pub admit : NamesField admit.Post (λ κs r s. r .no) (λ κs r s. r .field)
   pub key-place : NamesField key-place.Post (λ κs r s. r .no) (λ κs r s. r .field)
   pub find-key : NamesField find-key.Post (λ κs r s. now (s .1 .1 .0)) (λ κs r s. now (s .1 .1 .1 .0))
   pub newer-of : NamesField newer-of.Post (λ κs r s. r .no) (λ κs r s. r .field)

@@ -8,7 +8,7 @@ use mathlib.Core.Option.{Option, none, some}
 use mathlib.Core.List.{List, [], _∷_, _++_}
 use lib.ListN.{take, drop, replicate, set}
 use lib.IntN.{ℤ, pos, negsuc}
-use Rattle.numbers.specs.Numbers.{tooLong, unknownKind, missingCheck, wrongCheck, wrongCount, wrongText, wrongIdentity, unpaired, wrongKind, shortOutput, unfinished, missingItem, notAlike, wrongAttributes, wrongFingerprint, wrongZ, otherRequest, wrongTag, missingTrailer, wrongHash, missingBegins, missingEnds, notCabinet, notLater, noPlace, notThere}
+use Rattle.numbers.specs.Numbers.{tooLong, unknownKind, missingCheck, wrongCheck, wrongCount, wrongText, wrongIdentity, unpaired, wrongKind, shortOutput, unfinished, missingItem, notAlike, wrongAttributes, wrongFingerprint, wrongZ, otherRequest, wrongTag, missingTrailer, wrongHash, missingBegins, missingEnds, notCabinet, notLater, noPlace, notThere, tvpNotLater}
 use Rattle.text.specs.Text.{Bytes, ascii, isIdent, isTimestamp, isHex, isPrintable, Ident, Timestamp, Point, Sig, Mac, Print, Protected, Hex, isOf}
 use Rattle.text.specs.Base16.{base16}
 use Rattle.text.specs.Seconds.{momentOf, secondsBytes}
@@ -39,7 +39,7 @@ use Rattle.mail.specs.Mail.{guarded, writeMail, readMail}
 use Rattle.expiry.specs.Expiry.{expiryOf}
 use Rattle.shelf.specs.Places as shelf
 use Rattle.shelf.specs.Places.{named}
-use Rattle.shelf.specs.Cabinet.{Reading, about, declined, asks, reads, decode}
+use Rattle.shelf.specs.Cabinet.{Reading, about, declined, asks, reads, requests, isTvp, decode}
 use Rattle.promises.specs.Values.{Value, number, signed, bytes, test, types, admitted}
 use Rattle.promises.specs.Worked.{manufacturerId, moduleIdFields, moduleId, centreId, manufacturerKeyFields, manufacturerKey, moduleKeyFields, moduleKey, centreKeyFields, centreKey, requestFields, request, responseFields, response, keyAttributes, keyFields, key, longAttributes}
 
@@ -160,8 +160,8 @@ said o = answer o ∷ place o ∷ []
 
 unfoldable pub numbers : List Value
 numbers =
-    bytes (tooLong ∷ unknownKind ∷ missingCheck ∷ wrongCheck ∷ wrongCount ∷ wrongText ∷ wrongIdentity ∷ unpaired ∷ wrongKind ∷ shortOutput ∷ unfinished ∷ missingItem ∷ notAlike ∷ wrongAttributes ∷ wrongFingerprint ∷ wrongZ ∷ otherRequest ∷ wrongTag ∷ missingTrailer ∷ wrongHash ∷ missingBegins ∷ missingEnds ∷ notCabinet ∷ notLater ∷ noPlace ∷ notThere ∷ [])
-    (1 ∷ 2 ∷ 3 ∷ 4 ∷ 5 ∷ 6 ∷ 7 ∷ 8 ∷ 9 ∷ 10 ∷ 11 ∷ 12 ∷ 13 ∷ 14 ∷ 15 ∷ 16 ∷ 17 ∷ 18 ∷ 19 ∷ 20 ∷ 21 ∷ 22 ∷ 23 ∷ 24 ∷ 25 ∷ 26 ∷ [])
+    bytes (tooLong ∷ unknownKind ∷ missingCheck ∷ wrongCheck ∷ wrongCount ∷ wrongText ∷ wrongIdentity ∷ unpaired ∷ wrongKind ∷ shortOutput ∷ unfinished ∷ missingItem ∷ notAlike ∷ wrongAttributes ∷ wrongFingerprint ∷ wrongZ ∷ otherRequest ∷ wrongTag ∷ missingTrailer ∷ wrongHash ∷ missingBegins ∷ missingEnds ∷ notCabinet ∷ notLater ∷ noPlace ∷ notThere ∷ tvpNotLater ∷ [])
+    (1 ∷ 2 ∷ 3 ∷ 4 ∷ 5 ∷ 6 ∷ 7 ∷ 8 ∷ 9 ∷ 10 ∷ 11 ∷ 12 ∷ 13 ∷ 14 ∷ 15 ∷ 16 ∷ 17 ∷ 18 ∷ 19 ∷ 20 ∷ 21 ∷ 22 ∷ 23 ∷ 24 ∷ 25 ∷ 26 ∷ 27 ∷ [])
     ∷ bytes (said (readRecord (ascii "PK.ECDH.1"))) (2 ∷ 0 ∷ [])
     ∷ bytes (said (readRecord (ascii "PK.ECDH.1:x"))) (2 ∷ 0 ∷ [])
     ∷ bytes (said (readRecord moduleId)) (2 ∷ 0 ∷ [])
@@ -608,7 +608,7 @@ instants =
     ∷ bytes (secondsBytes (negsuc 62861443199)) (0xFF ∷ 0xFF ∷ 0xFF ∷ 0xF1 ∷ 0x5D ∷ 0x2A ∷ 0x7F ∷ 0x80 ∷ [])
     ∷ []
 
--- ---- document 02, E8 and E9: what is read for a place, and what may stand in one
+-- ---- document 02, E8, E9 and E10: what is read for a place, and what may stand in one
 
 abbrev pub readingSaid : Reading → Bytes
 readingSaid (about (named kind maker id) g) = joined (code ":") (kind ∷ maker ∷ id ∷ g ∷ [])
@@ -618,12 +618,15 @@ abbrev pub isPlace : Option shelf.Place → Bool
 isPlace none = false
 isPlace (some p) = true
 
--- the bytes of a place that begins so, and zeros; and with the eight bytes of a number at its end
+-- the bytes of a place that begins so, and zeros; and with a TVP and the eight bytes of a number at its end
 abbrev pub padded : Bytes → Bytes
 padded s = take 1024 (s ++ replicate 1024 0)
 
+abbrev pub stamped : Bytes → Bytes → Bytes → Bytes
+stamped s t v = take 1000 (s ++ replicate 1000 0) ++ t ++ v
+
 abbrev pub numbered : Bytes → Bytes → Bytes
-numbered s v = take 1016 (s ++ replicate 1016 0) ++ v
+numbered s v = stamped s (ascii "19930101T000000Z") v
 
 unfoldable pub placed : List Value
 placed =
@@ -631,18 +634,39 @@ placed =
     ∷ bytes (readingSaid (reads centreKey)) (ascii "KMCID.1:sts-KeyAgreement-1.2:TEST1:20180110T120000Z:")
     ∷ bytes (readingSaid (reads request)) (2 ∷ 0 ∷ [])
     ∷ bytes (readingSaid (asks centreKey)) (2 ∷ 0 ∷ [])
-    -- all zeros, a public key with zeros and its number; no number, one second more, the other end first, a byte after the zeros, a zero in front, a record of another
+    -- all zeros, a public key with zeros, a TVP and its number; no number, one second more, the other end first, a byte after the zeros, a zero in front, a record of another
     -- kind, an identity
     ∷ test (isPlace (decode (padded []))) true
     ∷ test (isPlace (decode (numbered centreKey centreNumber))) true
     ∷ test (isPlace (decode (padded centreKey))) false
     ∷ test (isPlace (decode (numbered centreKey (set centreNumber 7 0xC1)))) false
     ∷ test (isPlace (decode (numbered centreKey (0xC0 ∷ 0x62 ∷ 0xB7 ∷ 0x34 ∷ 0 ∷ 0 ∷ 0 ∷ 0 ∷ [])))) false
-    ∷ test (isPlace (decode (set (numbered centreKey centreNumber) 1015 1))) false
+    ∷ test (isPlace (decode (set (numbered centreKey centreNumber) 999 1))) false
     ∷ test (isPlace (decode (numbered (0 ∷ centreKey) centreNumber))) false
     ∷ test (isPlace (decode (padded request))) false
     ∷ test (isPlace (decode (padded moduleId))) false
     ∷ []
 
+-- ---- document 02, E10: what is read of a request, and which TVP may stand in a place
+
+unfoldable pub admissions : List Value
+admissions =
+    bytes (readingSaid (requests request)) (ascii "SMID.1:Prism:06000001:20180125T150000Z:")
+    ∷ bytes (readingSaid (requests response)) (2 ∷ 0 ∷ [])
+    ∷ bytes (readingSaid (requests centreKey)) (2 ∷ 0 ∷ [])
+    -- the start and the last second; a second before the start, the thirty-first of April, a small letter, a blank more, zeros
+    ∷ test (isTvp (ascii "19930101T000000Z")) true
+    ∷ test (isTvp (ascii "99991231T235959Z")) true
+    ∷ test (isTvp (ascii "19921231T235959Z")) false
+    ∷ test (isTvp (ascii "20230431T000000Z")) false
+    ∷ test (isTvp (ascii "20180125t150000Z")) false
+    ∷ test (isTvp (ascii "20180125T150000Z ")) false
+    ∷ test (isTvp (replicate 16 0)) false
+    -- in its place
+    ∷ test (isPlace (decode (stamped centreKey (ascii "20180125T150000Z") centreNumber))) true
+    ∷ test (isPlace (decode (stamped centreKey (ascii "19921231T235959Z") centreNumber))) false
+    ∷ test (isPlace (decode (stamped centreKey (replicate 16 0) centreNumber))) false
+    ∷ []
+
 unfoldable pub fixed : List Value
-fixed = rows ++ alphabets ++ limits ++ labels ++ checks ++ numbers ++ building ++ texts ++ others ++ lists ++ keys ++ longKeys ++ days ++ dates ++ hashes ++ agreeing ++ differing ++ fingerprints ++ tags ++ confirming ++ shortHashes ++ printed ++ lines ++ posted ++ letters ++ instants ++ placed
+fixed = rows ++ alphabets ++ limits ++ labels ++ checks ++ numbers ++ building ++ texts ++ others ++ lists ++ keys ++ longKeys ++ days ++ dates ++ hashes ++ agreeing ++ differing ++ fingerprints ++ tags ++ confirming ++ shortHashes ++ printed ++ lines ++ posted ++ letters ++ instants ++ placed ++ admissions

@@ -55,6 +55,7 @@ use Rattle.exports.proofs.filing.obscurlane_check_cabinet.Reads as check-cabine
 use Rattle.exports.proofs.filing.obscurlane_count_keys.Reads as count-keys
 use Rattle.exports.proofs.filing.obscurlane_put_key.Reads as put-key
 use Rattle.exports.proofs.filing.obscurlane_remove_key.Reads as remove-key
+use Rattle.exports.proofs.filing.obscurlane_admit.Reads as admit-request
 use Rattle.exports.proofs.filing.obscurlane_find_key.Reads as find-key
 use lib.ListN.{length}
 use Rattle.crc16.specs.Crc.{begin, add, end, crcOf}
@@ -81,7 +82,7 @@ use Rattle.sha1.specs.State as short
 use Rattle.trailed.specs.Trailed.{readTrailed, trailedAt, countTrailed, writeTrailed}
 use Rattle.mail.specs.Mail.{writeMail, readMail}
 use Rattle.expiry.specs.Expiry.{expiryOf}
-use Rattle.shelf.specs.Cabinet.{makeCabinet, putKey, removeKey, findKey}
+use Rattle.shelf.specs.Cabinet.{makeCabinet, putKey, removeKey, admit, findKey}
 use Rattle.cabinet.specs.Cabinet.{filed, checked, counted, foundIn}
 use Rattle.confirm.specs.Confirm.{saysOf, macKeyOf, kekOf, confirmRequest, confirmResponse}
 use Rattle.exports.specs.Exports.{found}
@@ -171,4 +172,6 @@ pub record Interface : Type 0 where
   pub put-key-bytes : Leaves put-key.Post (λ κs s. now (s .0)) (λ κs a. putKey (now (a .0)) (now (a .1 .0)) .bytes)
   pub remove-key-said : Answers remove-key.Post (λ κs a. filed (removeKey (now (a .0)) (now (a .1 .0))))
   pub remove-key-bytes : Leaves remove-key.Post (λ κs s. now (s .0)) (λ κs a. removeKey (now (a .0)) (now (a .1 .0)) .bytes)
+  pub admit-said : Answers admit-request.Post (λ κs a. filed (admit (now (a .0)) (now (a .1 .0))))
+  pub admit-bytes : Leaves admit-request.Post (λ κs s. now (s .0)) (λ κs a. admit (now (a .0)) (now (a .1 .0)) .bytes)
   pub find-key : Answers find-key.Post (λ κs a. foundIn (findKey (now (a .0)) (now (a .1 .0))))

@@ -40,6 +40,7 @@ use Rattle.cabinet.proofs.check_cabinet.Reads as check-cabinet
 use Rattle.cabinet.proofs.count_keys.Reads as count-keys
 use Rattle.cabinet.proofs.put_key.Reads as put-key
 use Rattle.cabinet.proofs.remove_key.Reads as remove-key
+use Rattle.cabinet.proofs.admit.Reads as admit
 use Rattle.cabinet.proofs.key_place.Reads as key-place
 use Rattle.cabinet.proofs.find_key.Reads as find-key
 use Rattle.list_text.proofs.write_list.Reads as write-list
@@ -113,12 +114,13 @@ pub record Refusals : Type 0 where
   -- records by mail: no other call gives 21 or 22
   pub write-mail : GivesOnly write-mail.Post (λ κs r s. r .no) (10 ∷ ofRecords)
   pub read-mail : GivesOnly read-mail.Post (λ κs r s. r .no) (10 ∷ 21 ∷ 22 ∷ ofRecords)
-  -- the key cabinet: no other call gives 23 to 26
+  -- the key cabinet: no other call gives 23 to 27
   pub make-cabinet : GivesOnly make-cabinet.Post (λ κs r s. r .no) (0 ∷ 23 ∷ [])
   pub check-cabinet : GivesOnly check-cabinet.Post (λ κs r s. r .no) (0 ∷ 23 ∷ [])
   pub count-keys : GivesOnly count-keys.Post (λ κs r s. r .no) (0 ∷ 23 ∷ [])
   pub put-key : GivesOnly put-key.Post (λ κs r s. r .no) (23 ∷ 24 ∷ 25 ∷ ofPubkeys)
   pub remove-key : GivesOnly remove-key.Post (λ κs r s. r .no) (23 ∷ 26 ∷ ofIdentities)
+  pub admit : GivesOnly admit.Post (λ κs r s. r .no) (23 ∷ 26 ∷ 27 ∷ ofLoads)
   pub key-place : GivesOnly key-place.Post (λ κs r s. r .no) (23 ∷ 26 ∷ ofIdentities)
   pub find-key : GivesOnly find-key.Post (λ κs r s. now (s .1 .1 .0)) (23 ∷ 26 ∷ ofIdentities)
   pub write-list : GivesOnly write-list.Post (λ κs r s. r .no) (0 ∷ 10 ∷ [])

@@ -97,6 +97,7 @@ use Rattle.cabinet.proofs.check_cabinet.Reads as check-cabinet
 use Rattle.cabinet.proofs.count_keys.Reads as count-keys
 use Rattle.cabinet.proofs.put_key.Reads as put-key
 use Rattle.cabinet.proofs.remove_key.Reads as remove-key
+use Rattle.cabinet.proofs.admit.Reads as admit
 use Rattle.cabinet.proofs.key_place.Reads as key-place
 use Rattle.cabinet.proofs.find_key.Reads as find-key
 use Rattle.list_text.proofs.write_list.Reads as write-list
@@ -163,6 +164,7 @@ use Rattle.exports.proofs.filing.obscurlane_check_cabinet.Reads as c-check-cabi
 use Rattle.exports.proofs.filing.obscurlane_count_keys.Reads as c-count-keys
 use Rattle.exports.proofs.filing.obscurlane_put_key.Reads as c-put-key
 use Rattle.exports.proofs.filing.obscurlane_remove_key.Reads as c-remove-key
+use Rattle.exports.proofs.filing.obscurlane_admit.Reads as c-admit
 use Rattle.exports.proofs.filing.obscurlane_find_key.Reads as c-find-key
 
 -- the call whose `requires` is P takes any arguments a, whatever the lifetimes κs
@@ -284,6 +286,7 @@ pub record Total : Type 0 where
   pub count-keys : Takes count-keys.Pre
   pub put-key : Takes put-key.Pre
   pub remove-key : Takes remove-key.Pre
+  pub admit : Takes admit.Pre
   pub key-place : Takes key-place.Pre
   pub find-key : Takes find-key.Pre
   -- list_text
@@ -358,4 +361,5 @@ pub record Total : Type 0 where
   pub c-count-keys : Takes c-count-keys.Pre
   pub c-put-key : Takes c-put-key.Pre
   pub c-remove-key : Takes c-remove-key.Pre
+  pub c-admit : Takes c-admit.Pre
   pub c-find-key : Takes c-find-key.Pre

@@ -9,7 +9,7 @@ use lib.ListN.{length, replicate}
 use lib.Dec.{T}
 use denote.Ref.{RefT, now}
 use Rattle.text.specs.Text.{Bytes, ascii, TextType, isOf}
-use Rattle.numbers.specs.Numbers.{notLater}
+use Rattle.numbers.specs.Numbers.{notLater, tvpNotLater}
 use Rattle.format.specs.Kinds.{Kind, ECDSA, ECDH, REQ, name, identityKinds, recordKinds, among}
 use Rattle.format.specs.Build.{recordOf, Permitted, Built}
 use Rattle.format.specs.Read.{accepted, readIdentity, readRecord}
@@ -27,14 +27,14 @@ use Rattle.newer.specs.Newer.{theFirst, theSecond, newer}
 use Rattle.promises.specs.Attributes.{Wrapped}
 use Rattle.trailed.specs.Trailed.{readTrailed}
 use Rattle.mail.specs.Mail.{PassedOver}
-use Rattle.shelf.specs.Cabinet.{putKey}
+use Rattle.shelf.specs.Cabinet.{putKey, admit}
 use Rattle.promises.specs.Cabinet.{IsCabinet}
 use Rattle.promises.specs.Dates.{Follows}
 use Rattle.promises.specs.Files.{PlainSays}
 use Rattle.promises.specs.Trailed.{TrailedSays}
 use Rattle.promises.specs.Demand3.{Called}
 use Rattle.promises.specs.Rebuilding.{Asked, IdentityField, RecordField}
-use Rattle.promises.specs.Worked.{fieldsOfWorked, unsignedKeyFields, centreKeyFields, centreKey, laterKey, requestFields, request, keyAttributes, keyFields, key, soundFile, damagedFile, trailedFile, damagedTrailedFile}
+use Rattle.promises.specs.Worked.{fieldsOfWorked, unsignedKeyFields, centreKeyFields, centreKey, moduleKey, laterKey, requestFields, request, keyAttributes, keyFields, key, soundFile, damagedFile, trailedFile, damagedTrailedFile}
 
 pub record Witnesses : Type 0 where
   -- every text type has a text
@@ -80,3 +80,5 @@ pub record Witnesses : Type 0 where
   pub empty-cabinet : IsCabinet (replicate 65536 0)
   pub filled : putKey (replicate 65536 0) centreKey .no ≡ 0
   pub equal-gnt : (s : Bytes) → s ≡ putKey (replicate 65536 0) centreKey .bytes → IsCabinet s × (putKey s centreKey .no ≡ notLater)
+  -- where 003's key of the module is there, 003's request is admitted, and the second time it is not later
+  pub admitted-once : (s : Bytes) → s ≡ putKey (replicate 65536 0) moduleKey .bytes → (admit s request .no ≡ 0) × (admit (admit s request .bytes) request .no ≡ tvpNotLater)

@@ -2,7 +2,7 @@
 -- Assumes nothing.
 use Prim.Native.Nat.{ℕ, zero, suc, _+_, _-_, _*_, _<_}
 use mathlib.Core.Path.{_≡_, refl, sym, ap, ap₂, _∙_, subst}
-use mathlib.Core.Bool.{Bool, true, false, not}
+use mathlib.Core.Bool.{Bool, true, false, not, cond}
 use mathlib.Core.Option.{Option, none, some}
 use mathlib.Core.List.{List, [], _∷_, _++_, append-assoc}
 use native.Mathlib.Omega.{arith}
@@ -17,8 +17,9 @@ use Rattle.format.specs.Files.{upTo}
 use Rattle.format.proofs.Lines.{upTo-first}
 use Rattle.expiry.specs.Expiry.{expiryOf}
 use Rattle.shelf.specs.Places.{Names, Held, Place, free, held, holds, contents, lookup, distinct}
-use Rattle.shelf.specs.Cabinet.{places, width, numberAt, numberOf, Reading, about, declined, reads, zeros, encode, whole, decodeAs, decode, parts, both, decodeAll, provided, whereDistinct, shelf, image}
+use Rattle.shelf.specs.Cabinet.{places, width, tvpAt, numberAt, numberOf, Reading, about, declined, reads, zeros, encode, whole, entry, tvpIn, isTvp, decodeAs, decode, parts, both, decodeAll, provided, whereDistinct, shelf, image}
 use Rattle.shelf.proofs.Places.{lookup-here, lookup-there}
+use Rattle.shelf.proofs.Tvps.{tvp-length}
 use Rattle.shelf.proofs.Readings.{fitting}
 
 -- ---- zeros
@@ -74,7 +75,7 @@ distinct-some (some qs) ps e =
 -- a place that may stand in a cabinet
 abbrev pub Good : Place → Type 0
 Good free = Unit {0}
-Good (held h) = reads (h .text) ≡ about (h .names) (h .gnt)
+Good (held h) = (reads (h .text) ≡ about (h .names) (h .gnt)) × T (isTvp (h .tvp))
 
 abbrev pub AllGood : List Place → Type 0
 AllGood [] = Unit {0}
@@ -95,8 +96,13 @@ whole-some b p q e =
 decodeAs-some : (b r : Bytes) (x : Reading) → reads r ≡ x → (p : Place) → decodeAs b r x ≡ some p → (encode p ≡ b) × Good p
 decodeAs-some b r (declined n i) s p e = let z : _≡_ {A = ℕ} 0 1 = cc in absurd (omega arith)
 decodeAs-some b r (about k g) s p e =
-    let h = whole-some b (held (record { names = k; gnt = g; text = r })) p e in
-    (h .0, subst Good (h .1) s)
+    by-test (isTvp (tvpIn b))
+    (λ t.
+    let h = whole-some b (entry k g r (tvpIn b)) p (sym (cond-yes (isTvp (tvpIn b)) (whole b (entry k g r (tvpIn b))) none t) ∙ e) in
+    (h .0, subst Good (h .1) (s, t)))
+    (λ t.
+    let f : none ≡ some p = sym (cond-no (isTvp (tvpIn b)) (whole b (entry k g r (tvpIn b))) none t) ∙ e in
+    let z : _≡_ {A = ℕ} 0 1 = cc in absurd (omega arith))
 
 pub decode-some : (b : Bytes) (p : Place) → decode b ≡ some p → (encode p ≡ b) × Good p
 unfolding decode
@@ -108,19 +114,43 @@ decode-some b p e =
     (ap encode (sym g) ∙ sym (same→eq b (encode free) t), subst Good g tt))
     (λ t. decodeAs-some b (upTo 0 b) (reads (upTo 0 b)) refl p (sym (cond-no (same b (encode free)) (some free) _ t) ∙ e))
 
-pub length-encode : (p : Place) → Good p → length (encode p) ≡ width
-unfolding encode width numberAt
-length-encode free g = length-zeros width
-length-encode (held h) g =
-    let f = fitting (h .text) (h .names) (h .gnt) g .long in
-    simp (length-append, length-zeros, number-length) (omega arith)
+-- the record, and zeros after it up to the TVP
+abbrev pub textZeros : Bytes → Bytes
+textZeros r = r ++ zeros (tvpAt - length r)
 
 module _ (h : Held) (g : Good (held h)) where
+  length-front : length (textZeros (h .text)) ≡ tvpAt
+  length-front = length-append (h .text) (zeros (tvpAt - length (h .text))) ∙ omega (arith, length-zeros (tvpAt - length (h .text)), fitting (h .text) (h .names) (h .gnt) (g .0) .long)
+
+  length-held : length (encode (held h)) ≡ width
+  unfolding encode width tvpAt
+  length-held = simp (length-append, number-length) (omega (arith, length-front, tvp-length (h .tvp) (g .1), length-append (h .text) (zeros (tvpAt - length (h .text)))))
+
   pub text-back : upTo 0 (encode (held h)) ≡ h .text
   unfolding encode
   text-back =
-      let f = fitting (h .text) (h .names) (h .gnt) g in
-      upTo-text (h .text) (numberOf (h .text)) (numberAt - length (h .text)) (omega (arith, f .long)) (f .no-zero)
+      let f = fitting (h .text) (h .names) (h .gnt) (g .0) in
+      ap (upTo 0) (append-assoc (textZeros (h .text)) (h .tvp) (numberOf (h .text)))
+      ∙ upTo-text (h .text) (h .tvp ++ numberOf (h .text)) (tvpAt - length (h .text)) (omega (arith, f .long)) (f .no-zero)
+
+  pub front-back : take tvpAt (encode (held h)) ≡ textZeros (h .text)
+  unfolding encode
+  front-back =
+      ap (take tvpAt) (append-assoc (textZeros (h .text)) (h .tvp) (numberOf (h .text)))
+      ∙ take-at (textZeros (h .text)) (h .tvp ++ numberOf (h .text)) tvpAt length-front
+
+  pub number-back : drop numberAt (encode (held h)) ≡ numberOf (h .text)
+  unfolding encode tvpAt numberAt
+  number-back =
+      drop-at (textZeros (h .text) ++ h .tvp) (numberOf (h .text)) numberAt
+      (length-append (textZeros (h .text)) (h .tvp) ∙ omega (arith, length-front, tvp-length (h .tvp) (g .1)))
+
+  pub tvp-back : tvpIn (encode (held h)) ≡ h .tvp
+  unfolding encode tvpAt numberAt
+  tvp-back =
+      ap (λ (x : Bytes). take 16 (drop tvpAt x)) (append-assoc (textZeros (h .text)) (h .tvp) (numberOf (h .text)))
+      ∙ ap (take 16) (drop-at (textZeros (h .text)) (h .tvp ++ numberOf (h .text)) tvpAt length-front)
+      ∙ take-at (h .tvp) (numberOf (h .text)) 16 (tvp-length (h .tvp) (g .1))
 
   pub held-not-free : T (not (same (encode (held h)) (encode free)))
   unfolding encode
@@ -128,7 +158,7 @@ module _ (h : Held) (g : Good (held h)) where
       by-test (same (encode (held h)) (encode free))
       (λ t.
       let e = sym text-back ∙ ap (upTo 0) (same→eq (encode (held h)) (encode free) t) ∙ upTo-zeros width in
-      absurd (fitting (h .text) (h .names) (h .gnt) g .some-byte (ap length e)))
+      absurd (fitting (h .text) (h .names) (h .gnt) (g .0) .some-byte (ap length e)))
       (λ t. t)
 
   decode-held : decode (encode (held h)) ≡ some (held h)
@@ -137,8 +167,15 @@ module _ (h : Held) (g : Good (held h)) where
       let b = encode (held h) in
       cond-no (same b (encode free)) (some free) _ held-not-free
       ∙ ap (λ (x : Bytes). decodeAs b x (reads x)) text-back
-      ∙ ap (decodeAs b (h .text)) g
+      ∙ ap (decodeAs b (h .text)) (g .0)
+      ∙ ap (λ (t : Bytes). cond (isTvp t) (whole b (entry (h .names) (h .gnt) (h .text) t)) none) tvp-back
+      ∙ cond-yes (isTvp (h .tvp)) (whole b (held h)) none (g .1)
       ∙ cond-yes (same b b) (some (held h)) none (same-refl b)
+
+pub length-encode : (p : Place) → Good p → length (encode p) ≡ width
+unfolding encode width
+length-encode free g = length-zeros width
+length-encode (held h) g = length-held h g
 
 pub decode-encode : (p : Place) → Good p → decode (encode p) ≡ some p
 unfolding decode

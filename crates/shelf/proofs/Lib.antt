@@ -1,4 +1,5 @@
 pub mod Places
+pub mod Tvps
 pub mod Readings
 pub mod Images
 pub mod Stores

@@ -1,4 +1,4 @@
--- When each number of the cabinet is given: 23, 24, 25 and 26 exactly then, of any lent bytes.
+-- When each number of the cabinet is given: 23 to 27 exactly then, of any lent bytes.
 -- Assumes nothing.
 use Prim.Native.Nat.{ℕ, zero, suc, _+_, _≤_, _<_}
 use mathlib.Core.Path.{_≡_, refl, sym, ap, _∙_}
@@ -12,11 +12,11 @@ use lib.Dec.{T, eqb}
 use Rattle.text.specs.Text.{Bytes, oneOf}
 use Rattle.text.specs.Later.{later}
 use Rattle.text.proofs.Tests.{T-true, T-false, by-test, or-right}
-use Rattle.numbers.specs.Numbers.{notLater, noPlace, notThere}
+use Rattle.numbers.specs.Numbers.{notLater, noPlace, notThere, tvpNotLater}
 use Rattle.shelf.specs.Places.{Names, sameNames, Held, Place, free, held, isFree, holds, lookup, lowest, anyFree, others}
-use Rattle.shelf.specs.Cabinet.{places, Reading, about, declined, asks, reads, shelf, Change, done, refuse, putAt, putRead, removeAt, removeRead, told, onPlaces, putKey, removeKey, foundAt, findRead, findIn, findKey}
+use Rattle.shelf.specs.Cabinet.{places, Reading, about, declined, asks, reads, requests, shelf, Change, done, refuse, putAt, putRead, removeAt, removeRead, admitAt, admitRead, told, onPlaces, putKey, removeKey, admit, foundAt, findRead, findIn, findKey}
 use Rattle.shelf.proofs.Places.{clash, names-eq, eq-names, lookup-there, none-not-holds}
-use Rattle.shelf.proofs.Readings.{ownNumbers, reads-own, asks-own, not-own}
+use Rattle.shelf.proofs.Readings.{ownNumbers, reads-own, asks-own, requests-own, not-own}
 use Rattle.shelf.proofs.Images.{Shelved, shelf-some}
 
 -- ---- the records of other names
@@ -85,6 +85,9 @@ putNumbers = 0 ∷ notLater ∷ noPlace ∷ ownNumbers
 abbrev pub findNumbers : List ℕ
 findNumbers = 0 ∷ notThere ∷ ownNumbers
 
+abbrev pub admitNumbers : List ℕ
+admitNumbers = 0 ∷ notThere ∷ tvpNotLater ∷ ownNumbers
+
 -- no byte of the bytes s, and no part of them, with a refusal
 pub put-leaves : (s r : Bytes) → putKey s r .no ≢ 0 → putKey s r .bytes ≡ s
 unfolding putKey
@@ -93,6 +96,10 @@ put-leaves s r n = on-leaves (λ ps. putRead r ps (reads r)) s (shelf s) n
 pub remove-leaves : (s i : Bytes) → removeKey s i .no ≢ 0 → removeKey s i .bytes ≡ s
 unfolding removeKey
 remove-leaves s i n = on-leaves (λ ps. removeRead ps (asks i)) s (shelf s) n
+
+pub admit-leaves : (s q : Bytes) → admit s q .no ≢ 0 → admit s q .bytes ≡ s
+unfolding admit
+admit-leaves s q n = on-leaves (λ ps. admitRead ps (requests q)) s (shelf s) n
 
 pub find-leaves : (s i : Bytes) → findKey s i .no ≢ 0 → (findKey s i .start ≡ 0) × (findKey s i .text ≡ [])
 unfolding findKey
@@ -110,10 +117,16 @@ find-leaves s i n = go (shelf s) n
     go none m = (refl, refl)
     go (some ps) m = read ps (asks i) m
 
--- ---- put: 24 and 25, of the places ps
+-- the number of a change, whatever bytes were lent
 
 abbrev numberOf : Change → ℕ
 numberOf c = told [] c .no
+
+same-number : (s : Bytes) (c : Change) → told s c .no ≡ numberOf c
+same-number s (done qs) = refl
+same-number s (refuse n i) = refl
+
+-- ---- put: 24 and 25, of the places ps
 
 -- an accepted record, where one of its names is there with a GNT that is not earlier
 abbrev pub Earlier : Bytes → List Place → Type 0
@@ -167,11 +180,7 @@ put-listed r ps (about k g) a = go (lookup k ps)
 module _ (s r : Bytes) (ps : List Place) (e : shelf s ≡ some ps) where
   put-number : putKey s r .no ≡ numberOf (putRead r ps (reads r))
   unfolding putKey
-  put-number = rw e (same-number (putRead r ps (reads r)))
-    where
-      same-number : (o : Change) → told s o .no ≡ numberOf o
-      same-number (done qs) = refl
-      same-number (refuse n i) = refl
+  put-number = rw e (same-number s (putRead r ps (reads r)))
 
   pub put-given : T (oneOf putNumbers (putKey s r .no))
   put-given = rw put-number (put-listed r ps (reads r) refl)
@@ -226,11 +235,7 @@ find-listed i ps (about k g) a = go (lookup k ps)
 module _ (s i : Bytes) (ps : List Place) (e : shelf s ≡ some ps) where
   remove-number : removeKey s i .no ≡ numberOf (removeRead ps (asks i))
   unfolding removeKey
-  remove-number = rw e (same-number (removeRead ps (asks i)))
-    where
-      same-number : (o : Change) → told s o .no ≡ numberOf o
-      same-number (done qs) = refl
-      same-number (refuse n j) = refl
+  remove-number = rw e (same-number s (removeRead ps (asks i)))
 
   pub remove-given : T (oneOf findNumbers (removeKey s i .no))
   remove-given = rw remove-number (find-listed i ps (asks i) refl .0)
@@ -246,3 +251,59 @@ module _ (s i : Bytes) (ps : List Place) (e : shelf s ≡ some ps) where
   pub find-exactly-26 : (findKey s i .no ≡ notThere) ↔ Missing i ps
   unfolding findKey
   find-exactly-26 = (λ n. find-26 i ps (asks i) refl (rw e at n), λ (k, g, a, f). rw (e, a, f))
+
+-- ---- admit: 26 and 27, of the places ps
+
+-- an accepted request, whose module is not there
+abbrev pub Unknown : Bytes → List Place → Type 0
+Unknown q ps = (k : Names) × (t : Bytes) × (requests q ≡ about k t) × (lookup k ps ≡ none)
+
+-- an accepted request, whose module is there with a TVP that is not earlier
+abbrev pub Answered : Bytes → List Place → Type 0
+Answered q ps = (k : Names) × (t : Bytes) × (h : Held) × (requests q ≡ about k t) × (lookup k ps ≡ some h) × (later t (h .tvp) ≡ false)
+
+module _ (q : Bytes) (ps : List Place) where
+  at-26 : (k : Names) (t : Bytes) (o : Option Held) → lookup k ps ≡ o → requests q ≡ about k t → numberOf (admitAt k t ps o) ≡ notThere → Unknown q ps
+  unfolding admitAt
+  at-26 k t none e a n = (k, t, a, e)
+  at-26 k t (some h) e a n =
+      by-test (later t (h .tvp)) (λ u. absurd (omega (rw (T-true (later t (h .tvp)) u) at n, arith))) (λ u. absurd (omega (rw (T-false (later t (h .tvp)) u) at n, arith)))
+
+  at-27 : (k : Names) (t : Bytes) (o : Option Held) → lookup k ps ≡ o → requests q ≡ about k t → numberOf (admitAt k t ps o) ≡ tvpNotLater → Answered q ps
+  unfolding admitAt
+  at-27 k t none e a n = absurd (omega arith)
+  at-27 k t (some h) e a n =
+      by-test (later t (h .tvp)) (λ u. absurd (omega (rw (T-true (later t (h .tvp)) u) at n, arith))) (λ u. (k, t, h, a, e, T-false (later t (h .tvp)) u))
+
+  admit-26 : (x : Reading) → requests q ≡ x → numberOf (admitRead ps x) ≡ notThere → Unknown q ps
+  admit-26 (declined n i) a e = absurd (not-own n notThere (requests-own q n i a .1) tt e)
+  admit-26 (about k t) a e = at-26 k t (lookup k ps) refl a e
+
+  admit-27 : (x : Reading) → requests q ≡ x → numberOf (admitRead ps x) ≡ tvpNotLater → Answered q ps
+  admit-27 (declined n i) a e = absurd (not-own n tvpNotLater (requests-own q n i a .1) tt e)
+  admit-27 (about k t) a e = at-27 k t (lookup k ps) refl a e
+
+  admit-listed : (x : Reading) → requests q ≡ x → T (oneOf admitNumbers (numberOf (admitRead ps x)))
+  unfolding admitAt
+  admit-listed (declined n i) a = or-right (eqb n 0) _ (or-right (eqb n notThere) _ (or-right (eqb n tvpNotLater) _ (requests-own q n i a .1)))
+  admit-listed (about k t) a = go (lookup k ps)
+    where
+      go : (o : Option Held) → T (oneOf admitNumbers (numberOf (admitAt k t ps o)))
+      go none = tt
+      go (some h) = by-test (later t (h .tvp)) (λ u. rw (T-true (later t (h .tvp)) u) tt) (λ u. rw (T-false (later t (h .tvp)) u) tt)
+
+module _ (s q : Bytes) (ps : List Place) (e : shelf s ≡ some ps) where
+  admit-number : admit s q .no ≡ numberOf (admitRead ps (requests q))
+  unfolding admit
+  admit-number = rw e (same-number s (admitRead ps (requests q)))
+
+  pub admit-given : T (oneOf admitNumbers (admit s q .no))
+  admit-given = rw admit-number (admit-listed q ps (requests q) refl)
+
+  pub admit-exactly-26 : (admit s q .no ≡ notThere) ↔ Unknown q ps
+  unfolding admitAt
+  admit-exactly-26 = (λ n. admit-26 q ps (requests q) refl (sym admit-number ∙ n), λ (k, t, a, f). admit-number ∙ rw (a, f))
+
+  pub admit-exactly-27 : (admit s q .no ≡ tvpNotLater) ↔ Answered q ps
+  unfolding admitAt
+  admit-exactly-27 = (λ n. admit-27 q ps (requests q) refl (sym admit-number ∙ n), λ (k, t, h, a, f, l). admit-number ∙ rw (a, f, l))

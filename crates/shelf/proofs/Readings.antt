@@ -11,7 +11,8 @@ use lib.ListN.{length}
 use lib.Dec.{T, eqb, eqb→eq}
 use mir.Facts.{or-yes}
 use Rattle.text.specs.Text.{Bytes, oneOf, allOf, without, isTimestamp}
-use Rattle.format.specs.Kinds.{Kind, name, mark, fieldsOf, among, pubkeyKinds, keyKinds, identityKinds}
+use Rattle.format.specs.Kinds.{Kind, SMID, REQ, name, mark, fieldsOf, among, pubkeyKinds, keyKinds, identityKinds}
+use Rattle.format.specs.Requests.{idSm, tvp}
 use Rattle.format.specs.Build.{IsIdentity}
 use Rattle.format.specs.Read.{Outcome, accepted, refused, nobody, readIdentity, readOf}
 use Rattle.format.proofs.Table.{every-kind, all-among, absent}
@@ -22,10 +23,12 @@ use Rattle.format.proofs.Outcomes.{Honest}
 use Rattle.format.proofs.Refusals.{over-given}
 use Rattle.subjects.specs.Subjects.{manufacturer, mid, gnt}
 use Rattle.subjects.specs.Keys.{subject, Key}
+use Rattle.subjects.specs.Requests.{Request}
 use Rattle.subjects.proofs.Keys.{key}
+use Rattle.subjects.proofs.Requests.{request, request-tvp}
 use Rattle.subjects.proofs.Subjects.{identity-gnt}
 use Rattle.shelf.specs.Places.{Names, named}
-use Rattle.shelf.specs.Cabinet.{numberAt, about, declined, askedBy, asks, readBy, reads}
+use Rattle.shelf.specs.Cabinet.{tvpAt, about, declined, askedBy, asks, readBy, reads, dated, requests}
 use Rattle.shelf.proofs.Places.{clash}
 
 -- ---- of an identity
@@ -85,6 +88,37 @@ pub reads-refused : (r : Bytes) (n j : ℕ) → readOf pubkeyKinds r ≡ refused
 unfolding reads
 reads-refused r n j e = rw e
 
+-- ---- of a load request
+
+-- q is accepted, its ID_SM is such an identity, and its TVP is t
+pub record Requested (q : Bytes) (k : Names) (t : Bytes) : Type 0 where
+  pub request : Request q
+  pub names-so : k ≡ named (name SMID) (manufacturer (request .names)) (mid (request .names))
+  pub tvp-so : t ≡ tvp (request .fields)
+
+pub requests-accepted : (s : Bytes) (q : Request s) → requests s ≡ about (named (name SMID) (manufacturer (q .names)) (mid (q .names))) (tvp (q .fields))
+unfolding requests
+requests-accepted s q = rw (q .is) (ap (dated (tvp (q .fields))) (asks-accepted (idSm (q .fields)) (q .known)))
+
+pub requests-refused : (s : Bytes) (n j : ℕ) → readOf (REQ ∷ []) s ≡ refused n j → requests s ≡ declined n j
+unfolding requests
+requests-refused s n j e = rw e
+
+pub requested : (s : Bytes) (k : Names) (t : Bytes) → requests s ≡ about k t → Requested s k t
+requested s k t e = go (readOf (REQ ∷ []) s) refl
+  where
+    go : (o : Outcome) → readOf (REQ ∷ []) s ≡ o → Requested s k t
+    go (accepted kind fs) h =
+        let q = request s kind fs h in
+        let f = sym (requests-accepted s q) ∙ e in
+        record { request = q; names-so = cc; tvp-so = cc }
+    go (refused n j) h =
+        let f = sym (requests-refused s n j h) ∙ e in
+        let z : _≡_ {A = ℕ} 0 1 = cc in absurd (omega arith)
+
+pub requested-tvp : {s : Bytes} {k : Names} {t : Bytes} → Requested s k t → T (isTimestamp t)
+requested-tvp r = rw (r .tvp-so) (request-tvp (r .request))
+
 -- ---- it may stand in a place
 
 zero-absent : (k : Kind) → T (allOf (map (absent 0) (fieldsOf k)))
@@ -97,13 +131,13 @@ no-wrapped-key : (k : Kind) → T (among k pubkeyKinds) → T (not (among k keyK
 no-wrapped-key = all-among (λ k. T (not (among k keyKinds))) pubkeyKinds (tt, (tt, tt))
 
 pub record Fitting (r : Bytes) : Type 0 where
-  -- before the number, with a zero between
-  pub long : length r < numberAt
+  -- before the TVP, with a zero between
+  pub long : length r < tvpAt
   pub some-byte : length r ≢ 0
   pub no-zero : T (without 0 r)
 
 pub fitting : (r : Bytes) (k : Names) (g : Bytes) → reads r ≡ about k g → Fitting r
-unfolding numberAt
+unfolding tvpAt
 fitting r k g e =
     let q = held-of r k g e .key in
     let b = read-exact pubkeyKinds r (q .kind) (q .fields) .0 (q .is) in
@@ -155,6 +189,23 @@ reads-own r n j e = go (readOf pubkeyKinds r) refl e
         let g = sym (asks-accepted (subject (q .fields)) (q .known)) ∙ rw same-fields at f in
         let z : _≡_ {A = ℕ} 0 1 = cc in absurd (omega arith)
     go (refused m l) h f = let g : readOf pubkeyKinds r ≡ refused n j = cc in (g, record-own r n j g)
+
+request-own : (s : Bytes) (n j : ℕ) → readOf (REQ ∷ []) s ≡ refused n j → T (oneOf ownNumbers n)
+unfolding readOf
+request-own s n j e =
+    positive _ n j (rw e at (read-says (REQ ∷ []) s))
+    (rw e at (over-given (0 ∷ ownNumbers) tt readIdentity (tt, tt, tt, tt, tt) (REQ ∷ []) (tt, tt) s))
+
+pub requests-own : (s : Bytes) (n j : ℕ) → requests s ≡ declined n j → (readOf (REQ ∷ []) s ≡ refused n j) × T (oneOf ownNumbers n)
+requests-own s n j e = go (readOf (REQ ∷ []) s) refl
+  where
+    go : (o : Outcome) → readOf (REQ ∷ []) s ≡ o → (readOf (REQ ∷ []) s ≡ refused n j) × T (oneOf ownNumbers n)
+    go (accepted k fs) h =
+        let f = sym (requests-accepted s (request s k fs h)) ∙ e in
+        let z : _≡_ {A = ℕ} 0 1 = cc in absurd (omega arith)
+    go (refused m l) h =
+        let f = sym (requests-refused s m l h) ∙ e in
+        let g : readOf (REQ ∷ []) s ≡ refused n j = cc in (g, request-own s n j g)
 
 -- a number of the cabinet's own is none of them, and 0 neither
 pub not-own : (n m : ℕ) → T (oneOf ownNumbers n) → T (not (oneOf ownNumbers m)) → n ≢ m

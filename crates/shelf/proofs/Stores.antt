@@ -10,11 +10,12 @@ use native.Mathlib.Nat.{suc-mul, zero-mul, zero-add, add-comm}
 use lib.ListN.{length, take, drop, set}
 use lib.Seq.{drop-at, take-append-add, drop-append-add, drop-drop, take-append-seam}
 use Rattle.text.specs.Text.{Bytes}
+use Rattle.text.specs.Seconds.{start}
 use Rattle.text.specs.Later.{later}
 use Rattle.text.proofs.Tests.{T-true, T-false, by-test}
-use Rattle.numbers.specs.Numbers.{notCabinet, notLater, noPlace, notThere}
+use Rattle.numbers.specs.Numbers.{notCabinet, notLater, noPlace, notThere, tvpNotLater}
 use Rattle.shelf.specs.Places.{Names, Held, Place, free, held, isFree, holds, contents, lookup, change, lowest, anyFree}
-use Rattle.shelf.specs.Cabinet.{width, about, declined, asks, reads, encode, shelf, image, entry, putAt, removeAt, Result, leaving, told, putKey, removeKey, nothing, findKey}
+use Rattle.shelf.specs.Cabinet.{width, about, declined, asks, reads, requests, encode, entry, shelf, image, putAt, removeAt, admitAt, Result, leaving, told, putKey, removeKey, admit, nothing, findKey}
 use Rattle.shelf.proofs.Places.{change-set, free-lowest, no-free-lowest, lookup-here, lookup-there}
 use Rattle.shelf.proofs.Images.{AllGood, length-encode, shelf-some}
 
@@ -47,7 +48,7 @@ unfolding encode
 text-front free h e t = let z : _≡_ {A = ℕ} 0 1 = cc in absurd (omega arith)
 text-front (held g) h e t =
     let f : g ≡ h = cc in
-    rw (← f) (ap (take (length (g .text))) (append-assoc (g .text ++ _) _ t ∙ append-assoc (g .text) _ _) ∙ take-append-seam (g .text) _)
+    rw (← f) (ap (take (length (g .text))) (append-assoc ((g .text ++ _) ++ _) _ t ∙ append-assoc (g .text ++ _) _ _ ∙ append-assoc (g .text) _ _) ∙ take-append-seam (g .text) _)
 
 pub found-part : (k : Names) (ps : List Place) (h : Held) → AllGood ps → lookup k ps ≡ some h
     → take (length (h .text)) (drop (lowest (holds k) ps * width) (image ps)) ≡ h .text
@@ -73,6 +74,10 @@ module _ (s i : Bytes) (e : shelf s ≡ none) where
   pub remove-23 : removeKey s i ≡ leaving s notCabinet 0
   unfolding removeKey
   remove-23 = rw e
+
+  pub admit-23 : admit s i ≡ leaving s notCabinet 0
+  unfolding admit
+  admit-23 = rw e
 
   pub find-23 : findKey s i ≡ nothing notCabinet 0
   unfolding findKey
@@ -101,21 +106,39 @@ module _ (s : Bytes) (ps : List Place) (e : shelf s ≡ some ps) where
     put-some = rw (e, a)
 
     pub put-later : (h : Held) → lookup k ps ≡ some h → later g (h .gnt) ≡ true → lowest (holds k) ps < length ps
-        → putKey s r ≡ stored (storedAt s (lowest (holds k) ps) (entry k g r))
+        → putKey s r ≡ stored (storedAt s (lowest (holds k) ps) (entry k g r (h .tvp)))
     unfolding putAt
-    put-later h f t l = put-some ∙ rw (f, t) (ap (λ (x : Bytes). stored x) (image-change (holds k) (entry k g r) l))
+    put-later h f t l = put-some ∙ rw (f, t) (ap (λ (x : Bytes). stored x) (image-change (holds k) (entry k g r (h .tvp)) l))
 
     pub put-not-later : (h : Held) → lookup k ps ≡ some h → later g (h .gnt) ≡ false → putKey s r ≡ leaving s notLater 0
     unfolding putAt
     put-not-later h f t = put-some ∙ rw (f, t)
 
-    pub put-first : lookup k ps ≡ none → lowest isFree ps < length ps → putKey s r ≡ stored (storedAt s (lowest isFree ps) (entry k g r))
+    pub put-first : lookup k ps ≡ none → lowest isFree ps < length ps → putKey s r ≡ stored (storedAt s (lowest isFree ps) (entry k g r start))
     unfolding putAt
-    put-first f l = put-some ∙ rw (f, T-true (anyFree ps) (free-lowest ps l)) (ap (λ (x : Bytes). stored x) (image-change isFree (entry k g r) l))
+    put-first f l = put-some ∙ rw (f, T-true (anyFree ps) (free-lowest ps l)) (ap (λ (x : Bytes). stored x) (image-change isFree (entry k g r start) l))
 
     pub put-full : lookup k ps ≡ none → length ps ≤ lowest isFree ps → putKey s r ≡ leaving s noPlace 0
     unfolding putAt
     put-full f l = put-some ∙ rw (f, T-false (anyFree ps) (no-free-lowest ps l))
+
+  pub admit-own : (q : Bytes) (n i : ℕ) → requests q ≡ declined n i → admit s q ≡ leaving s n i
+  unfolding admit
+  admit-own q n i a = rw (e, a)
+
+  module _ (q : Bytes) (k : Names) (t : Bytes) (a : requests q ≡ about k t) where
+    pub admit-none : lookup k ps ≡ none → admit s q ≡ leaving s notThere 0
+    unfolding admit admitAt
+    admit-none f = rw (e, a, f)
+
+    pub admit-not-later : (h : Held) → lookup k ps ≡ some h → later t (h .tvp) ≡ false → admit s q ≡ leaving s tvpNotLater 0
+    unfolding admit admitAt
+    admit-not-later h f l = rw (e, a, f, l)
+
+    pub admit-later : (h : Held) → lookup k ps ≡ some h → later t (h .tvp) ≡ true → lowest (holds k) ps < length ps
+        → admit s q ≡ stored (storedAt s (lowest (holds k) ps) (entry (h .names) (h .gnt) (h .text) t))
+    unfolding admit admitAt
+    admit-later h f l m = rw (e, a, f, l) (ap (λ (x : Bytes). stored x) (image-change (holds k) (entry (h .names) (h .gnt) (h .text) t) m))
 
   module _ (i : Bytes) where
     pub remove-own : (n j : ℕ) → asks i ≡ declined n j → removeKey s i ≡ leaving s n j

@@ -1,17 +1,19 @@
--- The centre's key cabinet: document 02, E8 and E9. 64 places of 1,024 bytes; each is all zeros, or an accepted public key, zeros after it and in the last eight bytes
--- the number of its Expiry, and no two records share Subject kind, Manufacturer and MID. All other memory is no cabinet: number 23, before all.
+-- The centre's key cabinet: document 02, E8, E9 and E10. 64 places of 1,024 bytes; each is all zeros, or an accepted public key, zeros after it, the last TVP accepted for
+-- its module and in the last eight bytes the number of its Expiry, and no two records share Subject kind, Manufacturer and MID. All other memory is no cabinet: number 23,
+-- before all.
 -- Assumes nothing.
 use Prim.Native.Nat.{ℕ, zero, suc, _-_, _*_}
-use mathlib.Core.Bool.{Bool, true, false, cond}
+use mathlib.Core.Bool.{Bool, true, false, not, cond, _&&_}
 use mathlib.Core.Option.{Option, none, some}
 use mathlib.Core.List.{List, [], _∷_, _++_}
 use lib.ListN.{length, take, drop, replicate}
 use lib.Dec.{eqb}
-use Rattle.text.specs.Text.{Bytes, same}
-use Rattle.text.specs.Seconds.{secondsBytes}
+use Rattle.text.specs.Text.{Bytes, same, isTimestamp}
+use Rattle.text.specs.Seconds.{start, secondsBytes}
 use Rattle.text.specs.Later.{later}
-use Rattle.numbers.specs.Numbers.{notCabinet, notLater, noPlace, notThere}
-use Rattle.format.specs.Kinds.{name, pubkeyKinds}
+use Rattle.numbers.specs.Numbers.{notCabinet, notLater, noPlace, notThere, tvpNotLater}
+use Rattle.format.specs.Kinds.{name, REQ, pubkeyKinds}
+use Rattle.format.specs.Requests.{idSm, tvp}
 use Rattle.format.specs.Read.{Outcome, accepted, refused, readIdentity, readOf}
 use Rattle.format.specs.Files.{upTo}
 use Rattle.subjects.specs.Subjects.{manufacturer, mid, gnt}
@@ -26,17 +28,20 @@ places = 64
 unfoldable pub width : ℕ
 width = 1024
 
--- where the number of Expiry begins in a place
+-- where the last TVP begins in a place, and behind it the number of Expiry
+unfoldable pub tvpAt : ℕ
+tvpAt = 1000
+
 unfoldable pub numberAt : ℕ
 numberAt = 1016
 
--- ---- what is read: the three names and the GNT, or the numbers of the refusal and of the field
+-- ---- what is read: the three names and a date, or the numbers of the refusal and of the field
 
 pub data Reading : Type 0 where
   about : Names → Bytes → Reading
   declined : ℕ → ℕ → Reading
 
--- of a lent identity; its GNT and Fingerprint are ignored, but it must be accepted
+-- of a lent identity, with its GNT; that and the Fingerprint are ignored, but it must be accepted
 abbrev pub askedBy : Outcome → Reading
 askedBy (accepted who fs) = about (named (name who) (manufacturer fs) (mid fs)) (gnt fs)
 askedBy (refused n i) = declined n i
@@ -52,6 +57,18 @@ readBy (refused n i) = declined n i
 unfoldable pub reads : Bytes → Reading
 reads s = readBy (readOf pubkeyKinds s)
 
+-- of a load request: the names of its ID_SM, with its TVP (E10)
+abbrev pub dated : Bytes → Reading → Reading
+dated t (about k g) = about k t
+dated t (declined n i) = declined n i
+
+abbrev pub requestedBy : Outcome → Reading
+requestedBy (accepted k fs) = dated (tvp fs) (asks (idSm fs))
+requestedBy (refused n i) = declined n i
+
+unfoldable pub requests : Bytes → Reading
+requests s = requestedBy (readOf (REQ ∷ []) s)
+
 -- ---- the bytes of a place, and the place of bytes
 
 abbrev pub zeros : ℕ → Bytes
@@ -61,16 +78,27 @@ zeros n = replicate n 0
 unfoldable pub numberOf : Bytes → Bytes
 numberOf r = secondsBytes (expiryOf r .seconds)
 
+-- "in the 16 bytes before E9's number, the last TVP accepted for its module" (E10)
 unfoldable pub encode : Place → Bytes
 encode free = zeros width
-encode (held h) = (h .text ++ zeros (numberAt - length (h .text))) ++ numberOf (h .text)
+encode (held h) = ((h .text ++ zeros (tvpAt - length (h .text))) ++ h .tvp) ++ numberOf (h .text)
 
 -- p, where its bytes are b
 abbrev pub whole : Bytes → Place → Option Place
 whole b p = cond (same b (encode p)) (some p) none
 
+abbrev pub entry : Names → Bytes → Bytes → Bytes → Place
+entry k g r t = held (record { names = k; gnt = g; text = r; tvp = t })
+
+abbrev pub tvpIn : Bytes → Bytes
+tvpIn b = take (numberAt - tvpAt) (drop tvpAt b)
+
+-- "a TVP there that is no TIMESTAMP, or before that start, makes the image 23" (E10)
+unfoldable pub isTvp : Bytes → Bool
+isTvp t = isTimestamp t && not (later start t)
+
 abbrev pub decodeAs : Bytes → Bytes → Reading → Option Place
-decodeAs b r (about k g) = whole b (held (record { names = k; gnt = g; text = r }))
+decodeAs b r (about k g) = cond (isTvp (tvpIn b)) (whole b (entry k g r (tvpIn b))) none
 decodeAs b r (declined n i) = none
 
 -- the record is what stands before the first zero byte
@@ -115,13 +143,11 @@ pub data Change : Type 0 where
   done : List Place → Change
   refuse : ℕ → ℕ → Change
 
-abbrev pub entry : Names → Bytes → Bytes → Place
-entry k g r = held (record { names = k; gnt = g; text = r })
-
--- a replacement stays in its place: 24 where its GNT is not later; a first put takes the lowest free place: 25 where there is none
+-- a replacement stays in its place and keeps the TVP: 24 where its GNT is not later; a first put takes the lowest free place, and its TVP starts at 19930101T000000Z: 25
+-- where there is none
 unfoldable pub putAt : Names → Bytes → Bytes → List Place → Option Held → Change
-putAt k g r ps none = cond (anyFree ps) (done (change isFree (entry k g r) ps)) (refuse noPlace 0)
-putAt k g r ps (some h) = cond (later g (h .gnt)) (done (change (holds k) (entry k g r) ps)) (refuse notLater 0)
+putAt k g r ps none = cond (anyFree ps) (done (change isFree (entry k g r start) ps)) (refuse noPlace 0)
+putAt k g r ps (some h) = cond (later g (h .gnt)) (done (change (holds k) (entry k g r (h .tvp)) ps)) (refuse notLater 0)
 
 -- the record's own numbers come before
 abbrev pub putRead : Bytes → List Place → Reading → Change
@@ -136,6 +162,16 @@ removeAt k ps (some h) = done (change (holds k) free ps)
 abbrev pub removeRead : List Place → Reading → Change
 removeRead ps (about k g) = removeAt k ps (lookup k ps)
 removeRead ps (declined n i) = refuse n i
+
+-- a request is admitted only for a module in the cabinet: 26; and with a later TVP: 27, which is then stored (E10)
+unfoldable pub admitAt : Names → Bytes → List Place → Option Held → Change
+admitAt k t ps none = refuse notThere 0
+admitAt k t ps (some h) = cond (later t (h .tvp)) (done (change (holds k) (entry (h .names) (h .gnt) (h .text) t) ps)) (refuse tvpNotLater 0)
+
+-- the request's own numbers come before
+abbrev pub admitRead : List Place → Reading → Change
+admitRead ps (about k t) = admitAt k t ps (lookup k ps)
+admitRead ps (declined n i) = refuse n i
 
 -- ---- the calls on the lent bytes s: the numbers, and the bytes afterwards
 
@@ -165,6 +201,9 @@ putKey s r = onPlaces (λ ps. putRead r ps (reads r)) s (shelf s)
 
 unfoldable pub removeKey : Bytes → Bytes → Result
 removeKey s i = onPlaces (λ ps. removeRead ps (asks i)) s (shelf s)
+
+unfoldable pub admit : Bytes → Bytes → Result
+admit s q = onPlaces (λ ps. admitRead ps (requests q)) s (shelf s)
 
 -- ---- find: the numbers, and the record with where it starts in the lent bytes; with a refusal nothing, at their front
 

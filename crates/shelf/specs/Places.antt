@@ -1,4 +1,4 @@
--- The places of a cabinet as data: document 02, E8. A place is free, or holds a record with what is read from it.
+-- The places of a cabinet as data: document 02, E8 and E10. A place is free, or holds a record with what is read from it, and a TVP.
 -- Assumes nothing.
 use Prim.Native.Nat.{ℕ, suc, _+_}
 use mathlib.Core.Bool.{Bool, true, false, cond, _&&_, _||_}
@@ -13,11 +13,12 @@ pub data Names : Type 0 where
 abbrev pub sameNames : Names → Names → Bool
 sameNames (named a b c) (named x y z) = same a x && (same b y && same c z)
 
--- what an occupied place holds: the record's bytes, and what is read from its Subject
+-- what an occupied place holds: the record's bytes, what is read from its Subject, and the last TVP accepted for its module
 pub record Held : Type 0 where
   pub names : Names
   pub gnt : Bytes
   pub text : Bytes
+  pub tvp : Bytes
 
 pub data Place : Type 0 where
   free : Place

@@ -26,8 +26,12 @@ key s k fs e =
     let asked = ask-complete (inner .0) (subject fs) (inner .2) in
     record { kind = k; fields = fs; is = e; who = inner .0; names = asked .0; known = asked .1 }
 
--- the field of number suc j
+-- the field of number suc j, of any record that was read
+pub read-field : (ks : List Kind) (s : Bytes) {k : Kind} {fs : List Bytes} → readOf ks s ≡ accepted k fs → (r : Answer) → r ≡ answerOf (readOf ks s) → (j : ℕ)
+    → fieldAt s (r .starts) (r .lens) (suc j) ≡ getD fs j []
+read-field ks s {k} {fs} is r e j =
+    let b = read-exact ks s k fs .0 is in
+    ap (λ (x : Answer). fieldAt s (x .starts) (x .lens) (suc j)) (e ∙ ap answerOf is) ∙ record-field k s fs (its-few b) (its-parts b) (suc j)
+
 pub its-field : (s : Bytes) (k : Key s) (r : Answer) → r ≡ answerOf (readOf pubkeyKinds s) → (j : ℕ) → fieldAt s (r .starts) (r .lens) (suc j) ≡ getD (k .fields) j []
-its-field s k r e j =
-    let b = read-exact pubkeyKinds s (k .kind) (k .fields) .0 (k .is) in
-    ap (λ (x : Answer). fieldAt s (x .starts) (x .lens) (suc j)) (e ∙ ap answerOf (k .is)) ∙ record-field (k .kind) s (k .fields) (its-few b) (its-parts b) (suc j)
+its-field s k = read-field pubkeyKinds s (k .is)

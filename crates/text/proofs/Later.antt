@@ -13,7 +13,7 @@ use lib.Dec.{T, eqb, eqb→eq}
 use lib.IntN.{ℤ, pos, negsuc}
 use lib.Signed.{_<ℤ_, ltZ, <ℤ-irrefl}
 use mir.Facts.{and-yes, yes-and}
-use borrow.Author.Tests.{le-ltb, ltb-true}
+use borrow.Author.Tests.{le-ltb, lt-ltb, ltb-true}
 use Rattle.text.specs.Text.{Bytes, ascii, after, oneOf, every, part, decimal, fits, looks, numberFrom, number, year, month, day, hour, minute, second, isTimestamp}
 use Rattle.text.proofs.Tests.{T-true, T-false, by-test, cond-yes, cond-no, between-low, between-high}
 use Rattle.text.proofs.Loops.{looks-pairwise, pairwise-length}
@@ -216,9 +216,21 @@ ltZ-one-way (pos m) (negsuc n) h = absurd (false≢true h)
 ltZ-one-way (negsuc m) (pos n) h = refl
 ltZ-one-way (negsuc m) (negsuc n) h = le-ltb m n (omega (arith, ltb-true n m h))
 
+ltZ-trans : (x y z : ℤ) → ltZ x y ≡ true → ltZ y z ≡ true → ltZ x z ≡ true
+ltZ-trans (pos l) (pos m) (pos n) h k = lt-ltb l n (omega (arith, ltb-true l m h, ltb-true m n k))
+ltZ-trans (pos l) (pos m) (negsuc n) h k = k
+ltZ-trans (pos l) (negsuc m) z h k = absurd (false≢true h)
+ltZ-trans (negsuc l) y (pos n) h k = refl
+ltZ-trans (negsuc l) (pos m) (negsuc n) h k = absurd (false≢true k)
+ltZ-trans (negsuc l) (negsuc m) (negsuc n) h k = lt-ltb n l (omega (arith, ltb-true m l h, ltb-true n m k))
+
 pub later-itself : (s : Bytes) → later s s ≡ false
 unfolding later
 later-itself s = ltZ-itself (momentOf s .seconds)
+
+pub later-trans : (s t u : Bytes) → later s t ≡ true → later t u ≡ true → later s u ≡ true
+unfolding later
+later-trans s t u h k = ltZ-trans (momentOf u .seconds) (momentOf t .seconds) (momentOf s .seconds) k h
 
 pub later-one-way : (s t : Bytes) → later s t ≡ true → later t s ≡ false
 unfolding later

@@ -147,6 +147,14 @@ pub no-moment : (s : Bytes) → T (not (isTimestamp s)) → momentOf s .seconds 
 unfolding momentOf
 no-moment s t = rw (T-false (isTimestamp s) t)
 
+-- the start is 0
+pub start-zero : seconds start ≡ pos 0
+unfolding seconds
+start-zero = sub-above (sinceYearOne start) (sinceYearOne start) (omega arith) ∙ ap pos (omega arith)
+
+pub start-moment : momentOf start .seconds ≡ pos 0
+start-moment = by-test (isTimestamp start) (λ t. moment-seconds start t ∙ start-zero) (no-moment start)
+
 -- and so does the number that the date call gives for any other text
 pub moment-fits : (s : Bytes) → SFits w64 (momentOf s .seconds)
 moment-fits s = by-test (isTimestamp s) (λ t. rw (moment-seconds s t) (seconds-fit s t)) (λ t. rw (no-moment s t) (record { sfits = omega arith }))

@@ -314,12 +314,14 @@ pub(crate) const WRITE_HEX: usize = 44;
 
 pub(crate) const READ_HEX: usize = 45;
 
-const BUILD: usize = 46;
+pub(crate) const ADMIT: usize = 46;
+
+const BUILD: usize = 47;
 
 // Which of the names a word is; BUILD where it is none of them. Those behind `cabinet` are the names of calls in such a step.
 pub(crate) fn call_of(name: &[u8]) -> usize {
     let names =
-        b"newer file shared_info module_text centre_text module_item read_identity read_record identity_field record_field attribute attribute_named attributes sha384 thousandfold fingerprint check_fingerprint hmac module_tag centre_tag mac_key kek confirm_request confirm_response sha1 sha1_file sha1_thousandfold read_trailed build_trailed write_trailed trailed_file write_mail read_mail moment_of expiry_of cabinet make_cabinet check_cabinet count_keys put_key remove_key key_place find_key write write_hex read_hex";
+        b"newer file shared_info module_text centre_text module_item read_identity read_record identity_field record_field attribute attribute_named attributes sha384 thousandfold fingerprint check_fingerprint hmac module_tag centre_tag mac_key kek confirm_request confirm_response sha1 sha1_file sha1_thousandfold read_trailed build_trailed write_trailed trailed_file write_mail read_mail moment_of expiry_of cabinet make_cabinet check_cabinet count_keys put_key remove_key key_place find_key write write_hex read_hex admit";
     let mut k: usize = 0;
     while k < BUILD {
         if text::are_same(name, frame::part(b' ', names, k)) {

@@ -1,5 +1,5 @@
 // The calls of the key cabinet. A step is a history of calls on one cabinet: each part from the third on is the name of a call
-// and, behind a blank, the record or the identity that it is given. Three are no calls of the library: `write` is given a place
+// and, behind a blank, the record, the identity or the request that it is given. Three are no calls of the library: `write` is given a place
 // and, behind a blank, what is written there into the lent bytes, `write_hex` the same in hexadecimal characters, and `read_hex`
 // a place, of which it answers eight bytes so. Behind what a call answers stands the check of all lent bytes.
 use crate::calls;
@@ -98,6 +98,7 @@ fn change(call: usize, lent: &mut [u8], given: &[u8]) -> cabinet::Filed {
         calls::MAKE_CABINET => cabinet::make_cabinet(lent),
         calls::PUT_KEY => cabinet::put_key(lent, given),
         calls::REMOVE_KEY => cabinet::remove_key(lent, given),
+        calls::ADMIT => cabinet::admit(lent, given),
         _ => cabinet::check_cabinet(lent),
     }
 }

@@ -3,7 +3,7 @@
 use mathlib.Core.Path.{sym, _∙_}
 use native.Mathlib.Omega.{arith}
 use borrow.Author.Tests.{not-true, not-false}
-use Rattle.cabinet.proofs.Decoding.{place-free, place-long, place-gap, place-other, place-number}
+use Rattle.cabinet.proofs.Decoding.{place-free, place-long, place-gap, place-dateless, place-other, place-number}
 use borrow.Author.Needs.{needs}
 use Rattle.cabinet.proofs.is_place.Statement.{statement}
 use Rattle.cabinet.proofs.is_place.Tie as tie
@@ -32,6 +32,21 @@ are-zeros-requires-2 c κs = search needs
 returns-3 : tie.Need-returns-3
 returns-3 c = place-gap (c .before .before .before .before .before .before .before .args .place .now) (c .before .before .before .before .before .before .before .pre) (c .before .before .before .before .before .next-mark .ensures) (c .before .before .before .before .if1 .left) (c .before .before .before .if2 .left) (sym (c .before .are-zeros2 .ensures) ∙ not-true _ (c .if3 .taken))
 
+sub-is-tvp : tie.Need-sub-is-tvp
+sub-is-tvp c = search needs
+
+part-is-tvp-start : tie.Need-part-is-tvp-start
+part-is-tvp-start c = search needs
+
+part-is-tvp-end : tie.Need-part-is-tvp-end
+part-is-tvp-end c = omega (arith, c .before .before .before .before .before .before .before .pre)
+
+is-tvp-requires : tie.Need-is-tvp-requires
+is-tvp-requires c κs = search needs
+
+returns-4 : tie.Need-returns-4
+returns-4 c = place-dateless (c .before .before .before .before .before .before .before .before .before .before .args .place .now) (c .before .before .before .before .before .before .before .before .before .before .pre) (c .before .before .before .before .before .before .before .before .next-mark .ensures) (c .before .before .before .before .before .before .before .if1 .left) (c .before .before .before .before .before .before .if2 .left) (sym (c .before .is-tvp .ensures) ∙ not-true _ (c .if4 .taken))
+
 sub-expiry-of : tie.Need-sub-expiry-of
 sub-expiry-of c = search needs
 
@@ -39,13 +54,13 @@ part-expiry-of-start : tie.Need-part-expiry-of-start
 part-expiry-of-start c = search needs
 
 part-expiry-of-end : tie.Need-part-expiry-of-end
-part-expiry-of-end c = omega (arith, c .before .before .before .before .before .before .before .pre, c .before .before .before .if2 .left)
+part-expiry-of-end c = omega (arith, c .before .before .before .before .before .before .before .before .before .before .pre, c .before .before .before .before .before .before .if2 .left)
 
 expiry-of-requires : tie.Need-expiry-of-requires
 expiry-of-requires c κs = search needs
 
-returns-4 : tie.Need-returns-4
-returns-4 c = place-other (c .before .before .before .before .before .before .before .before .before .before .before .args .place .now) (c .before .before .before .before .before .before .before .before .before .before .before .pre) (c .before .before .before .before .before .before .before .before .before .next-mark .ensures) (c .before .before .before .before .before .before .before .before .if1 .left) (c .before .before .before .before .before .before .before .if2 .left) (sym (c .before .before .before .before .before .are-zeros2 .ensures) ∙ not-false _ (c .before .before .before .before .if3 .left)) (c .before .before .expiry-of .ensures) (c .if4 .taken)
+returns-5 : tie.Need-returns-5
+returns-5 c = place-other (c .before .before .before .before .before .before .before .before .before .before .before .before .before .before .args .place .now) (c .before .before .before .before .before .before .before .before .before .before .before .before .before .before .pre) (c .before .before .before .before .before .before .before .before .before .before .before .before .next-mark .ensures) (c .before .before .before .before .before .before .before .before .before .before .before .if1 .left) (c .before .before .before .before .before .before .before .before .before .before .if2 .left) (sym (c .before .before .before .before .before .before .before .before .are-zeros2 .ensures) ∙ not-false _ (c .before .before .before .before .before .before .before .if3 .left)) (sym (c .before .before .before .before .before .is-tvp .ensures) ∙ not-false _ (c .before .before .before .before .if4 .left)) (c .before .before .expiry-of .ensures) (c .if5 .taken)
 
 seconds-bytes-requires : tie.Need-seconds-bytes-requires
 seconds-bytes-requires c κs = search needs
@@ -65,8 +80,8 @@ slice-aggregate-are-same c = search needs
 are-same-requires : tie.Need-are-same-requires
 are-same-requires c κs = search needs
 
-returns-5 : tie.Need-returns-5
-returns-5 c = c .are-same .ensures ∙ place-number (c .before .before .before .before .before .before .before .before .before .before .before .before .before .before .before .before .args .place .now) (c .before .before .before .before .before .before .before .before .before .before .before .before .before .before .before .before .pre) (c .before .before .before .before .before .before .before .before .before .before .before .before .before .before .next-mark .ensures) (c .before .before .before .before .before .before .before .before .before .before .before .before .before .if1 .left) (c .before .before .before .before .before .before .before .before .before .before .before .before .if2 .left) (sym (c .before .before .before .before .before .before .before .before .before .before .are-zeros2 .ensures) ∙ not-false _ (c .before .before .before .before .before .before .before .before .before .if3 .left)) (c .before .before .before .before .before .before .before .expiry-of .ensures) (c .before .before .before .before .before .if4 .left) (c .before .before .before .seconds-bytes .ensures)
+returns-6 : tie.Need-returns-6
+returns-6 c = c .are-same .ensures ∙ place-number (c .before .before .before .before .before .before .before .before .before .before .before .before .before .before .before .before .before .before .before .args .place .now) (c .before .before .before .before .before .before .before .before .before .before .before .before .before .before .before .before .before .before .before .pre) (c .before .before .before .before .before .before .before .before .before .before .before .before .before .before .before .before .before .next-mark .ensures) (c .before .before .before .before .before .before .before .before .before .before .before .before .before .before .before .before .if1 .left) (c .before .before .before .before .before .before .before .before .before .before .before .before .before .before .before .if2 .left) (sym (c .before .before .before .before .before .before .before .before .before .before .before .before .before .are-zeros2 .ensures) ∙ not-false _ (c .before .before .before .before .before .before .before .before .before .before .before .before .if3 .left)) (sym (c .before .before .before .before .before .before .before .before .before .before .is-tvp .ensures) ∙ not-false _ (c .before .before .before .before .before .before .before .before .before .if4 .left)) (c .before .before .before .before .before .before .before .expiry-of .ensures) (c .before .before .before .before .before .if5 .left) (c .before .before .before .seconds-bytes .ensures)
 
 pub is-place-spec : {M : Type 1} → statement M
 is-place-spec =
@@ -80,15 +95,20 @@ is-place-spec =
     part-are-zeros-end
     are-zeros-requires-2
     returns-3
+    sub-is-tvp
+    part-is-tvp-start
+    part-is-tvp-end
+    is-tvp-requires
+    returns-4
     sub-expiry-of
     part-expiry-of-start
     part-expiry-of-end
     expiry-of-requires
-    returns-4
+    returns-5
     seconds-bytes-requires
     sub-are-same
     part-are-same-start
     part-are-same-end
     slice-aggregate-are-same
     are-same-requires
-    returns-5)
+    returns-6)

@@ -3,6 +3,7 @@
 use mathlib.Core.Path.{sym, _∙_}
 use native.Mathlib.Omega.{arith}
 use borrow.Author.Tests.{not-true, not-false}
+use Rattle.cabinet.proofs.Bytes.{empty-fits}
 use Rattle.cabinet.proofs.Calls.{its-size, found-within, removes-23, removes-own, removes-26, removes-done}
 use borrow.Author.Needs.{needs}
 use Rattle.cabinet.proofs.remove_key.Statement.{statement}
@@ -47,26 +48,17 @@ same-length-3 c = search needs
 returns-3 : tie.Need-returns-3
 returns-3 c = removes-26 (c .before .before .before .before .before .before .before .before .before .before .before .before .before .args .cabinet .now) (c .before .before .before .before .before .before .before .before .before .before .before .before .before .args .identity .now) (sym (not-false _ (c .before .before .before .before .before .before .before .before .if1 .left)) ∙ c .before .before .before .before .before .before .before .before .before .is-cabinet .ensures) (c .before .before .before .before .before .before .before .read-identity .ensures) (c .before .before .before .before .before .if2 .left) (c .before .before .before .names-in .ensures) (c .before .before .place-of .ensures) (c .before .if3 .taken) (c .file3 .ensures)
 
-sub-write-place : tie.Need-sub-write-place
-sub-write-place c = search needs
+sub-none : tie.Need-sub-none
+sub-none c = search needs
 
-part-write-place-start : tie.Need-part-write-place-start
-part-write-place-start c = search needs
+part-none-start : tie.Need-part-none-start
+part-none-start c = search needs
 
-part-write-place-end : tie.Need-part-write-place-end
-part-write-place-end c = search needs
-
-sub-write-place-2 : tie.Need-sub-write-place-2
-sub-write-place-2 c = search needs
-
-part-write-place-start-2 : tie.Need-part-write-place-start-2
-part-write-place-start-2 c = search needs
-
-part-write-place-end-2 : tie.Need-part-write-place-end-2
-part-write-place-end-2 c = search needs
+part-none-end : tie.Need-part-none-end
+part-none-end c = search needs
 
 write-place-requires : tie.Need-write-place-requires
-write-place-requires c κs = record { long = its-size (c .before .before .before .before .before .before .before .before .before .before .before .before .before .before .before .args .cabinet .now) (sym (not-false _ (c .before .before .before .before .before .before .before .before .before .before .if1 .left)) ∙ c .before .before .before .before .before .before .before .before .before .before .before .is-cabinet .ensures); place = found-within (c .before .before .before .before .before .before .before .before .before .before .before .before .before .before .before .args .cabinet .now) (c .before .before .before .before .before .before .before .before .before .before .before .before .before .before .before .args .identity .now) (sym (not-false _ (c .before .before .before .before .before .before .before .before .before .before .if1 .left)) ∙ c .before .before .before .before .before .before .before .before .before .before .before .is-cabinet .ensures) (c .before .before .before .before .before .before .before .before .before .read-identity .ensures) (c .before .before .before .before .before .before .before .if2 .left) (c .before .before .before .before .before .names-in .ensures) (c .before .before .before .before .place-of .ensures) (c .before .before .before .if3 .left); short = omega arith; eight = omega arith }
+write-place-requires c κs = empty-fits (record { long = its-size (c .before .before .before .before .before .before .before .before .before .before .before .before .before .before .args .cabinet .now) (sym (not-false _ (c .before .before .before .before .before .before .before .before .before .if1 .left)) ∙ c .before .before .before .before .before .before .before .before .before .before .is-cabinet .ensures); place = found-within (c .before .before .before .before .before .before .before .before .before .before .before .before .before .before .args .cabinet .now) (c .before .before .before .before .before .before .before .before .before .before .before .before .before .before .args .identity .now) (sym (not-false _ (c .before .before .before .before .before .before .before .before .before .if1 .left)) ∙ c .before .before .before .before .before .before .before .before .before .before .is-cabinet .ensures) (c .before .before .before .before .before .before .before .before .read-identity .ensures) (c .before .before .before .before .before .before .if2 .left) (c .before .before .before .before .names-in .ensures) (c .before .before .before .place-of .ensures) (c .before .before .if3 .left) })
 
 file-requires-4 : tie.Need-file-requires-4
 file-requires-4 c κs = search needs
@@ -75,7 +67,7 @@ same-length-4 : tie.Need-same-length-4
 same-length-4 c = search needs
 
 returns-4 : tie.Need-returns-4
-returns-4 c = removes-done (c .before .before .before .before .before .before .before .before .before .before .before .before .before .before .before .before .before .before .before .args .cabinet .now) (c .before .before .before .before .before .before .before .before .before .before .before .before .before .before .before .before .before .before .before .args .identity .now) (sym (not-false _ (c .before .before .before .before .before .before .before .before .before .before .before .before .before .before .if1 .left)) ∙ c .before .before .before .before .before .before .before .before .before .before .before .before .before .before .before .is-cabinet .ensures) (c .before .before .before .before .before .before .before .before .before .before .before .before .before .read-identity .ensures) (c .before .before .before .before .before .before .before .before .before .before .before .if2 .left) (c .before .before .before .before .before .before .before .before .before .names-in .ensures) (c .before .before .before .before .before .before .before .before .place-of .ensures) (c .before .before .before .before .before .before .before .if3 .left) (c .before .before .before .write-place .ensures) (c .file4 .ensures)
+returns-4 c = removes-done (c .before .before .before .before .before .before .before .before .before .before .before .before .before .before .before .before .before .before .args .cabinet .now) (c .before .before .before .before .before .before .before .before .before .before .before .before .before .before .before .before .before .before .args .identity .now) (sym (not-false _ (c .before .before .before .before .before .before .before .before .before .before .before .before .before .if1 .left)) ∙ c .before .before .before .before .before .before .before .before .before .before .before .before .before .before .is-cabinet .ensures) (c .before .before .before .before .before .before .before .before .before .before .before .before .read-identity .ensures) (c .before .before .before .before .before .before .before .before .before .before .if2 .left) (c .before .before .before .before .before .before .before .before .names-in .ensures) (c .before .before .before .before .before .before .before .place-of .ensures) (c .before .before .before .before .before .before .if3 .left) (c .before .before .before .write-place .ensures) (c .file4 .ensures)
 
 pub remove-key-spec : {M : Type 1} → statement M
 remove-key-spec =
@@ -94,12 +86,9 @@ remove-key-spec =
     file-requires-3
     same-length-3
     returns-3
-    sub-write-place
-    part-write-place-start
-    part-write-place-end
-    sub-write-place-2
-    part-write-place-start-2
-    part-write-place-end-2
+    sub-none
+    part-none-start
+    part-none-end
     write-place-requires
     file-requires-4
     same-length-4

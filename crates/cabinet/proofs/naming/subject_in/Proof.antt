@@ -1,9 +1,9 @@
--- `cabinet::subject_in` meets its contract.
+-- `cabinet::naming::subject_in` meets its contract.
 -- Assumes nothing.
 use Rattle.cabinet.specs.Steps.{subjectAt}
 use borrow.Author.Needs.{needs}
-use Rattle.cabinet.proofs.subject_in.Statement.{statement}
-use Rattle.cabinet.proofs.subject_in.Tie as tie
+use Rattle.cabinet.proofs.naming.subject_in.Statement.{statement}
+use Rattle.cabinet.proofs.naming.subject_in.Tie as tie
 
 part-requires : tie.Need-part-requires
 part-requires c κs = search needs

@@ -1,9 +1,9 @@
--- `cabinet::names_in` meets its contract.
+-- `cabinet::naming::names_in` meets its contract.
 -- Assumes nothing.
 use Rattle.cabinet.proofs.Bytes.{names-short, names-there}
 use borrow.Author.Needs.{needs}
-use Rattle.cabinet.proofs.names_in.Statement.{statement}
-use Rattle.cabinet.proofs.names_in.Tie as tie
+use Rattle.cabinet.proofs.naming.names_in.Statement.{statement}
+use Rattle.cabinet.proofs.naming.names_in.Tie as tie
 
 part-start-requires : tie.Need-part-start-requires
 part-start-requires c κs = search needs

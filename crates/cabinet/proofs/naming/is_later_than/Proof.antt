@@ -1,4 +1,4 @@
--- `cabinet::is_later_than` meets its contract.
+-- `cabinet::naming::is_later_than` meets its contract.
 -- Assumes nothing.
 use mathlib.Core.Path.{ap, ap₂, _∙_}
 use Rattle.text.specs.Text.{Bytes}
@@ -6,8 +6,8 @@ use Rattle.text.specs.Later.{later}
 use Rattle.subjects.specs.Subjects.{identityPart}
 use Rattle.cabinet.specs.Steps.{isLaterThan}
 use borrow.Author.Needs.{needs}
-use Rattle.cabinet.proofs.is_later_than.Statement.{statement}
-use Rattle.cabinet.proofs.is_later_than.Tie as tie
+use Rattle.cabinet.proofs.naming.is_later_than.Statement.{statement}
+use Rattle.cabinet.proofs.naming.is_later_than.Tie as tie
 
 field-in-requires : tie.Need-field-in-requires
 field-in-requires c κs = search needs

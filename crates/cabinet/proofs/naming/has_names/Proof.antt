@@ -1,9 +1,9 @@
--- `cabinet::has_names` meets its contract.
+-- `cabinet::naming::has_names` meets its contract.
 -- Assumes nothing.
 use Rattle.cabinet.proofs.Bytes.{starts-past, starts-short, starts-there}
 use borrow.Author.Needs.{needs}
-use Rattle.cabinet.proofs.has_names.Statement.{statement}
-use Rattle.cabinet.proofs.has_names.Tie as tie
+use Rattle.cabinet.proofs.naming.has_names.Statement.{statement}
+use Rattle.cabinet.proofs.naming.has_names.Tie as tie
 
 part-start-requires : tie.Need-part-start-requires
 part-start-requires c κs = search needs
