@@ -10,12 +10,14 @@ enum {
     PLACES = OBSCURLANE_CABINET_PLACES,
     WIDTH = OBSCURLANE_CABINET_WIDTH,
     SIZE = OBSCURLANE_CABINET_SIZE,
+    TVP_AT = OBSCURLANE_CABINET_TVP_AT,
     NUMBER_AT = OBSCURLANE_CABINET_NUMBER_AT,
+    TVP_BYTES = NUMBER_AT - TVP_AT,
     EDGE = 16, /* so many bytes stand before what is lent, and behind it */
     MOST = 2 * SIZE
 };
 
-/* ---- keys and identities, by their parts */
+/* ---- keys, identities and requests, by their parts */
 
 /* Whose key it is. */
 struct subject {
@@ -32,6 +34,7 @@ struct text {
 #define GNT "20180120T090000Z"
 #define EARLIER "20180120T085959Z"
 #define LATER "20180120T090001Z"
+#define START "19930101T000000Z" /* the TVP of a module of which no request was admitted */
 
 static struct text identity_of(struct subject of, const char *gnt, const char *print)
 {
@@ -81,6 +84,20 @@ static struct text key_of(struct subject of, const char *gnt, char digit, bool i
     return key_until(numbers[strchr(digits, digit) - digits].expiry, of, gnt, digit, is_signed);
 }
 
+/* A load request of this module, of which the identity has this GNT and this Fingerprint. */
+static struct text request_by(struct subject of, const char *gnt, const char *print, const char *tvp)
+{
+    char digits[192 + 1];
+    memset(digits, '7', sizeof digits - 1);
+    digits[sizeof digits - 1] = '\0';
+    struct text id_sm = identity_of(of, gnt, print), made;
+    int len = snprintf(made.bytes, sizeof made.bytes, "VKLOAD.REQ.1|%s|%s|%s|Prism-VSM-1|STS6-001|04%s|%.48s|0000", id_sm.bytes,
+                       WORKED_ID_KMC, tvp, digits, digits);
+    made.len = (size_t)len;
+    seal(made.bytes, made.len);
+    return made;
+}
+
 static struct text as_text(const char *bytes)
 {
     struct text made;
@@ -95,6 +112,7 @@ struct held {
     bool is_there;
     struct subject of;
     char gnt[16 + 1];
+    char tvp[16 + 1];
     int64_t expiry;
     struct text record;
 };
@@ -142,11 +160,15 @@ static uint8_t put_there(struct model *model, struct subject of, const char *gnt
     if (place < PLACES && strcmp(gnt, model->places[place].gnt) <= 0) {
         return OBSCURLANE_NOT_LATER;
     }
-    place = place < PLACES ? place : free_place(model);
+    bool is_first = place == PLACES;
+    place = is_first ? free_place(model) : place;
     if (place == PLACES) {
         return OBSCURLANE_NO_PLACE;
     }
     struct held *held = &model->places[place];
+    if (is_first) {
+        memcpy(held->tvp, START, sizeof held->tvp);
+    }
     held->is_there = true;
     held->of = of;
     memcpy(held->gnt, gnt, sizeof held->gnt);
@@ -165,6 +187,20 @@ static uint8_t remove_there(struct model *model, struct subject of)
     return OBSCURLANE_ACCEPTED;
 }
 
+static uint8_t admit_there(struct model *model, struct subject of, const char *tvp)
+{
+    size_t place = place_of(model, of);
+    if (place == PLACES) {
+        return OBSCURLANE_NOT_THERE;
+    }
+    struct held *held = &model->places[place];
+    if (strcmp(tvp, held->tvp) <= 0) {
+        return OBSCURLANE_TVP_NOT_LATER;
+    }
+    memcpy(held->tvp, tvp, sizeof held->tvp);
+    return OBSCURLANE_ACCEPTED;
+}
+
 /* The number, the highest byte first. */
 static void write_number(uint8_t *place, int64_t number)
 {
@@ -173,11 +209,12 @@ static void write_number(uint8_t *place, int64_t number)
     }
 }
 
-/* A record, zeros after it, and a number. */
-static void write_held(uint8_t *place, const char *record, size_t len, int64_t number)
+/* A record, zeros after it, a TVP and a number. */
+static void write_held(uint8_t *place, const char *record, size_t len, const char *tvp, int64_t number)
 {
     memset(place, 0, WIDTH);
     memcpy(place, record, len);
+    memcpy(place + TVP_AT, tvp, TVP_BYTES);
     write_number(place, number);
 }
 
@@ -187,7 +224,7 @@ static void write_image(const struct model *model, uint8_t image[SIZE])
     for (size_t i = 0; i < PLACES; i++) {
         const struct held *held = &model->places[i];
         if (held->is_there) {
-            write_held(image + i * WIDTH, held->record.bytes, held->record.len, held->expiry);
+            write_held(image + i * WIDTH, held->record.bytes, held->record.len, held->tvp, held->expiry);
         }
     }
 }
@@ -276,6 +313,21 @@ static void take_out(struct subject of, uint8_t no)
     EXPECT(said.no == no && said.field == 0);
     expect_model();
     find(of);
+}
+
+/* What admit answers to this request of the module, the number alone; and that the cabinet is that of the model. */
+static void expect_admit(struct subject of, const struct text *request, const char *tvp, uint8_t no)
+{
+    EXPECT(admit_there(&beside, of, tvp) == no);
+    obscurlane_filed said = obscurlane_admit(cabinet, SIZE, (const uint8_t *)request->bytes, request->len);
+    EXPECT(said.no == no && said.field == 0);
+    expect_model();
+}
+
+static void admit(struct subject of, const char *tvp, uint8_t no)
+{
+    struct text request = request_by(of, GNT, PRINT, tvp);
+    expect_admit(of, &request, tvp, no);
 }
 
 /* ---- the worked example's keys */
@@ -452,19 +504,28 @@ static void refused_identities(void)
     }
 }
 
+/* Subjects that are nearly the worked example's module. */
+static const struct subject others[] = {
+    {OBSCURLANE_KIND_KMCID, "Prism", "06000001"}, {OBSCURLANE_KIND_SMMAN, "Prism", "06000001"},
+    {OBSCURLANE_KIND_SMID, "prism", "06000001"},  {OBSCURLANE_KIND_SMID, "Pris", "06000001"},
+    {OBSCURLANE_KIND_SMID, "Prism0", "06000001"}, {OBSCURLANE_KIND_SMID, "Prism0", "6000001"},
+    {OBSCURLANE_KIND_SMID, "Prism", "06000002"},  {OBSCURLANE_KIND_SMID, "Prism", "0600000"},
+    {OBSCURLANE_KIND_SMID, "Prism", "060000011"}, {OBSCURLANE_KIND_SMID, "06000001", "Prism"},
+    {OBSCURLANE_KIND_SMID, "P", "P"},             {OBSCURLANE_KIND_SMID, "Prism", "A2345678901234567890123456789012"},
+};
+
+/* What does not matter of an identity. */
+static const char *const gnts[] = {"00010101T000000Z", EARLIER, GNT, LATER, "99991231T235959Z"};
+static const char *const prints[] = {PRINT, "0000000000000000", "FFFFFFFFFFFFFFFF"};
+
+/* Dates after GNT, each later than the one before by another digit. */
+static const char *const ascending[] = {"20180120T090001Z", "20180120T090010Z", "20180120T090100Z", "20180120T091000Z",
+                                        "20180120T100000Z", "20180121T000000Z", "20180201T000000Z", "20181001T000000Z",
+                                        "20190101T000000Z", "20200101T000000Z", "21000101T000000Z", "30000101T000000Z"};
+
 /* GNT and Fingerprint of the identity are ignored; another kind, Manufacturer or MID is another Subject. */
 static void other_subjects(void)
 {
-    static const struct subject others[] = {
-        {OBSCURLANE_KIND_KMCID, "Prism", "06000001"}, {OBSCURLANE_KIND_SMMAN, "Prism", "06000001"},
-        {OBSCURLANE_KIND_SMID, "prism", "06000001"},  {OBSCURLANE_KIND_SMID, "Pris", "06000001"},
-        {OBSCURLANE_KIND_SMID, "Prism0", "06000001"}, {OBSCURLANE_KIND_SMID, "Prism0", "6000001"},
-        {OBSCURLANE_KIND_SMID, "Prism", "06000002"},  {OBSCURLANE_KIND_SMID, "Prism", "0600000"},
-        {OBSCURLANE_KIND_SMID, "Prism", "060000011"}, {OBSCURLANE_KIND_SMID, "06000001", "Prism"},
-        {OBSCURLANE_KIND_SMID, "P", "P"},             {OBSCURLANE_KIND_SMID, "Prism", "A2345678901234567890123456789012"},
-    };
-    static const char *const gnts[] = {"00010101T000000Z", EARLIER, GNT, LATER, "99991231T235959Z"};
-    static const char *const prints[] = {PRINT, "0000000000000000", "FFFFFFFFFFFFFFFF"};
     begin(0x55);
     put(worked_module, GNT, '0', OBSCURLANE_ACCEPTED);
     for (size_t i = 0; i < COUNT_OF(gnts); i++) {
@@ -489,9 +550,6 @@ static void other_subjects(void)
     }
     find(worked_module);
     /* Every digit of the GNT counts. */
-    static const char *const ascending[] = {"20180120T090001Z", "20180120T090010Z", "20180120T090100Z", "20180120T091000Z",
-                                            "20180120T100000Z", "20180121T000000Z", "20180201T000000Z", "20181001T000000Z",
-                                            "20190101T000000Z", "20200101T000000Z", "21000101T000000Z", "30000101T000000Z"};
     for (size_t i = 0; i < COUNT_OF(ascending); i++) {
         put(worked_module, ascending[i], '3', OBSCURLANE_ACCEPTED);
         put(worked_module, i == 0 ? GNT : ascending[i - 1], '4', OBSCURLANE_NOT_LATER);
@@ -505,7 +563,7 @@ static void other_subjects(void)
 static void expect_no_cabinet(size_t len)
 {
     static uint8_t before[sizeof lent];
-    static const char *const texts[] = {WORKED_KEY_SIGNED, WORKED_KEY_CENTRE, WORKED_ID_SM, WORKED_ID_KMC, ""};
+    static const char *const texts[] = {WORKED_KEY_SIGNED, WORKED_KEY_CENTRE, WORKED_ID_SM, WORKED_ID_KMC, WORKED_REQUEST, ""};
     memcpy(before, lent, sizeof before);
     obscurlane_filed said = obscurlane_check_cabinet(cabinet, len);
     EXPECT(said.no == OBSCURLANE_NOT_CABINET && said.field == 0);
@@ -517,6 +575,8 @@ static void expect_no_cabinet(size_t len)
         said = obscurlane_put_key(cabinet, len, text, text_len);
         EXPECT(said.no == OBSCURLANE_NOT_CABINET && said.field == 0);
         said = obscurlane_remove_key(cabinet, len, text, text_len);
+        EXPECT(said.no == OBSCURLANE_NOT_CABINET && said.field == 0);
+        said = obscurlane_admit(cabinet, len, text, text_len);
         EXPECT(said.no == OBSCURLANE_NOT_CABINET && said.field == 0);
         obscurlane_place place = obscurlane_find_key(cabinet, len, text, text_len);
         EXPECT(place.no == OBSCURLANE_NOT_CABINET && place.field == 0 && place.start == 0 && place.len == 0);
@@ -536,18 +596,24 @@ static void expect_no_cabinet_with(size_t at, uint8_t byte)
     cabinet[at] = was;
 }
 
-/* It is none with this in place n, and this number. */
-static void expect_no_cabinet_of(size_t n, const char *record, size_t len, int64_t number)
+/* It is none with this in place n, this TVP and this number. */
+static void expect_no_cabinet_from(size_t n, const char *record, size_t len, const char *tvp, int64_t number)
 {
     static uint8_t was[WIDTH];
     memcpy(was, cabinet + n * WIDTH, WIDTH);
-    write_held(cabinet + n * WIDTH, record, len, number);
+    write_held(cabinet + n * WIDTH, record, len, tvp, number);
     expect_no_cabinet(SIZE);
     memcpy(cabinet + n * WIDTH, was, WIDTH);
 }
 
-/* Bytes that are not zero in a free place and behind a record; a number that is damaged; a record that is cut, moved, damaged
- * or of another kind; and two of the same three names. */
+/* The same with a TVP that is right. */
+static void expect_no_cabinet_of(size_t n, const char *record, size_t len, int64_t number)
+{
+    expect_no_cabinet_from(n, record, len, START, number);
+}
+
+/* Bytes that are not zero in a free place and behind a record; a TVP and a number that are damaged; a record that is cut,
+ * moved, damaged or of another kind; and two of the same three names. */
 static void damaged(void)
 {
     static const uint8_t others[] = {1, '\n', ' ', '0', 'A', 'P', '|', 0x80, 0xFF};
@@ -619,7 +685,7 @@ static void damaged(void)
     len = write_with(WORKED_KEY_MAKER, "|SMMAN.1:", "|SMID.1:", refused);
     expect_no_cabinet_of(PLACES - 1, refused, len, seconds_in(refused));
     const int64_t maker_expiry = seconds_in(WORKED_KEY_MAKER);
-    write_held(cabinet + (PLACES - 1) * WIDTH, WORKED_KEY_MAKER, strlen(WORKED_KEY_MAKER), maker_expiry);
+    write_held(cabinet + (PLACES - 1) * WIDTH, WORKED_KEY_MAKER, strlen(WORKED_KEY_MAKER), START, maker_expiry);
     EXPECT(obscurlane_count_keys(cabinet, SIZE).count == 3);
     expect_no_cabinet_of(0, WORKED_KEY_MAKER, strlen(WORKED_KEY_MAKER), maker_expiry);
     EXPECT(obscurlane_check_cabinet(cabinet, SIZE).no == OBSCURLANE_ACCEPTED);
@@ -676,7 +742,7 @@ static void expect_number_in(size_t n, const struct number *number)
 {
     const uint8_t *place = cabinet + n * WIDTH;
     EXPECT(are_digits_of(place + NUMBER_AT, 8, number->bytes));
-    EXPECT(are_zeros(place, beside.places[n].record.len, NUMBER_AT));
+    EXPECT(are_zeros(place, beside.places[n].record.len, TVP_AT));
 }
 
 static void put_until(const struct number *number, struct subject of, const char *gnt)
@@ -704,7 +770,8 @@ static uint64_t backwards(uint64_t number)
     return turned;
 }
 
-/* One more or less; zeros; the lowest byte first; of the other sign; every bit of it. And bytes before it that are no zeros. */
+/* One more or less; zeros; the lowest byte first; of the other sign; every bit of it. And before it bytes that are no zeros, or
+ * no digits of a TVP. */
 static void other_numbers(size_t n)
 {
     const uint64_t right = (uint64_t)beside.places[n].expiry;
@@ -716,7 +783,7 @@ static void other_numbers(size_t n)
     for (int bit = 0; bit < 64; bit++) {
         expect_no_number(n, right ^ (uint64_t)1 << bit);
     }
-    for (size_t at = NUMBER_AT - 9; at < NUMBER_AT; at++) {
+    for (size_t at = TVP_AT - 9; at < NUMBER_AT; at++) {
         expect_no_cabinet_with(n * WIDTH + at, 1);
         expect_no_cabinet_with(n * WIDTH + at, 0xFF);
     }
@@ -743,37 +810,295 @@ static void every_number(void)
         take_out(worked_module, OBSCURLANE_ACCEPTED);
         EXPECT(are_zeros(cabinet, 0, WIDTH));
         expect_number_in(1, number);
-        /* A number without a record. */
+        /* A number without a record, with a TVP and without one. */
+        static const char zeros[TVP_BYTES] = {0};
+        expect_no_cabinet_of(0, "", 0, seconds_of(number->expiry));
         if (seconds_of(number->expiry) != 0) {
-            expect_no_cabinet_of(0, "", 0, seconds_of(number->expiry));
+            expect_no_cabinet_from(0, "", 0, zeros, seconds_of(number->expiry));
         }
         take_out(worked_centre, OBSCURLANE_ACCEPTED);
         EXPECT(are_zeros(cabinet, 0, SIZE));
     }
 }
 
-/* A cabinet as it was before it had numbers is none; the records in it, put into an empty one, give the same keys. */
-static void without_numbers(void)
+/* ---- the last TVP */
+
+static void expect_tvp_in(size_t n, const char *tvp)
 {
-    static uint8_t image[SIZE], old[SIZE];
-    fill();
-    memcpy(image, cabinet, SIZE);
-    for (size_t n = 0; n < PLACES; n++) {
-        write_number(cabinet + n * WIDTH, 0);
+    EXPECT(memcmp(cabinet + n * WIDTH + TVP_AT, tvp, TVP_BYTES) == 0);
+}
+
+/* The worked example's request is admitted once, for as long as its module's key is there. */
+static void worked_request(void)
+{
+    static uint8_t before[SIZE];
+    const char *const tvp = "20180125T150000Z", *const next = "20180125T150001Z";
+    struct text request = as_text(WORKED_REQUEST), module = as_text(WORKED_KEY_SIGNED);
+    struct text centre = as_text(WORKED_KEY_CENTRE), maker = as_text(WORKED_KEY_MAKER);
+    begin(0xFF);
+    expect_admit(worked_module, &request, tvp, OBSCURLANE_NOT_THERE);
+    expect_put(worked_centre, "20180110T120000Z", &centre, OBSCURLANE_ACCEPTED);
+    expect_put(worked_maker, "20180115T140000Z", &maker, OBSCURLANE_ACCEPTED);
+    expect_admit(worked_module, &request, tvp, OBSCURLANE_NOT_THERE);
+    expect_put(worked_module, GNT, &module, OBSCURLANE_ACCEPTED);
+    for (size_t n = 0; n < 3; n++) {
+        expect_tvp_in(n, START);
     }
-    expect_no_cabinet(SIZE);
-    memcpy(old, cabinet, SIZE);
+    /* The beginning itself is not later, and nothing before it is. */
+    admit(worked_module, START, OBSCURLANE_TVP_NOT_LATER);
+    admit(worked_module, "19921231T235959Z", OBSCURLANE_TVP_NOT_LATER);
+    admit(worked_module, "00010101T000000Z", OBSCURLANE_TVP_NOT_LATER);
+    /* Of all bytes the sixteen alone are others. */
+    memcpy(before, cabinet, SIZE);
+    expect_admit(worked_module, &request, tvp, OBSCURLANE_ACCEPTED);
+    expect_tvp_in(2, tvp);
+    memcpy(before + 2 * WIDTH + TVP_AT, tvp, TVP_BYTES);
+    EXPECT(memcmp(before, cabinet, SIZE) == 0);
+    expect_admit(worked_module, &request, tvp, OBSCURLANE_TVP_NOT_LATER);
+    admit(worked_module, "20180125T145959Z", OBSCURLANE_TVP_NOT_LATER);
+    /* A replacement keeps the TVP, and so does one that is refused. */
+    put(worked_module, EARLIER, '3', OBSCURLANE_NOT_LATER);
+    expect_admit(worked_module, &request, tvp, OBSCURLANE_TVP_NOT_LATER);
+    put(worked_module, LATER, '3', OBSCURLANE_ACCEPTED);
+    expect_tvp_in(2, tvp);
+    expect_admit(worked_module, &request, tvp, OBSCURLANE_TVP_NOT_LATER);
+    admit(worked_module, next, OBSCURLANE_ACCEPTED);
+    expect_admit(worked_module, &request, tvp, OBSCURLANE_TVP_NOT_LATER);
+    put(worked_module, "20180120T090002Z", '4', OBSCURLANE_ACCEPTED);
+    admit(worked_module, next, OBSCURLANE_TVP_NOT_LATER);
+    /* Another key's removal leaves it; that of its own key drops it, and a first put begins anew. */
+    take_out(worked_centre, OBSCURLANE_ACCEPTED);
+    expect_tvp_in(2, next);
+    take_out(worked_module, OBSCURLANE_ACCEPTED);
+    EXPECT(are_zeros(cabinet, 2 * WIDTH, 3 * WIDTH));
+    expect_admit(worked_module, &request, tvp, OBSCURLANE_NOT_THERE);
+    expect_put(worked_module, GNT, &module, OBSCURLANE_ACCEPTED);
+    expect_tvp_in(0, START);
+    expect_admit(worked_module, &request, tvp, OBSCURLANE_ACCEPTED);
+    expect_admit(worked_module, &request, tvp, OBSCURLANE_TVP_NOT_LATER);
+    expect_tvp_in(1, START);
+    expect_tvp_in(0, tvp);
+}
+
+/* Keys of nearly the same names are another's, of a centre with just these names too; GNT and Fingerprint of ID_SM are ignored;
+ * and every digit of the TVP counts. */
+static void other_modules(void)
+{
+    begin(0);
+    for (size_t i = 0; i < COUNT_OF(others); i++) {
+        put(others[i], GNT, '0', OBSCURLANE_ACCEPTED);
+        admit(worked_module, "99991231T235959Z", OBSCURLANE_NOT_THERE);
+    }
+    put(worked_module, GNT, '0', OBSCURLANE_ACCEPTED);
+    for (size_t i = 0; i < COUNT_OF(others); i++) {
+        if (others[i].kind == OBSCURLANE_KIND_SMID) {
+            admit(others[i], ascending[i], OBSCURLANE_ACCEPTED);
+            admit(others[i], ascending[i], OBSCURLANE_TVP_NOT_LATER);
+        } else {
+            /* A request is a module's alone. */
+            struct text request = request_by(others[i], GNT, PRINT, ascending[i]);
+            obscurlane_filed said = obscurlane_admit(cabinet, SIZE, (const uint8_t *)request.bytes, request.len);
+            EXPECT(said.no == OBSCURLANE_WRONG_KIND && said.field == OBSCURLANE_REQ_ID_SM);
+            expect_model();
+        }
+    }
+    expect_tvp_in(COUNT_OF(others), START);
+    for (size_t i = 0; i < COUNT_OF(gnts) * COUNT_OF(prints); i++) {
+        char tvp[16 + 1];
+        (void)snprintf(tvp, sizeof tvp, "199301%02uT000000Z", (unsigned)(2 + i));
+        struct text request = request_by(worked_module, gnts[i % COUNT_OF(gnts)], prints[i / COUNT_OF(gnts)], tvp);
+        expect_admit(worked_module, &request, tvp, OBSCURLANE_ACCEPTED);
+        expect_admit(worked_module, &request, tvp, OBSCURLANE_TVP_NOT_LATER);
+    }
+    for (size_t i = 0; i < COUNT_OF(ascending); i++) {
+        admit(worked_module, ascending[i], OBSCURLANE_ACCEPTED);
+        admit(worked_module, i == 0 ? GNT : ascending[i - 1], OBSCURLANE_TVP_NOT_LATER);
+        admit(worked_module, ascending[i], OBSCURLANE_TVP_NOT_LATER);
+    }
+    /* After the last one there is none. */
+    admit(worked_module, "99991231T235959Z", OBSCURLANE_ACCEPTED);
+    admit(worked_module, "99991231T235959Z", OBSCURLANE_TVP_NOT_LATER);
+}
+
+/* In a full cabinet each module has its own. */
+static void every_module(void)
+{
+    fill();
+    for (size_t i = 0; i < PLACES; i++) {
+        size_t n = i * 27 % PLACES;
+        char tvp[16 + 1], other[16 + 1];
+        (void)snprintf(tvp, sizeof tvp, "2018%02u01T0000%02uZ", (unsigned)(1 + i % 12), (unsigned)(i % 60));
+        (void)snprintf(other, sizeof other, "20190101T0000%02uZ", (unsigned)(i % 60));
+        if (nth(n).kind == OBSCURLANE_KIND_SMID) {
+            admit(nth(n), tvp, OBSCURLANE_ACCEPTED);
+            admit(nth(n), tvp, OBSCURLANE_TVP_NOT_LATER);
+            put(nth(n), LATER, '9', OBSCURLANE_ACCEPTED);
+            admit(nth(n), tvp, OBSCURLANE_TVP_NOT_LATER);
+            admit(nth(n), other, OBSCURLANE_ACCEPTED);
+        }
+    }
+}
+
+/* What the cabinet has of the worked example's module, for what is expected of a request. */
+static uint8_t for_the_module;
+
+/* A request's own numbers come before 26 and 27; a record that is no request is 2, after its length. */
+static void expect_admitting(const char *record, size_t len, uint8_t no, uint8_t field)
+{
+    static const char start[] = "VKLOAD.REQ.1|";
+    bool is_request = len >= strlen(start) && memcmp(record, start, strlen(start)) == 0;
+    if (len <= OBSCURLANE_LONGEST_READ && !is_request) {
+        no = OBSCURLANE_UNKNOWN_KIND;
+        field = 0;
+    } else if (no == OBSCURLANE_ACCEPTED) {
+        no = for_the_module;
+    }
+    obscurlane_filed said = obscurlane_admit(cabinet, SIZE, (const uint8_t *)record, len);
+    EXPECT(said.no == no && said.field == field);
+    expect_model();
+}
+
+static void refused_requests(void)
+{
+    static const struct {
+        const char *old, *with;
+        uint8_t no, field;
+    } faults[] = {
+        {"VKLOAD.REQ.1|", "VKLOAD.REQ.2|", OBSCURLANE_UNKNOWN_KIND, 0},
+        {"VKLOAD.REQ.1|", "VKLOAD.REQ.1:", OBSCURLANE_UNKNOWN_KIND, 0},
+        {"|20180125T150000Z|", "|", OBSCURLANE_WRONG_COUNT, 0},
+        {"|20180125T", "|20180125T150000Z|20180125T", OBSCURLANE_WRONG_COUNT, 0},
+        {"|SMID.1:", "|SMID.2:", OBSCURLANE_WRONG_IDENTITY, OBSCURLANE_REQ_ID_SM},
+        {":20180120T", ":20180231T", OBSCURLANE_WRONG_IDENTITY, OBSCURLANE_REQ_ID_SM},
+        {"|SMID.1:", "|KMCID.1:", OBSCURLANE_WRONG_KIND, OBSCURLANE_REQ_ID_SM},
+        {"|KMCID.1:", "|SMID.1:", OBSCURLANE_WRONG_KIND, OBSCURLANE_REQ_ID_KMC},
+        {"|20180125T", "|20180231T", OBSCURLANE_WRONG_TEXT, OBSCURLANE_REQ_TVP},
+        {"|20180125T150000Z|", "||", OBSCURLANE_WRONG_TEXT, OBSCURLANE_REQ_TVP},
+        {"|Prism-VSM-1|", "||", OBSCURLANE_WRONG_TEXT, OBSCURLANE_REQ_HWID},
+        {"|0473", "|0573", OBSCURLANE_WRONG_TEXT, OBSCURLANE_REQ_QE},
+        {"|BE6C", "|be6c", OBSCURLANE_WRONG_TEXT, OBSCURLANE_REQ_MAC_TAG},
+    };
+    struct text module = as_text(WORKED_KEY_SIGNED);
+    begin(0);
+    for (int is_there = 0; is_there <= 1; is_there++) {
+        for_the_module = is_there == 1 ? OBSCURLANE_TVP_NOT_LATER : OBSCURLANE_NOT_THERE;
+        if (is_there == 1) {
+            expect_put(worked_module, GNT, &module, OBSCURLANE_ACCEPTED);
+            admit(worked_module, "20180125T150000Z", OBSCURLANE_ACCEPTED);
+        }
+        expect_every_record(expect_admitting);
+        for (size_t i = 0; i < COUNT_OF(faults); i++) {
+            char request[ROOM];
+            size_t len = write_with(WORKED_REQUEST, faults[i].old, faults[i].with, request);
+            expect_admitting(request, len, faults[i].no, faults[i].field);
+        }
+        /* A damaged request is refused for its check, also where it would be admitted. */
+        struct text request = request_by(worked_module, GNT, PRINT, "20190101T000000Z");
+        for (size_t at = 0; at < request.len; at++) {
+            request.bytes[at] ^= 1;
+            obscurlane_filed said = obscurlane_admit(cabinet, SIZE, (const uint8_t *)request.bytes, request.len);
+            EXPECT(said.no >= OBSCURLANE_UNKNOWN_KIND && said.no <= OBSCURLANE_WRONG_CHECK && said.field == 0);
+            request.bytes[at] ^= 1;
+        }
+        expect_model();
+    }
+}
+
+/* It is none with this TVP in place n. */
+static void expect_no_tvp(size_t n, const char tvp[TVP_BYTES])
+{
+    const struct held *held = &beside.places[n];
+    expect_no_cabinet_from(n, held->record.bytes, held->record.len, tvp, held->expiry);
+}
+
+/* What is no TIMESTAMP, in every byte, and what is before the beginning; and dates that may stand there, from which a module
+ * goes on. */
+static void every_tvp(void)
+{
+    static const char *const none[] = {
+        "19921231T235959Z", "19920229T000000Z", "19700101T000000Z", "00010101T000000Z", "09991231T235959Z", "19930100T000000Z",
+        "19930001T000000Z", "19931301T000000Z", "19930132T000000Z", "19930229T000000Z", "21000229T000000Z", "20230431T000000Z",
+        "19930101T240000Z", "19930101T006000Z", "19930101T000060Z", "00000101T000000Z", "19930101t000000Z", "19930101T000000z",
+        "19930101T0000000", "1993010100000000", " 9930101T000000Z", "+9930101T000000Z", "9930101T000000ZZ", "T000000Z19930101",
+        "                ", "0000000000000000", "ZZZZZZZZZZZZZZZZ", "19930101T00000Z", "\00019930101T00000",
+        "93-01-01 00:00 Z",
+    };
+    static const char *const dates[] = {START, "19930101T000001Z", "20000229T000000Z", "20180125T150000Z", "99991231T235958Z"};
+    static const uint8_t bytes[] = {0, 1, '\n', ' ', '/', ':', 'A', 'z', '|', 0x80, 0xFF};
+    for (int is_centre = 0; is_centre <= 1; is_centre++) {
+        const struct subject of = is_centre == 1 ? worked_centre : worked_module;
+        begin(0);
+        put(nth(0), GNT, '0', OBSCURLANE_ACCEPTED);
+        put(of, GNT, '1', OBSCURLANE_ACCEPTED);
+        for (size_t i = 0; i < COUNT_OF(none); i++) {
+            expect_no_tvp(1, none[i]);
+        }
+        char tvp[TVP_BYTES];
+        memset(tvp, 0, sizeof tvp);
+        expect_no_tvp(1, tvp);
+        memset(tvp, 0xFF, sizeof tvp);
+        expect_no_tvp(1, tvp);
+        for (size_t i = 0; i < COUNT_OF(dates); i++) {
+            struct held *held = &beside.places[1];
+            memcpy(held->tvp, dates[i], sizeof held->tvp);
+            memcpy(cabinet + WIDTH + TVP_AT, dates[i], TVP_BYTES);
+            expect_model();
+            for (size_t at = 0; at < TVP_BYTES * COUNT_OF(bytes); at++) {
+                expect_no_cabinet_with(WIDTH + TVP_AT + at % TVP_BYTES, bytes[at / TVP_BYTES]);
+            }
+            if (is_centre == 0) {
+                admit(of, START, OBSCURLANE_TVP_NOT_LATER);
+                admit(of, dates[i], OBSCURLANE_TVP_NOT_LATER);
+                admit(of, "99991231T235959Z", OBSCURLANE_ACCEPTED);
+            }
+        }
+        /* A TVP without a record, and in a free place. */
+        take_out(of, OBSCURLANE_ACCEPTED);
+        expect_no_cabinet_from(1, "", 0, START, 0);
+        expect_no_cabinet_from(PLACES - 1, "", 0, "20180125T150000Z", 0);
+    }
+}
+
+/* ---- cabinets of older versions */
+
+/* The records of the old bytes, put into an empty cabinet, give that of the model. */
+static void rebuild(const uint8_t old[SIZE])
+{
     EXPECT(obscurlane_make_cabinet(cabinet, SIZE).no == OBSCURLANE_ACCEPTED);
     for (const uint8_t *place = old; place < old + SIZE; place += WIDTH) {
         size_t len = (size_t)((const uint8_t *)memchr(place, 0, WIDTH) - place);
         EXPECT(len > 0 && obscurlane_put_key(cabinet, SIZE, place, len).no == OBSCURLANE_ACCEPTED);
     }
-    EXPECT(memcmp(cabinet, image, SIZE) == 0);
     expect_model();
-    /* All zeros are the number of the beginning. */
+}
+
+/* A cabinet as it was before it had TVPs is none, and neither is one from before it had numbers; the records in it, put into an
+ * empty one, give the same keys. */
+static void from_before(void)
+{
+    static uint8_t old[SIZE];
+    for (int has_numbers = 0; has_numbers <= 1; has_numbers++) {
+        fill();
+        for (size_t n = 0; n < PLACES; n++) {
+            memset(cabinet + n * WIDTH + TVP_AT, 0, TVP_BYTES);
+            if (has_numbers == 0) {
+                write_number(cabinet + n * WIDTH, 0);
+            }
+        }
+        expect_no_cabinet(SIZE);
+        memcpy(old, cabinet, SIZE);
+        rebuild(old);
+    }
+    /* TVPs without numbers are not enough, but for keys that expire at the beginning, whose number is all zeros. */
+    for (size_t n = 0; n < PLACES; n++) {
+        write_number(cabinet + n * WIDTH, 0);
+    }
+    expect_no_cabinet(SIZE);
     begin(0);
-    struct text record = key_until("19930101T000000Z", worked_maker, GNT, '1', true);
+    struct text record = key_until(START, worked_maker, GNT, '1', true);
     memcpy(cabinet, record.bytes, record.len);
+    expect_no_cabinet(SIZE);
+    memcpy(cabinet + TVP_AT, START, TVP_BYTES);
     EXPECT(obscurlane_check_cabinet(cabinet, SIZE).no == OBSCURLANE_ACCEPTED);
     EXPECT(obscurlane_count_keys(cabinet, SIZE).count == 1);
 }
@@ -791,20 +1116,52 @@ static size_t below(size_t limit)
     return state % limit;
 }
 
+/* The TVPs of a module's requests that were admitted since its latest first put. */
+struct admissions {
+    char tvps[1000][16 + 1];
+    size_t count;
+};
+
+/* No two of them are the same: each is later than all before. */
+static void note(struct admissions *module, const char *tvp)
+{
+    for (size_t i = 0; i < module->count; i++) {
+        EXPECT(strcmp(module->tvps[i], tvp) < 0);
+    }
+    EXPECT(module->count < COUNT_OF(module->tvps));
+    memcpy(module->tvps[module->count], tvp, sizeof module->tvps[0]);
+    module->count++;
+}
+
+/* A TVP of few days of 1993, or one that goes on with the calls. */
+static void write_tvp(size_t call, char tvp[16 + 1])
+{
+    if (below(2) == 0) {
+        (void)snprintf(tvp, 16 + 1, "199301%02uT0000%02uZ", (unsigned)(1 + below(2)), (unsigned)below(3));
+    } else {
+        unsigned minutes = (unsigned)(call + below(5));
+        (void)snprintf(tvp, 16 + 1, "20180125T%02u%02u00Z", minutes / 60, minutes % 60);
+    }
+}
+
 /* Calls in no order, each held against the model: puts of keys with GNTs of few days, so that some are later and some are not;
- * removals; finds; and records and identities that are refused. First puts less removals is how many there are. */
+ * removals; finds; requests of modules that are there and of such that are not; and records and identities that are refused.
+ * First puts less removals is how many there are, and no two requests of a module since its latest first put share a TVP. */
 static void history(uint32_t seed, size_t subjects, size_t calls)
 {
+    static struct admissions admitted[SUBJECTS / 3 + 1];
     size_t first_puts = 0, removals = 0;
     state = seed;
+    memset(admitted, 0, sizeof admitted);
     begin((uint8_t)seed);
     for (size_t call = 0; call < calls; call++) {
-        struct subject of = nth(below(subjects));
+        const size_t n = below(subjects);
+        struct subject of = nth(n);
         char gnt[16 + 1];
         (void)snprintf(gnt, sizeof gnt, "201801%02uT0000%02uZ", (unsigned)(1 + below(3)), (unsigned)below(10));
         struct text record = key_of(of, gnt, "0123456789ABCDEF"[below(16)], below(2) == 0);
         struct text identity = identity_of(of, gnt, "0123456789ABCDEF");
-        switch (below(8)) {
+        switch (below(11)) {
         case 0:
         case 1:
             record.bytes[below(record.len)] ^= 1;
@@ -821,6 +1178,27 @@ static void history(uint32_t seed, size_t subjects, size_t calls)
         case 3:
             find_by(of, &identity);
             break;
+        case 4:
+        case 5:
+        case 6: {
+            /* Of the module with this MID, whichever kind of key with it is there. */
+            const struct subject module = {OBSCURLANE_KIND_SMID, of.maker, of.mid};
+            const size_t place = place_of(&beside, module);
+            char tvp[16 + 1];
+            write_tvp(call, tvp);
+            bool is_there = place < PLACES, is_later = is_there && strcmp(tvp, beside.places[place].tvp) > 0;
+            uint8_t no = is_later ? OBSCURLANE_ACCEPTED : (is_there ? OBSCURLANE_TVP_NOT_LATER : OBSCURLANE_NOT_THERE);
+            struct text request = request_by(module, gnt, "0123456789ABCDEF", tvp);
+            expect_admit(module, &request, tvp, no);
+            if (no == OBSCURLANE_ACCEPTED) {
+                note(&admitted[n / 3], tvp);
+                expect_admit(module, &request, tvp, OBSCURLANE_TVP_NOT_LATER);
+            }
+            request.bytes[below(request.len)] ^= 1;
+            EXPECT(obscurlane_admit(cabinet, SIZE, (const uint8_t *)request.bytes, request.len).no != OBSCURLANE_ACCEPTED);
+            expect_model();
+            break;
+        }
         default: {
             size_t place = place_of(&beside, of);
             bool is_first = place == PLACES, is_full = count_of(&beside) == PLACES;
@@ -828,6 +1206,9 @@ static void history(uint32_t seed, size_t subjects, size_t calls)
             uint8_t no = is_first ? (is_full ? OBSCURLANE_NO_PLACE : OBSCURLANE_ACCEPTED)
                                   : (is_later ? OBSCURLANE_ACCEPTED : OBSCURLANE_NOT_LATER);
             first_puts += is_first && !is_full;
+            if (is_first && of.kind == OBSCURLANE_KIND_SMID) {
+                admitted[n / 3].count = 0;
+            }
             expect_put(of, gnt, &record, no);
             find_by(of, &identity);
             break;
@@ -839,7 +1220,8 @@ static void history(uint32_t seed, size_t subjects, size_t calls)
 
 void call_for_cabinets(void)
 {
-    EXPECT(SIZE == PLACES * WIDTH && NUMBER_AT == WIDTH - 8 && OBSCURLANE_LONGEST_PUBKEY < OBSCURLANE_CABINET_NUMBER_AT);
+    EXPECT(SIZE == PLACES * WIDTH && NUMBER_AT == WIDTH - 8 && TVP_AT == NUMBER_AT - 16);
+    EXPECT(OBSCURLANE_LONGEST_PUBKEY < OBSCURLANE_CABINET_TVP_AT);
     worked_keys();
     full();
     refused_records();
@@ -849,7 +1231,12 @@ void call_for_cabinets(void)
     damaged_when_full();
     lengths();
     every_number();
-    without_numbers();
+    worked_request();
+    other_modules();
+    every_module();
+    refused_requests();
+    every_tvp();
+    from_before();
     history(1, 3, 300);
     history(2, 20, 300);
     history(3, SUBJECTS, 600);

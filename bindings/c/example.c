@@ -2,7 +2,7 @@
  * its tag is right; then prints the attributes of its second wrapped key, the Fingerprint of the centre's public key, and how
  * many days the key had left when the request was made; reads and writes the line of a manufacturer's file, the module's signed
  * key with its trailer; reads the request out of a letter, and writes it as it goes by mail; and keeps the keys in a cabinet,
- * where it finds the one of the request's module, and those that expire soon. */
+ * where it finds the one of the request's module, admits the request once, and finds the keys that expire soon. */
 #include "obscurlane.h"
 #include "worked.h"
 
@@ -125,6 +125,25 @@ static void print_expiring(const uint8_t *cabinet, int64_t now)
     }
 }
 
+/* The last TVP that was accepted for the module whose key stands here in the cabinet. */
+static const char *last_tvp(const uint8_t *cabinet, size_t start)
+{
+    return (const char *)cabinet + start + OBSCURLANE_CABINET_TVP_AT;
+}
+
+/* A request that was delivered twice is admitted once. Its tag was confirmed before, and the cabinet would be stored before the
+ * request is answered. */
+static void print_admissions(uint8_t *cabinet, size_t start)
+{
+    enum { TVP_BYTES = OBSCURLANE_CABINET_NUMBER_AT - OBSCURLANE_CABINET_TVP_AT };
+    printf("  TVP     %.*s\n", TVP_BYTES, last_tvp(cabinet, start));
+    for (int delivery = 0; delivery < 2; delivery++) {
+        obscurlane_filed said = obscurlane_admit(cabinet, OBSCURLANE_CABINET_SIZE, (const uint8_t *)request, request_len);
+        printf("  admit   %s\n", obscurlane_reason(said.no));
+        printf("  TVP     %.*s\n", TVP_BYTES, last_tvp(cabinet, start));
+    }
+}
+
 /* The keys are put in, and the module's is found by the identity in the request, whose GNT and Fingerprint do not matter. */
 static void print_cabinet(const uint8_t *identity, size_t identity_len)
 {
@@ -139,6 +158,7 @@ static void print_cabinet(const uint8_t *identity, size_t identity_len)
     obscurlane_place place = obscurlane_find_key(cabinet, sizeof cabinet, identity, identity_len);
     if (place.no == OBSCURLANE_ACCEPTED) {
         printf("  found   %.*s..\n", 40, (const char *)cabinet + place.start);
+        print_admissions(cabinet, place.start);
     }
     print_expiring(cabinet, obscurlane_moment_of((const uint8_t *)"20201231T120000Z", 16).seconds);
     obscurlane_filed said = obscurlane_remove_key(cabinet, sizeof cabinet, identity, identity_len);

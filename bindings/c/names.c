@@ -31,6 +31,7 @@ static const char *const reasons[] = {
     [OBSCURLANE_NOT_LATER] = "the GNT is not later than that of the key in the cabinet",
     [OBSCURLANE_NO_PLACE] = "no place of the cabinet is free",
     [OBSCURLANE_NOT_THERE] = "the cabinet has no key of this kind, Manufacturer and MID",
+    [OBSCURLANE_TVP_NOT_LATER] = "the TVP is not later than the last one accepted for the module",
 };
 
 struct kind {

@@ -1,8 +1,8 @@
 /*
  * Obscurlane: reading, checking and building the identity, public key, load request, load response and wrapped key records
- * of STS 600-4-2, files of them, plain and manufacturers', one of them by mail, the centre's cabinet of public keys, dates and
- * Expiry as numbers, the texts that a key agreement hashes, the tags that confirm it, SHA-384 with the Fingerprints that are
- * made by it, and SHA-1, which is in a manufacturer's line.
+ * of STS 600-4-2, files of them, plain and manufacturers', one of them by mail, the centre's cabinet of public keys, with the
+ * last TVP of each module, dates and Expiry as numbers, the texts that a key agreement hashes, the tags that confirm it,
+ * SHA-384 with the Fingerprints that are made by it, and SHA-1, which is in a manufacturer's line.
  *
  * Link with libexports.a, which `bindings/archive` proves, compiles for the machine that it runs on and puts into
  * target/staticlib/; or with the one that `bindings/archive module` puts into target/module/target/staticlib/, which has the
@@ -42,9 +42,9 @@
 #include <stddef.h>
 #include <stdint.h>
 
-#define OBSCURLANE_VERSION "0.10.0"
+#define OBSCURLANE_VERSION "0.11.0"
 #define OBSCURLANE_VERSION_MAJOR 0
-#define OBSCURLANE_VERSION_MINOR 10
+#define OBSCURLANE_VERSION_MINOR 11
 #define OBSCURLANE_VERSION_PATCH 0
 
 #ifdef __cplusplus
@@ -103,15 +103,17 @@ enum {
     OBSCURLANE_MISSING_BEGINS = 21,
     /* No later ENDS line matches the first BEGINS line. */
     OBSCURLANE_MISSING_ENDS = 22,
-    /* The lent bytes are no cabinet, also where the number in a place is not that of the record's Expiry. Making one: they are
-     * of another length. */
+    /* The lent bytes are no cabinet, also where the number in a place is not that of the record's Expiry, or its TVP is none.
+     * Making one: they are of another length. */
     OBSCURLANE_NOT_CABINET = 23,
     /* The GNT of the key to put is not later than that of the key in the cabinet that it would replace. */
     OBSCURLANE_NOT_LATER = 24,
     /* No place of the cabinet is free: 64 other Subjects are present. */
     OBSCURLANE_NO_PLACE = 25,
-    /* The cabinet has no key of the identity's kind, Manufacturer and MID, to find or to remove. */
-    OBSCURLANE_NOT_THERE = 26
+    /* The cabinet has no key of the identity's kind, Manufacturer and MID, to find or to remove; or of a request's ID_SM. */
+    OBSCURLANE_NOT_THERE = 26,
+    /* The TVP of the request is not later than the last one that was accepted for its module. */
+    OBSCURLANE_TVP_NOT_LATER = 27
 };
 
 /*
@@ -230,7 +232,8 @@ enum {
     OBSCURLANE_CABINET_PLACES = 64,
     OBSCURLANE_CABINET_WIDTH = 1024,
     OBSCURLANE_CABINET_SIZE = 65536,
-    /* Where the number of Expiry begins in an occupied place: its last eight bytes. */
+    /* Where the last TVP begins in an occupied place, 16 bytes, and behind it the number of Expiry: its last eight bytes. */
+    OBSCURLANE_CABINET_TVP_AT = 1000,
     OBSCURLANE_CABINET_NUMBER_AT = 1016
 };
 
@@ -467,14 +470,21 @@ obscurlane_expiry obscurlane_expiry_of(const uint8_t *record, size_t record_len)
  *
  * A cabinet has OBSCURLANE_CABINET_PLACES places of OBSCURLANE_CABINET_WIDTH bytes, one behind the other. A place is free, and
  * then all zeros; or it starts with a public key, PK.ECDSA.1 or PK.ECDH.1, that obscurlane_read_record accepts, has zeros after
- * it, and in its last eight bytes, from OBSCURLANE_CABINET_NUMBER_AT on, the seconds that obscurlane_expiry_of answers to the
- * record: two's complement, the highest byte first. No two of the records share Subject kind, Manufacturer and MID. By these
- * three a key is found, replaced and taken out; GNT and Fingerprint of its Subject are no part of them.
+ * it, in 16 bytes from OBSCURLANE_CABINET_TVP_AT on a TVP, and in its last eight bytes, from OBSCURLANE_CABINET_NUMBER_AT on,
+ * the seconds that obscurlane_expiry_of answers to the record: two's complement, the highest byte first. No two of the records
+ * share Subject kind, Manufacturer and MID. By these three a key is found, replaced and taken out, and a module by the ID_SM of
+ * its request; GNT and Fingerprint of the identity are no part of them.
  *
  * The number is written with the record, and goes with it. Where it is another one the bytes are no cabinet; so it is what the
  * text says in every cabinet, and a program that wants to know which keys expire looks at the first byte of each place, which
- * is 0 where it is free, and at the number. Up to version 0.9 zeros stood in its bytes. Such a cabinet is none any more, unless
- * all of its keys expire at 19930101T000000Z: the records in it are put into one that is made empty.
+ * is 0 where it is free, and at the number.
+ *
+ * The TVP is the last one that was accepted for the module, by obscurlane_admit, and 19930101T000000Z where none was. It is a
+ * TIMESTAMP, and not before that; otherwise the bytes are no cabinet. A key that is replaced leaves it to the one that takes
+ * its place; a key that is taken out takes it along.
+ *
+ * Up to version 0.10 zeros stood in the bytes of the TVP, and up to 0.9 in those of the number. Such a cabinet is none any
+ * more, unless it is empty: the records in it are put into one that is made empty.
  *
  * These bytes are all that there is of a cabinet: a program may store them in a file, copy and compare them. All other memory
  * is no cabinet. Every call but the one that makes it asks first whether the bytes are one, whoever wrote them, and so reads
@@ -483,7 +493,8 @@ obscurlane_expiry obscurlane_expiry_of(const uint8_t *record, size_t record_len)
  *
  * After any calls since obscurlane_make_cabinet, where nothing else has written the bytes, they are a cabinet. Its occupied
  * places number the accepted first puts less the accepted removals, and obscurlane_find_key gives the last record of these
- * three names that was put in and not removed.
+ * three names that was put in and not removed. Since the latest first put of a module's key, no two of its requests that were
+ * admitted share a TVP, and each was later than all before it. What was admitted before that put is forgotten.
  */
 
 /* What is answered by a call that changes a cabinet, or asks whether it is one. */
@@ -508,17 +519,31 @@ obscurlane_filed obscurlane_check_cabinet(const uint8_t *cabinet, size_t cabinet
 /* How many keys a cabinet has. Answers 0, or 23. */
 obscurlane_counted obscurlane_count_keys(const uint8_t *cabinet, size_t cabinet_len);
 
-/* Puts a public key in. Where the cabinet has one of the same Subject kind, Manufacturer and MID, it is replaced in its place;
- * else the lowest free place is taken. Answers OBSCURLANE_NOT_CABINET; then what obscurlane_read_record answers to the record,
- * but OBSCURLANE_UNKNOWN_KIND for a record of another kind; then OBSCURLANE_NOT_LATER where the GNT of its Subject is earlier
- * than that of the record to replace, or equal; then OBSCURLANE_NO_PLACE where there is none to replace and no place is free:
- * 0 to 9, or 23 to 25. A full cabinet takes replacements. */
+/* Puts a public key in. Where the cabinet has one of the same Subject kind, Manufacturer and MID, it is replaced in its place,
+ * and the TVP there stays; else it is a first put: the lowest free place is taken, with the TVP 19930101T000000Z. Answers
+ * OBSCURLANE_NOT_CABINET; then what obscurlane_read_record answers to the record, but OBSCURLANE_UNKNOWN_KIND for a record of
+ * another kind; then OBSCURLANE_NOT_LATER where the GNT of its Subject is earlier than that of the record to replace, or equal;
+ * then OBSCURLANE_NO_PLACE where there is none to replace and no place is free: 0 to 9, or 23 to 25. A full cabinet takes
+ * replacements. */
 obscurlane_filed obscurlane_put_key(uint8_t *cabinet, size_t cabinet_len, const uint8_t *record, size_t record_len);
 
-/* Takes out the public key of this identity's kind, Manufacturer and MID: its place is all zeros afterwards, and is used again.
- * The identity must be accepted; its GNT and Fingerprint are ignored. Answers OBSCURLANE_NOT_CABINET, then what
+/* Takes out the public key of this identity's kind, Manufacturer and MID: its place is all zeros afterwards, the TVP with it,
+ * and is used again. So requests of the module that were admitted before are admitted again once its key is put in again. The
+ * identity must be accepted; its GNT and Fingerprint are ignored. Answers OBSCURLANE_NOT_CABINET, then what
  * obscurlane_read_identity answers to the identity, then OBSCURLANE_NOT_THERE: 0 to 6, 23, or 26. */
 obscurlane_filed obscurlane_remove_key(uint8_t *cabinet, size_t cabinet_len, const uint8_t *identity, size_t identity_len);
+
+/* Admits a load request, once: the key of its module, by kind, Manufacturer and MID of its ID_SM, is in the cabinet, and the
+ * TVP is later than the last one that was accepted for that module. It is then stored in the 16 bytes from
+ * OBSCURLANE_CABINET_TVP_AT on of the key's place, and no other byte changes. GNT and Fingerprint of ID_SM are ignored. Answers
+ * OBSCURLANE_NOT_CABINET; then what obscurlane_read_record answers to the request, but OBSCURLANE_UNKNOWN_KIND for a record of
+ * another kind; then OBSCURLANE_NOT_THERE where the module's key is not there; then OBSCURLANE_TVP_NOT_LATER where the TVP is
+ * earlier than the one that is stored, or equal: 0 to 7, 9, 23, 26, or 27.
+ *
+ * What the caller owes, beside the pointers: the MacTag is not looked at, so obscurlane_confirm_request comes first. A TVP that
+ * was admitted is used up, and a forged request with a late one would lock its module out. And the changed bytes are stored
+ * before the request is answered, because an older copy of them admits again what they refuse. */
+obscurlane_filed obscurlane_admit(uint8_t *cabinet, size_t cabinet_len, const uint8_t *request, size_t request_len);
 
 /* Where the public key of this identity's kind, Manufacturer and MID stands in the cabinet's bytes, with the numbers of
  * obscurlane_remove_key. The record is the place's `len` bytes from `start` on, a part of the cabinet that holds until the next
@@ -691,7 +716,7 @@ bool obscurlane_is_print(const uint8_t *s, size_t s_len);
 
 /* ---- names, in names.c; every answer is a text that stays */
 
-/* A number in words, as "the check differs" for OBSCURLANE_WRONG_CHECK. A number above 26 has words of its own. */
+/* A number in words, as "the check differs" for OBSCURLANE_WRONG_CHECK. A number above 27 has words of its own. */
 const char *obscurlane_reason(uint8_t no);
 
 /* A kind's name, as "VKLOAD.REQ.1"; "none" for OBSCURLANE_KIND_NONE and any other number. */
