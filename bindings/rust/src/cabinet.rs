@@ -1,8 +1,8 @@
-//! The centre's key cabinet: up to 64 public keys in 65,536 lent bytes.
+//! The centre's key cabinet: up to 64 public keys in 65,536 lent bytes, each with the last TVP of its module.
 
 use crate::record::part;
 use crate::show::Text;
-use crate::{sys, Refusal, CABINET_WIDTH};
+use crate::{sys, Refusal, CABINET_NUMBER_AT, CABINET_TVP_AT, CABINET_WIDTH};
 use core::fmt;
 use core::iter::FusedIterator;
 use core::slice::ChunksExact;
@@ -11,12 +11,17 @@ use core::slice::ChunksExact;
 /// [`CABINET_SIZE`](crate::CABINET_SIZE) lent bytes.
 ///
 /// Each of its places of [`CABINET_WIDTH`](crate::CABINET_WIDTH) bytes is free, and then all zeros; or it starts with a public key
-/// that [`Record::read`](crate::Record::read) accepts, has zeros after it, and in its last eight bytes, from
+/// that [`Record::read`](crate::Record::read) accepts, has zeros after it, from [`CABINET_TVP_AT`](crate::CABINET_TVP_AT) on the
+/// last TVP that was accepted for its module, and in its last eight bytes, from
 /// [`CABINET_NUMBER_AT`](crate::CABINET_NUMBER_AT) on, what [`expiry_of`](crate::expiry_of) says of the record, in big endian and
 /// two's complement. No two of the records share Subject kind, Manufacturer and MID: by these three a key is found, replaced and
-/// taken out. The lent bytes are all that there is of a cabinet, so that a program may store them and open them again. All other
-/// memory is no cabinet, and so is one that was stored before version 0.10, in which zeros stand where the numbers do: its
-/// records are put into one that is made empty.
+/// taken out, and the module of a load request is found. The lent bytes are all that there is of a cabinet, so that a program may
+/// store them and open them again. All other memory is no cabinet, and so is one with keys that was stored before version 0.11, in
+/// which zeros stand where the TVPs do: its records are put into one that is made empty.
+///
+/// A request is admitted once, for as long as the key of its module is there: a key that is replaced leaves the TVP to the one that
+/// takes its place, and a key that is taken out takes it along. So no two requests of a module that were admitted since the latest
+/// first put of its key share a TVP, and what was admitted before that put is forgotten.
 ///
 /// Every call asks first whether the bytes are a cabinet, and so reads every record in it again. A refused call leaves all of them
 /// as they were, and one that changes a place leaves all others. While a `Cabinet` borrows the bytes, nothing else writes them; a
@@ -110,8 +115,8 @@ impl<'a> Cabinet<'a> {
         Ok(Cabinet { bytes })
     }
 
-    /// Puts a public key in. Where the cabinet has one of the same Subject kind, Manufacturer and MID, it is replaced in its place;
-    /// else the lowest free place is taken.
+    /// Puts a public key in. Where the cabinet has one of the same Subject kind, Manufacturer and MID, it is replaced in its place,
+    /// and the TVP there stays; else it is a first put: the lowest free place is taken, with the TVP 19930101T000000Z.
     ///
     /// # Errors
     ///
@@ -123,8 +128,9 @@ impl<'a> Cabinet<'a> {
         put_key(self.bytes, record)
     }
 
-    /// Takes out the public key of this identity's kind, Manufacturer and MID: its place is all zeros afterwards, and is used
-    /// again. The identity must be accepted; its GNT and Fingerprint are ignored.
+    /// Takes out the public key of this identity's kind, Manufacturer and MID: its place is all zeros afterwards, the TVP with it,
+    /// and is used again. So requests of the module that were admitted before are admitted again once its key is put in again. The
+    /// identity must be accepted; its GNT and Fingerprint are ignored.
     ///
     /// # Errors
     ///
@@ -132,6 +138,23 @@ impl<'a> Cabinet<'a> {
     #[inline]
     pub fn remove(&mut self, identity: &[u8]) -> Result<(), Refusal> {
         remove_key(self.bytes, identity)
+    }
+
+    /// Admits a load request, once: the key of its module, by kind, Manufacturer and MID of its ID_SM, is in the cabinet, and the
+    /// TVP is later than the last one that was accepted for that module. It is then stored in the key's place, and no other byte
+    /// changes. GNT and Fingerprint of ID_SM are ignored.
+    ///
+    /// The MacTag is not looked at: [`confirm_request`](crate::confirm_request) comes first, because a TVP that was admitted is
+    /// used up, and a forged request with a late one would lock its module out. And the changed [`bytes`](Cabinet::bytes) are
+    /// stored before the request is answered, because an older copy of them admits again what they refuse.
+    ///
+    /// # Errors
+    ///
+    /// The request's own refusal (reasons 1 to 7, or 9), reason 2 for a record that is no load request; then reason 26 where the key
+    /// of its module is not there; then reason 27 where its TVP is earlier than the one that is stored, or equal.
+    #[inline]
+    pub fn admit(&mut self, request: &[u8]) -> Result<(), Refusal> {
+        admit(self.bytes, request)
     }
 
     /// The public key of this identity's kind, Manufacturer and MID, a part of the lent bytes. The identity must be accepted; its
@@ -156,7 +179,8 @@ impl<'a> Cabinet<'a> {
         count_keys(self.bytes)
     }
 
-    /// All keys of the cabinet in the order of their places, each with the seconds of its Expiry as they stand in the place.
+    /// All keys of the cabinet in the order of their places, each with the last TVP of its module and the seconds of its Expiry as
+    /// they stand in the place.
     ///
     /// # Errors
     ///
@@ -281,6 +305,38 @@ pub fn remove_key(cabinet: &mut [u8], identity: &[u8]) -> Result<(), Refusal> {
     filed(&sys::remove_key(cabinet, identity))
 }
 
+/// Admits a load request to the cabinet in these bytes, once: [`Cabinet::admit`].
+///
+/// ```
+/// use obscurlane::{admit, put_key, Reason, CABINET_NUMBER_AT, CABINET_SIZE, CABINET_TVP_AT};
+///
+/// let key = b"PK.ECDH.1|SMID.1:Prism:06000001:20180120T090000Z:320C265FDC769D3E:8EFF|04795CF0B4D74920C64A\
+///     6879504A6DE9CA788076D946D2F70F8981C01137752C7C050DC6FA61C2CB3D77EFE4275826857CC286805608F43C2E9A\
+///     C8752600D99FE92CCFB7E146742F0DC9C74CEF6568CBB75AB075D2DFED2EE5531554FA844B8DBC|99991231T115959Z|||ECD4";
+/// let request = b"VKLOAD.REQ.1|SMID.1:Prism:06000001:20180120T090000Z:320C265FDC769D3E:8EFF|\
+///     KMCID.1:sts-KeyAgreement-1.2:TEST1:20180110T120000Z:4712CFF444570C8A:4C31|20180125T150000Z|\
+///     Prism-VSM-1|STS6-001|0473E2C294EE44A17A5668ABE67C1F93CBDBCE38DEF4848584C279047A8DDCFFBAE8857C2CCC1\
+///     01A50E4ADB1ECDE9E14735B8CBFA88D18BD25F247DF0014298F48BB11CA8415320E7AF7172B0B20D5C00D57D04E33D07343E\
+///     DE185299CF2CA1E10|BE6CB4AC631E12EEB5D3F85496042A3274FEAB0477935778|F6B3";
+/// let mut cabinet = vec![0; CABINET_SIZE];
+/// assert_eq!(admit(&mut cabinet, request).unwrap_err().reason, Reason::NotThere);
+/// put_key(&mut cabinet, key)?;
+///
+/// // delivered a second time, it is refused
+/// assert_eq!(admit(&mut cabinet, request), Ok(()));
+/// assert_eq!(admit(&mut cabinet, request).unwrap_err().reason, Reason::TvpNotLater);
+/// assert_eq!(cabinet[CABINET_TVP_AT..CABINET_NUMBER_AT], *b"20180125T150000Z");
+/// # Ok::<(), obscurlane::Refusal>(())
+/// ```
+///
+/// # Errors
+///
+/// Reason 23 where the bytes are no cabinet, then as [`Cabinet::admit`].
+#[inline]
+pub fn admit(cabinet: &mut [u8], request: &[u8]) -> Result<(), Refusal> {
+    filed(&sys::admit(cabinet, request))
+}
+
 /// The public key of an identity's kind, Manufacturer and MID, a part of the cabinet's bytes: [`Cabinet::find`] for bytes that are
 /// only read.
 ///
@@ -307,15 +363,20 @@ pub fn find_key<'a>(cabinet: &'a [u8], identity: &[u8]) -> Result<&'a [u8], Refu
 pub struct HeldKey<'a> {
     /// The record, a part of the cabinet's bytes.
     pub record: &'a [u8],
+    /// The last TVP that was accepted for its module, a part of the cabinet's bytes; `19930101T000000Z` where none was.
+    pub tvp: &'a [u8],
     /// The seconds from 19930101T000000Z to its Expiry: what [`expiry_of`](crate::expiry_of) says of the record.
     pub expiry: i64,
 }
 
-/// The record as text.
+/// The record and the TVP as text.
 impl fmt::Debug for HeldKey<'_> {
     fn fmt(&self, f: &mut fmt::Formatter<'_>) -> fmt::Result {
-        let HeldKey { record, expiry } = self;
-        f.debug_struct("HeldKey").field("record", &Text(record)).field("expiry", expiry).finish()
+        f.debug_struct("HeldKey")
+            .field("record", &Text(self.record))
+            .field("tvp", &Text(self.tvp))
+            .field("expiry", &self.expiry)
+            .finish()
     }
 }
 
@@ -325,12 +386,15 @@ pub struct HeldKeys<'a> {
     places: ChunksExact<'a, u8>,
 }
 
+const TVP_BYTES: usize = CABINET_NUMBER_AT - CABINET_TVP_AT;
+
 /// What stands in a place of a cabinet; nothing in a free one.
 fn held(place: &[u8]) -> Option<HeldKey<'_>> {
     let (front, number) = place.split_last_chunk()?;
+    let (front, tvp) = front.split_last_chunk::<TVP_BYTES>()?;
     let record = front.split(|&byte| byte == 0).next()?;
     let expiry = i64::from_be_bytes(*number);
-    (!record.is_empty()).then_some(HeldKey { record, expiry })
+    (!record.is_empty()).then_some(HeldKey { record, tvp, expiry })
 }
 
 impl<'a> Iterator for HeldKeys<'a> {
@@ -351,8 +415,8 @@ impl fmt::Debug for HeldKeys<'_> {
     }
 }
 
-/// All keys of the cabinet in these bytes, in the order of their places, each with the seconds of its Expiry as they stand in the
-/// place: the bytes are asked once whether they are a cabinet, and no record is read again.
+/// All keys of the cabinet in these bytes, in the order of their places, each with the last TVP of its module and the seconds of its
+/// Expiry as they stand in the place: the bytes are asked once whether they are a cabinet, and no record is read again.
 ///
 /// ```
 /// use obscurlane::{held_keys, put_key, Reason, CABINET_SIZE};
@@ -365,6 +429,7 @@ impl fmt::Debug for HeldKeys<'_> {
 /// put_key(&mut cabinet, key)?;
 /// for held in held_keys(&cabinet)? {
 ///     assert_eq!((held.record, held.expiry), (&key[..], 252_676_411_199));
+///     assert_eq!(held.tvp, b"19930101T000000Z");
 /// }
 ///
 /// // another number is no cabinet

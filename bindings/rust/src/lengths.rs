@@ -40,5 +40,7 @@ pub const CABINET_PLACES: usize = header::CABINET_PLACES;
 pub const CABINET_WIDTH: usize = header::CABINET_WIDTH;
 /// The bytes of a cabinet, which are the only length that it has.
 pub const CABINET_SIZE: usize = header::CABINET_SIZE;
+/// Where the last TVP begins in an occupied place: the sixteen bytes before the number.
+pub const CABINET_TVP_AT: usize = header::CABINET_TVP_AT;
 /// Where the number of Expiry begins in an occupied place: its last eight bytes.
 pub const CABINET_NUMBER_AT: usize = header::CABINET_NUMBER_AT;

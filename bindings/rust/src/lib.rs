@@ -40,8 +40,8 @@ pub use building::build;
 #[cfg(feature = "alloc")]
 pub use building::build_parts;
 pub use cabinet::{
-    check_cabinet, count_keys, find_key, held_keys, make_cabinet, put_key, remove_key, Cabinet,
-    HeldKey, HeldKeys,
+    admit, check_cabinet, count_keys, find_key, held_keys, make_cabinet, put_key, remove_key,
+    Cabinet, HeldKey, HeldKeys,
 };
 pub use check::{crc_of, Crc};
 pub use confirm::{confirm_request, confirm_response, ConfirmRefusal};
@@ -52,10 +52,10 @@ pub use hash::{sha1_of, sha384_of, Sha1, Sha384};
 pub use hmac::hmac_of;
 pub use kind::Kind;
 pub use lengths::{
-    CABINET_NUMBER_AT, CABINET_PLACES, CABINET_SIZE, CABINET_WIDTH, KEY_BYTES, LONGEST_CENTRE_TEXT,
-    LONGEST_FINGERPRINT, LONGEST_IDENT, LONGEST_IDENTITY, LONGEST_MAIL, LONGEST_MODULE_TEXT,
-    LONGEST_PUBKEY, LONGEST_READ, LONGEST_RECORD, LONGEST_SHARED_INFO, LONGEST_TRAILED, TRAILER,
-    Z_BYTES,
+    CABINET_NUMBER_AT, CABINET_PLACES, CABINET_SIZE, CABINET_TVP_AT, CABINET_WIDTH, KEY_BYTES,
+    LONGEST_CENTRE_TEXT, LONGEST_FINGERPRINT, LONGEST_IDENT, LONGEST_IDENTITY, LONGEST_MAIL,
+    LONGEST_MODULE_TEXT, LONGEST_PUBKEY, LONGEST_READ, LONGEST_RECORD, LONGEST_SHARED_INFO,
+    LONGEST_TRAILED, TRAILER, Z_BYTES,
 };
 pub use mail::{read_mail, write_mail};
 pub use newer::{newer, NewerRefusal};

@@ -63,15 +63,17 @@ pub enum Reason {
     MissingBegins = 21,
     /// 22: no later ENDS line matches the first BEGINS line.
     MissingEnds = 22,
-    /// 23: the lent bytes are no cabinet, also where the number in a place is not that of the record's Expiry. Making one: they
-    /// are of another length.
+    /// 23: the lent bytes are no cabinet, also where the number in a place is not that of the record's Expiry, or its TVP is
+    /// none. Making one: they are of another length.
     NotCabinet = 23,
     /// 24: the GNT of the key to put is not later than that of the key in the cabinet that it would replace.
     NotLater = 24,
     /// 25: no place of the cabinet is free: 64 other Subjects are present.
     NoPlace = 25,
-    /// 26: the cabinet has no key of the identity's kind, Manufacturer and MID, to find or to remove.
+    /// 26: the cabinet has no key of the identity's kind, Manufacturer and MID, to find or to remove; or of a request's ID_SM.
     NotThere = 26,
+    /// 27: the TVP of the request is not later than the last one that was accepted for its module.
+    TvpNotLater = 27,
 }
 
 impl Reason {
@@ -103,6 +105,7 @@ impl Reason {
         Reason::NotLater,
         Reason::NoPlace,
         Reason::NotThere,
+        Reason::TvpNotLater,
     ];
 
     /// The number, from 1.
@@ -156,6 +159,7 @@ impl Reason {
             Reason::NotLater => "the GNT is not later than that of the key in the cabinet",
             Reason::NoPlace => "no place of the cabinet is free",
             Reason::NotThere => "the cabinet has no key of this kind, Manufacturer and MID",
+            Reason::TvpNotLater => "the TVP is not later than the last one accepted for the module",
         }
     }
 }

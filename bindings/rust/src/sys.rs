@@ -286,6 +286,12 @@ extern "C" {
         identity: *const u8,
         identity_len: usize,
     ) -> Filed;
+    fn obscurlane_admit(
+        cabinet: *mut u8,
+        cabinet_len: usize,
+        request: *const u8,
+        request_len: usize,
+    ) -> Filed;
     fn obscurlane_find_key(
         cabinet: *const u8,
         cabinet_len: usize,
@@ -603,6 +609,14 @@ pub fn remove_key(cabinet: &mut [u8], identity: &[u8]) -> Filed {
             identity.as_ptr(),
             identity.len(),
         )
+    }
+}
+
+#[inline]
+pub fn admit(cabinet: &mut [u8], request: &[u8]) -> Filed {
+    // SAFETY: slices' pointers and lengths, and `cabinet` overlaps nothing.
+    unsafe {
+        obscurlane_admit(cabinet.as_mut_ptr(), cabinet.len(), request.as_ptr(), request.len())
     }
 }
 

@@ -369,7 +369,7 @@ fn what_is_made_longer_is_accepted() {
     }
 }
 
-/// A record and an identity that are longer, and the bytes of a cabinet with as many behind them or before them; a length of 0 is
+/// A record, a request and an identity that are longer, and the bytes of a cabinet with as many behind them or before them; a length of 0 is
 /// that of a cabinet modulo 65,536.
 #[test]
 fn cabinets() {
@@ -377,6 +377,9 @@ fn cabinets() {
     assert_eq!(both.put(&worked("PUBKEY_SM")), Ok(()));
     for longer in longer(&worked("PUBKEY_KMC")) {
         assert_eq!(both.put(&longer), Err((1, 0)));
+    }
+    for longer in longer(&worked("VKLOADREQ")) {
+        assert_eq!(both.admit(&longer), Err((1, 0)));
     }
     for longer in longer(&worked("ID_SM")) {
         assert_eq!(both.find(&longer), Err((1, 0)));
@@ -388,5 +391,7 @@ fn cabinets() {
         assert_eq!(numbers(obscurlane::check_cabinet(bytes)), Err(NO_CABINET));
         assert_eq!(numbers(obscurlane::find_key(bytes, &worked("ID_SM"))), Err(NO_CABINET));
         assert_eq!(numbers(Cabinet::make(&mut bytes.to_vec()).map(drop)), Err(NO_CABINET));
+        let admitted = obscurlane::admit(&mut bytes.to_vec(), &worked("VKLOADREQ"));
+        assert_eq!(numbers(admitted), Err(NO_CABINET));
     }
 }

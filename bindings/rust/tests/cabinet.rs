@@ -8,15 +8,17 @@ use compare::sample::{self, Fault, PublicKey, Signed, Subject};
 use compare::text::PRINT_DIGITS;
 use compare::worked::{worked, IDENTITIES, RECORDS};
 use held::cabinet::{
-    asked, names, own, place_with, Both, Held, NOT_LATER, NOT_THERE, NO_CABINET, NO_PLACE,
+    asked, is_tvp, names, own, place_from, place_with, requested, Both, Held, NOT_LATER, NOT_THERE,
+    NO_CABINET, NO_PLACE, START, TVP_NOT_LATER,
 };
 use held::{expected, first, lent, numbers, place, rounds, Seen};
 use obscurlane::{
-    check_cabinet, count_keys, find_key, held_keys, make_cabinet, put_key, remove_key, Cabinet,
-    Reason, Record, CABINET_NUMBER_AT, CABINET_PLACES, CABINET_SIZE, CABINET_WIDTH,
+    admit, check_cabinet, count_keys, find_key, held_keys, make_cabinet, put_key, remove_key,
+    Cabinet, Reason, Record, CABINET_NUMBER_AT, CABINET_PLACES, CABINET_SIZE, CABINET_TVP_AT,
+    CABINET_WIDTH,
 };
 
-// ---- Subjects, keys and identities
+// ---- Subjects, keys, identities and requests
 
 /// A Subject of this kind, Manufacturer and MID.
 fn subject(kind: Kind, manufacturer: &[u8], mid: &[u8], gnt: &[u8]) -> Subject {
@@ -53,6 +55,19 @@ fn key_until(random: &mut Random, subject: &Subject, expiry: &str) -> Vec<u8> {
 fn identity(random: &mut Random, subject: &Subject) -> Vec<u8> {
     let gnt = sample::timestamp(random);
     at(subject.clone(), &gnt).identity(sample::hex(random, PRINT_DIGITS))
+}
+
+/// The module among these Subjects that has this number.
+fn nth_module(number: usize) -> Subject {
+    nth(3 * number + 1)
+}
+
+/// A permitted request of this module, with another GNT and another Fingerprint.
+fn request(random: &mut Random, module: &Subject, tvp: &[u8]) -> Vec<u8> {
+    let mut fields = sample::fields(random, Kind::VkloadReq, Signed::No);
+    fields[0] = identity(random, module);
+    fields[2] = tvp.to_vec();
+    sample::of_kind(Kind::VkloadReq, &fields)
 }
 
 /// A cabinet with the first so many Subjects.
@@ -182,13 +197,10 @@ fn the_worked_keys() {
     }
 }
 
-/// Another kind, Manufacturer or MID, nearly the same ones too, is another Subject; another GNT or Fingerprint is not.
-#[test]
-fn other_names() {
-    let mut random = Random::with_seed(206);
-    let one = subject(Kind::Smid, b"Prism", b"06000001", EQUAL);
+/// A module, and Subjects that have nearly its names.
+fn one_and_others() -> (Subject, Vec<Subject>) {
     let longest = [b'A'; obscurlane::LONGEST_IDENT];
-    let others = [
+    let others = vec![
         subject(Kind::Kmcid, b"Prism", b"06000001", EQUAL),
         subject(Kind::Smman, b"Prism", b"06000001", EQUAL),
         subject(Kind::Smid, b"prism", b"06000001", EQUAL),
@@ -203,6 +215,14 @@ fn other_names() {
         subject(Kind::Smid, &longest, &longest, EQUAL),
         subject(Kind::Smid, &longest, &longest[1..], EQUAL),
     ];
+    (subject(Kind::Smid, b"Prism", b"06000001", EQUAL), others)
+}
+
+/// Another kind, Manufacturer or MID, nearly the same ones too, is another Subject; another GNT or Fingerprint is not.
+#[test]
+fn other_names() {
+    let mut random = Random::with_seed(206);
+    let (one, others) = one_and_others();
     let mut both = Both::new();
     assert_eq!(both.put(&key(&mut random, &one)), Ok(()));
     for _ in 0..100 {
@@ -244,7 +264,7 @@ fn every_choice_of_faults_in_a_put() {
             let mut bytes = if is_full { full.clone() } else { less.clone() };
             if is_none {
                 let place = random.below(CABINET_PLACES - 1);
-                bytes[place * CABINET_WIDTH + 1000] = random.one_of(b"\n 0A");
+                bytes[place * CABINET_WIDTH + CABINET_TVP_AT - 1] = random.one_of(b"\n 0A");
             }
             let before = bytes.clone();
             let wanted = first([
@@ -294,6 +314,42 @@ fn every_choice_of_faults_in_an_identity() {
     }
 }
 
+/// Every choice of: no cabinet, a request with a fault, a module that is not there, a TVP that is not later.
+#[test]
+fn every_choice_of_faults_in_a_request() {
+    let mut random = Random::with_seed(220);
+    let mut some = filled(&mut random, 20);
+    assert_eq!(some.admit(&request(&mut random, &nth_module(3), EQUAL)), Ok(()));
+    for choice in 0..16 {
+        let [is_none, is_faulty, is_absent, is_old] = [1, 2, 4, 8].map(|bit| choice & bit != 0);
+        for &fault in Fault::of(Kind::VkloadReq) {
+            let whose = if is_absent { nth_module(7) } else { nth_module(3) };
+            let tvp = if is_old { random.one_of(&[&START[..], EARLIER, EQUAL]) } else { LATER };
+            let mut asking = request(&mut random, &whose, tvp);
+            let mut wrong = (0, 0);
+            if is_faulty {
+                asking = sample::faulty(&mut random, Kind::VkloadReq, &[fault]);
+                wrong = requested(&asking).expect_err("it is faulty");
+            }
+            let mut bytes = some.bytes.clone();
+            if is_none {
+                let place = random.below(20);
+                bytes[place * CABINET_WIDTH + CABINET_TVP_AT + random.below(16)] ^= 0x80;
+            }
+            let before = bytes.clone();
+            let wanted = first([
+                (is_none, NO_CABINET),
+                (is_faulty, wrong),
+                (is_absent, NOT_THERE),
+                (is_old, TVP_NOT_LATER),
+            ]);
+            let said = numbers(admit(&mut bytes, &asking));
+            assert_eq!(said, wanted, "{choice} {fault:?}");
+            assert!(said.is_ok() || bytes == before, "{choice}");
+        }
+    }
+}
+
 // ---- what is no cabinet
 
 /// 23 from every call, and no byte is another.
@@ -303,20 +359,27 @@ fn expect_no_cabinet(bytes: &mut [u8], what: &str) {
     assert_eq!(numbers(count_keys(bytes)), Err(NO_CABINET), "{what}");
     assert_eq!(numbers(held_keys(bytes).map(drop)), Err(NO_CABINET), "{what}");
     assert_eq!(expected(compare::cabinet::check(bytes)), Err(NO_CABINET), "{what}");
-    for text in [worked("PUBKEY_SM"), worked("ID_SM"), worked("ID_KMC"), Vec::new()] {
+    let texts = ["PUBKEY_SM", "ID_SM", "ID_KMC", "VKLOADREQ"].map(worked);
+    for text in texts.into_iter().chain([Vec::new()]) {
         assert_eq!(numbers(find_key(bytes, &text)), Err(NO_CABINET), "{what}");
         assert_eq!(numbers(put_key(bytes, &text)), Err(NO_CABINET), "{what}");
         assert_eq!(numbers(remove_key(bytes, &text)), Err(NO_CABINET), "{what}");
+        assert_eq!(numbers(admit(bytes, &text)), Err(NO_CABINET), "{what}");
     }
     assert_eq!(Cabinet::open(bytes).unwrap_err().reason, Reason::NotCabinet, "{what}");
     assert!(bytes == before, "{what}");
 }
 
-/// A cabinet with these bytes at the front of a place, zeros after them, and this number.
+/// A cabinet with these bytes in a place.
+fn with_bytes(cabinet: &[u8], place: usize, bytes: &[u8]) -> Vec<u8> {
+    let mut cabinet = cabinet.to_vec();
+    cabinet[place * CABINET_WIDTH..][..CABINET_WIDTH].copy_from_slice(bytes);
+    cabinet
+}
+
+/// A cabinet with these bytes at the front of a place, zeros after them, the TVP of a first put, and this number.
 fn with_place(cabinet: &[u8], place: usize, front: &[u8], number: i64) -> Vec<u8> {
-    let mut bytes = cabinet.to_vec();
-    bytes[place * CABINET_WIDTH..][..CABINET_WIDTH].copy_from_slice(&place_with(front, number));
-    bytes
+    with_bytes(cabinet, place, &place_with(front, number))
 }
 
 #[test]
@@ -342,7 +405,7 @@ fn bytes_that_are_not_zeros() {
     let mut random = Random::with_seed(210);
     let both = filled(&mut random, 3);
     let len = both.model.0[2].as_ref().expect("a key").record.len();
-    let ends = (2 * CABINET_WIDTH + len..2 * CABINET_WIDTH + CABINET_NUMBER_AT).step_by(7);
+    let ends = (2 * CABINET_WIDTH + len..2 * CABINET_WIDTH + CABINET_TVP_AT).step_by(7);
     let free = (3..CABINET_PLACES).map(|place| place * CABINET_WIDTH);
     let free = free.flat_map(|start| [start, start + 1, start + 1023]);
     for at in ends.chain(free).chain([2 * CABINET_WIDTH + len]) {
@@ -391,7 +454,7 @@ fn other_contents() {
         }
         for &fault in Fault::of(kind) {
             let faulty = sample::faulty(&mut random, kind, &[fault]);
-            if faulty.len() <= CABINET_NUMBER_AT {
+            if faulty.len() <= CABINET_TVP_AT {
                 wrong.push(faulty);
             }
         }
@@ -507,13 +570,15 @@ fn other_numbers() {
             let mut cabinet = with_place(&both.bytes, 40, &record, other);
             expect_no_cabinet(&mut cabinet, &format!("{other} for {expiry}"));
         }
-        for at in CABINET_NUMBER_AT - 9..CABINET_NUMBER_AT {
+        for at in CABINET_TVP_AT - 9..CABINET_NUMBER_AT {
             let mut cabinet = cabinet.clone();
-            cabinet[40 * CABINET_WIDTH + at] = random.one_of(b"\x01\x80\xFF0");
+            cabinet[40 * CABINET_WIDTH + at] = random.one_of(b"\x01\x80\xFFA");
             expect_no_cabinet(&mut cabinet, &format!("byte {at} before {expiry}"));
         }
+        let mut alone = with_place(&both.bytes, 40, b"", right);
+        expect_no_cabinet(&mut alone, &format!("{right}, a TVP and no key"));
         if right != 0 {
-            let mut alone = with_place(&both.bytes, 40, b"", right);
+            let mut alone = with_bytes(&both.bytes, 40, &place_from(b"", &[0; 16], right));
             expect_no_cabinet(&mut alone, &format!("{right} and no key"));
         }
     }
@@ -533,38 +598,238 @@ fn numbers_of_other_places() {
     }
 }
 
-/// Bytes that were stored before there were numbers are no cabinet, but for keys that expire when 1993 begins. The records in them,
-/// put into an empty one, have theirs.
+// ---- the last TVP
+
+/// The sixteen bytes before the number of a place.
+fn tvp_in(cabinet: &[u8], place: usize) -> &[u8] {
+    &cabinet[place * CABINET_WIDTH..][CABINET_TVP_AT..CABINET_NUMBER_AT]
+}
+
+/// Admitted once, and again only where the key was taken out and put in again.
+#[test]
+fn the_worked_request() {
+    let mut random = Random::with_seed(221);
+    let mut both = Both::new();
+    let (request, tvp) = (worked("VKLOADREQ"), b"20180125T150000Z");
+    for name in ["PUBKEY_KMC", "PUBKEY_MAN"] {
+        assert_eq!(both.put(&worked(name)), Ok(()));
+        assert_eq!(both.admit(&request), Err(NOT_THERE));
+    }
+    assert_eq!(both.put(&worked("PUBKEY_SM_NOSIG")), Ok(()));
+    assert_eq!(tvp_in(&both.bytes, 2), START);
+    let mut wanted = both.bytes.clone();
+    wanted[2 * CABINET_WIDTH + CABINET_TVP_AT..][..16].copy_from_slice(tvp);
+    assert_eq!(both.admit(&request), Ok(()));
+    assert!(both.bytes == wanted);
+    assert_eq!(both.admit(&request), Err(TVP_NOT_LATER));
+    // A replacement keeps the TVP, and so does one that is refused.
+    assert_eq!(both.put(&worked("PUBKEY_SM")), Err(NOT_LATER));
+    assert_eq!(both.admit(&request), Err(TVP_NOT_LATER));
+    let module = subject(Kind::Smid, b"Prism", b"06000001", LATER);
+    assert_eq!(both.put(&key(&mut random, &module)), Ok(()));
+    assert_eq!(tvp_in(&both.bytes, 2), tvp);
+    assert_eq!(both.admit(&request), Err(TVP_NOT_LATER));
+    assert_eq!(both.remove(&worked("ID_SM")), Ok(()));
+    assert_eq!(both.admit(&request), Err(NOT_THERE));
+    assert_eq!(both.put(&worked("PUBKEY_SM")), Ok(()));
+    assert_eq!(both.admit(&request), Ok(()));
+    assert_eq!(both.admit(&request), Err(TVP_NOT_LATER));
+    for name in RECORDS.into_iter().filter(|&name| name != "VKLOADREQ") {
+        assert_eq!(both.admit(&worked(name)), Err((2, 0)), "{name}");
+    }
+    for name in IDENTITIES {
+        assert_eq!(both.admit(&worked(name)), Err((2, 0)), "{name}");
+    }
+}
+
+/// The beginning of 1993 is not later than itself, and neither is any date before it.
+#[test]
+fn the_first_tvp() {
+    let mut random = Random::with_seed(222);
+    let mut both = filled(&mut random, 10);
+    for old in [&START[..], b"19921231T235959Z", b"00010101T000000Z", b"19700101T000000Z"] {
+        assert_eq!(both.admit(&request(&mut random, &nth_module(1), old)), Err(TVP_NOT_LATER));
+    }
+    for next in [&b"19930101T000001Z"[..], b"99991231T235959Z"] {
+        let asking = request(&mut random, &nth_module(1), next);
+        assert_eq!(both.admit(&asking), Ok(()));
+        assert_eq!(both.admit(&asking), Err(TVP_NOT_LATER));
+    }
+}
+
+/// In every order of the digits of a TVP.
+#[test]
+fn every_digit_of_the_tvp() {
+    let mut random = Random::with_seed(223);
+    let (mut both, module) = (filled(&mut random, 2), nth_module(0));
+    for _ in 0..rounds().div_ceil(10) {
+        assert_eq!(both.remove(&identity(&mut random, &module)), Ok(()));
+        assert_eq!(both.put(&key(&mut random, &module)), Ok(()));
+        let mut last = START.to_vec();
+        for _ in 0..3 {
+            let tvp = sample::timestamp(&mut random);
+            let wanted = if last < tvp { Ok(()) } else { Err(TVP_NOT_LATER) };
+            assert_eq!(both.admit(&request(&mut random, &module, &tvp)), wanted);
+            last = last.max(tvp);
+        }
+    }
+}
+
+/// A key of another kind, Manufacturer or MID, nearly the same ones too, is not the module's.
+#[test]
+fn other_modules() {
+    let mut random = Random::with_seed(224);
+    let (one, others) = one_and_others();
+    let mut both = Both::new();
+    for other in &others {
+        assert_eq!(both.put(&key(&mut random, other)), Ok(()));
+        assert_eq!(both.admit(&request(&mut random, &one, LATER)), Err(NOT_THERE));
+    }
+    assert_eq!(both.put(&key(&mut random, &one)), Ok(()));
+    for other in &others {
+        let wanted = if other.kind == Kind::Smid { Ok(()) } else { Err((9, 1)) };
+        assert_eq!(both.admit(&request(&mut random, other, LATER)), wanted);
+    }
+    assert_eq!(tvp_in(&both.bytes, others.len()), START);
+    assert_eq!(both.admit(&request(&mut random, &one, EARLIER)), Ok(()));
+}
+
+/// Of every module in a full cabinet: a replacement keeps it, a removal drops it, and no other place has another one.
+#[test]
+fn tvps_go_with_their_modules() {
+    let mut random = Random::with_seed(225);
+    let mut both = filled(&mut random, CABINET_PLACES);
+    for number in 0..CABINET_PLACES / 3 {
+        let module = nth_module(number);
+        let [one, next] = [EARLIER, EQUAL].map(|tvp| request(&mut random, &module, tvp));
+        assert_eq!(both.admit(&next), Ok(()));
+        assert_eq!(both.admit(&one), Err(TVP_NOT_LATER));
+        assert_eq!(both.put(&key(&mut random, &at(module.clone(), LATER))), Ok(()));
+        assert_eq!(both.admit(&next), Err(TVP_NOT_LATER));
+        assert_eq!(both.remove(&identity(&mut random, &module)), Ok(()));
+        assert_eq!(both.admit(&next), Err(NOT_THERE));
+        assert_eq!(both.put(&key(&mut random, &at(module.clone(), EARLIER))), Ok(()));
+        assert_eq!(both.admit(&one), Ok(()));
+        assert_eq!(both.admit(&next), Ok(()));
+        assert_eq!(both.admit(&one), Err(TVP_NOT_LATER));
+    }
+}
+
+/// What is no TIMESTAMP, or is before 1993, is no TVP of a place, whatever the kind of its key; any other date is, and a module goes
+/// on from there.
+#[test]
+fn other_tvps() {
+    let mut random = Random::with_seed(226);
+    let both = filled(&mut random, 4);
+    let mut texts = [
+        "19921231T235959Z",
+        "19920229T000000Z",
+        "00010101T000000Z",
+        "19930229T000000Z",
+        "20230431T000000Z",
+        "19930101T240000Z",
+        "19930101t000000Z",
+        "19930101T000000z",
+        "1993010100000000",
+        " 9930101T000000Z",
+        "T000000Z19930101",
+        "                ",
+        "99991231T235959Z",
+        "20000229T000000Z",
+        "19930101T000001Z",
+    ]
+    .map(|text| text.as_bytes().to_vec())
+    .to_vec();
+    texts.extend([vec![0; 16], vec![0xFF; 16], random.bytes(16)]);
+    for _ in 0..rounds().div_ceil(30) {
+        let date = sample::timestamp(&mut random);
+        let changes = random.between(1, 2);
+        texts.push(sample::damaged_anywhere(&mut random, &date, changes));
+        texts.extend([date, sample::missing_day(&mut random)]);
+    }
+    let mut accepted = 0;
+    for tvp in texts.iter().filter(|tvp| tvp.len() == START.len()) {
+        for place in 0..4 {
+            let mut both = both.clone();
+            let held = both.model.0[place].as_mut().expect("a key");
+            held.tvp.clone_from(tvp);
+            both.bytes = both.model.image();
+            if !is_tvp(tvp) {
+                expect_no_cabinet(&mut both.bytes, &format!("{tvp:?}"));
+                continue;
+            }
+            both.agree();
+            accepted += 1;
+            if nth(place).kind == Kind::Smid {
+                assert_eq!(both.admit(&request(&mut random, &nth(place), tvp)), Err(TVP_NOT_LATER));
+                let is_last = tvp == b"99991231T235959Z";
+                let last = request(&mut random, &nth(place), b"99991231T235959Z");
+                assert_eq!(both.admit(&last).is_ok(), !is_last);
+            }
+        }
+    }
+    assert!(accepted > 8, "{accepted}");
+    // A TVP without a key.
+    let mut alone = with_bytes(&both.bytes, 40, &place_from(b"", START, 0));
+    expect_no_cabinet(&mut alone, "a TVP and no key");
+}
+
+/// Bytes that were stored before there were TVPs, or numbers, are no cabinet. The records in them, put into an empty one, have both.
 #[test]
 fn bytes_from_before() {
     let mut random = Random::with_seed(219);
     let both = filled(&mut random, CABINET_PLACES);
-    let mut before = both.bytes.clone();
-    before.chunks_exact_mut(CABINET_WIDTH).for_each(|place| place[CABINET_NUMBER_AT..].fill(0));
-    expect_no_cabinet(&mut before, "without numbers");
-
-    let mut bytes = vec![0; CABINET_SIZE];
-    let mut cabinet = Cabinet::make(&mut bytes).expect("its length");
-    for place in before.chunks_exact(CABINET_WIDTH) {
-        let record = place.split(|&byte| byte == 0).next().expect("what stands before a zero");
-        assert_eq!(cabinet.put(record), Ok(()));
+    let without = |from: usize, to: usize| {
+        let mut bytes = both.bytes.clone();
+        bytes.chunks_exact_mut(CABINET_WIDTH).for_each(|place| place[from..to].fill(0));
+        bytes
+    };
+    let mut befores = [
+        without(CABINET_TVP_AT, CABINET_NUMBER_AT),
+        without(CABINET_TVP_AT, CABINET_WIDTH),
+        without(CABINET_NUMBER_AT, CABINET_WIDTH),
+    ];
+    for before in &mut befores {
+        expect_no_cabinet(before, "without TVPs or numbers");
+        let mut bytes = vec![0; CABINET_SIZE];
+        let mut cabinet = Cabinet::make(&mut bytes).expect("its length");
+        for place in before.chunks_exact(CABINET_WIDTH) {
+            let record = place.split(|&byte| byte == 0).next().expect("what stands before a zero");
+            assert_eq!(cabinet.put(record), Ok(()));
+        }
+        assert!(bytes == both.bytes);
     }
-    assert!(bytes == both.bytes);
 
+    // Where the number is zeros a key still needs its TVP.
     let key = key_until(&mut random, &nth(0), "19930101T000000Z");
     let bytes = with_place(&[0; CABINET_SIZE], 0, &key, 0);
     assert_eq!(count_keys(&bytes), Ok(1));
+    let mut bytes = with_bytes(&[0; CABINET_SIZE], 0, &place_from(&key, &[0; 16], 0));
+    expect_no_cabinet(&mut bytes, "without its TVP");
 }
 
 // ---- histories
 
-/// What a history may have: a key of one of so many Subjects, with a GNT of few; the same, damaged; an identity; or anything.
-fn step(random: &mut Random, both: &mut Both, subjects: usize, seen: &mut Seen) {
+/// A TVP of few, or one that goes on with the calls.
+fn any_tvp(random: &mut Random, call: usize) -> Vec<u8> {
+    let few = [&START[..], b"19930101T000001Z", b"19921231T235959Z", EARLIER, EQUAL];
+    let year = (1993 + call / 10).min(9999);
+    let next = format!("{year:04}0101T0000{:02}Z", random.below(60));
+    if random.once_in(3) {
+        random.one_of(&few).to_vec()
+    } else {
+        next.into_bytes()
+    }
+}
+
+/// What a history may have: a key of one of so many Subjects, with a GNT of few; the same, damaged; an identity; a request of the
+/// module with these names, whatever the kind of the Subject; the same twice, and damaged; or anything.
+fn step(random: &mut Random, both: &mut Both, subjects: usize, call: usize, seen: &mut Seen) {
     let gnts =
         [EARLIER, EQUAL, LATER, b"19930101T000000Z", b"20180121T090000Z", b"99991231T235959Z"];
     let gnt = random.one_of(&gnts);
     let whose = at(nth(random.below(subjects)), gnt);
-    match random.below(10) {
+    match random.below(14) {
         0..=4 => seen.add(&both.put(&key(random, &whose))),
         5 | 6 => seen.add(&both.remove(&identity(random, &whose))),
         7 => seen.add(&both.find(&identity(random, &whose))),
@@ -574,31 +839,45 @@ fn step(random: &mut Random, both: &mut Both, subjects: usize, seen: &mut Seen) 
             seen.add(&both.put(&sample::resealed(&damaged)));
             seen.add(&both.put(&damaged));
         }
+        9..=11 => {
+            let (tvp, module) = (any_tvp(random, call), Subject { kind: Kind::Smid, ..whose });
+            let request = request(random, &module, &tvp);
+            seen.add(&both.admit(&request));
+            assert!(both.admit(&request).is_err());
+        }
+        12 => {
+            let (tvp, module) = (any_tvp(random, call), Subject { kind: Kind::Smid, ..whose });
+            let request = request(random, &module, &tvp);
+            let damaged = sample::damaged_anywhere(random, &request, 1);
+            seen.add(&both.admit(&sample::resealed(&damaged)));
+            seen.add(&both.admit(&damaged));
+        }
         _ => {
             let any = sample::anything(random);
             seen.add(&both.put(&any));
             seen.add(&both.remove(&any));
             seen.add(&both.find(&any));
+            seen.add(&both.admit(&any));
         }
     }
 }
 
-/// The occupied places number the accepted first puts less the accepted removals, and find gives the last accepted put that was not
-/// removed: so says the plain cabinet, which every call is held against.
+/// The occupied places number the accepted first puts less the accepted removals, find gives the last accepted put that was not
+/// removed, and no request is admitted twice between: so says the plain cabinet, which every call is held against.
 #[test]
 fn histories() {
     let mut random = Random::with_seed(215);
     let mut seen = Seen::default();
     for subjects in [2, 10, 70, 80, 200] {
         let mut both = Both::new();
-        for _ in 0..rounds().div_ceil(8) {
-            step(&mut random, &mut both, subjects, &mut seen);
+        for call in 0..rounds().div_ceil(6) {
+            step(&mut random, &mut both, subjects, call, &mut seen);
         }
         for number in 0..subjects {
             let _ = both.find(&identity(&mut random, &nth(number)));
         }
     }
-    seen.expect([0, 24, 25, 26, 2, 4, 6], 5);
+    seen.expect([0, 24, 25, 26, 27, 2, 4, 6], 5);
 }
 
 // ---- the type
@@ -616,7 +895,7 @@ fn a_cabinet_shows_its_bytes() {
     assert_eq!(Record::read(found).map(|record| record.kind()), Ok(obscurlane::Kind::Ecdh));
 }
 
-/// In the order of their places, each a part of the bytes, with its seconds.
+/// In the order of their places, each a part of the bytes, with the last TVP and its seconds.
 #[test]
 fn a_cabinet_hands_out_its_keys() {
     let mut bytes = lent(CABINET_SIZE);
@@ -626,13 +905,19 @@ fn a_cabinet_hands_out_its_keys() {
         cabinet.put(&worked(name)).expect("a free place");
     }
     cabinet.remove(&worked("ID_MAN")).expect("it was put");
+    cabinet.admit(&worked("VKLOADREQ")).expect("its module is there");
     let mut keys = cabinet.keys().expect("a cabinet");
     let shown = format!("{keys:?}");
     assert!(shown.starts_with("[HeldKey { record: \"PK.ECDH.1|KMCID.1:"), "{shown}");
-    assert!(shown.ends_with("|4971\", expiry: 252676411199 }]"), "{shown}");
-    for (at, name, expiry) in [(0, "PUBKEY_KMC", 884_433_600), (2, "PUBKEY_SM", 252_676_411_199)] {
+    let last = "|4971\", tvp: \"20180125T150000Z\", expiry: 252676411199 }]";
+    assert!(shown.ends_with(last), "{shown}");
+    for (at, name, tvp, expiry) in [
+        (0, "PUBKEY_KMC", START, 884_433_600),
+        (2, "PUBKEY_SM", b"20180125T150000Z", 252_676_411_199),
+    ] {
         let key = keys.next().expect("a key");
         assert_eq!((key.record, key.expiry), (&worked(name)[..], expiry));
+        assert_eq!((key.tvp, place(key.tvp)), (&tvp[..], place(tvp_in(cabinet.bytes(), at))));
         assert_eq!(
             place(key.record),
             place(&cabinet.bytes()[at * CABINET_WIDTH..][..key.record.len()])

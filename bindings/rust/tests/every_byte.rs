@@ -21,7 +21,7 @@ use held::mail::{same_block, same_mail};
 use held::reading::{same_identity, same_record};
 use held::trailed::{same_trailed, same_trailed_at, same_trailed_file, same_written};
 use held::{expected, expected_at, line_numbers, numbers, place, same_output, Seen};
-use obscurlane::{CABINET_NUMBER_AT, CABINET_SIZE, CABINET_WIDTH, LONGEST_MAIL, LONGEST_RECORD};
+use obscurlane::{CABINET_SIZE, CABINET_TVP_AT, CABINET_WIDTH, LONGEST_MAIL, LONGEST_RECORD};
 
 /// Tries every byte value in one place.
 fn at_place(bytes: &[u8], place: usize, mut tried: impl FnMut(&[u8])) {
@@ -462,7 +462,7 @@ fn texts_with_mail() {
 }
 
 /// In a record in a cabinet, with its check made right again and as it was, with its number and that of the record before; behind it;
-/// in every byte of the number; and in every sixteenth place of a free one.
+/// in every byte of the TVP and of the number; and in every sixteenth place of a free one.
 #[test]
 fn cabinets() {
     let mut image = vec![0; CABINET_SIZE];
@@ -484,7 +484,7 @@ fn cabinets() {
             continue;
         }
         let place = Held::of(&record).place();
-        let behind = [len, len + 1].into_iter().chain(CABINET_NUMBER_AT - 1..CABINET_WIDTH);
+        let behind = [len, len + 1].into_iter().chain(CABINET_TVP_AT - 1..CABINET_WIDTH);
         for at in places(kind, &fields).into_iter().chain(behind) {
             at_place(&place, at, |changed| {
                 let record = sample::resealed(&changed[..len]);

@@ -8,7 +8,8 @@ use compare::sample::{self, Exchange, PublicKey};
 use obscurlane::{confirm_request, confirm_response, ConfirmRefusal};
 use obscurlane::{
     Cabinet, Reason, Record, Refusal, CABINET_NUMBER_AT, CABINET_PLACES, CABINET_SIZE,
-    CABINET_WIDTH, KEY_BYTES, LONGEST_MAIL, LONGEST_READ, LONGEST_TRAILED, TRAILER, Z_BYTES,
+    CABINET_TVP_AT, CABINET_WIDTH, KEY_BYTES, LONGEST_MAIL, LONGEST_READ, LONGEST_TRAILED, TRAILER,
+    Z_BYTES,
 };
 
 /// What a call writes with as much room as it takes; one byte less is no room.
@@ -220,11 +221,12 @@ fn bytes_that_are_read() {
 }
 
 /// Bytes of this length alone are a cabinet; it takes so many keys, each at the front of a place, and no more. Between the longest key
-/// and the number of its Expiry there are zeros.
+/// and the TVP there are zeros, and behind that the number of its Expiry.
 #[test]
 fn cabinets() {
     assert_eq!(CABINET_SIZE, CABINET_PLACES * CABINET_WIDTH);
     assert_eq!(CABINET_WIDTH, CABINET_NUMBER_AT + size_of::<i64>());
+    assert_eq!(CABINET_NUMBER_AT, CABINET_TVP_AT + "19930101T000000Z".len());
     for len in [0, CABINET_SIZE - 1, CABINET_SIZE + 1, 2 * CABINET_SIZE] {
         let refusal = Cabinet::make(&mut vec![0; len]).expect_err("another length");
         assert_eq!(refusal, Refusal { reason: Reason::NotCabinet, field: None });
@@ -244,7 +246,9 @@ fn cabinets() {
         } else {
             assert_eq!(put, Ok(()));
             let place = &cabinet.bytes()[number * CABINET_WIDTH..][..CABINET_WIDTH];
-            let (front, expiry) = place.split_at(CABINET_NUMBER_AT);
+            let (front, last) = place.split_at(CABINET_TVP_AT);
+            let (tvp, expiry) = last.split_at(CABINET_NUMBER_AT - CABINET_TVP_AT);
+            assert_eq!(tvp, b"19930101T000000Z");
             assert_eq!(
                 front.split_at(key.len()),
                 (&key[..], &vec![0; front.len() - key.len()][..])

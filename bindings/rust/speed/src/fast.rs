@@ -612,6 +612,10 @@ impl Side for Fast {
         fast_cabinet::remove_key(cabinet, identity)
     }
 
+    fn admit(cabinet: &mut [u8], request: &[u8]) -> Result<(), Refusal> {
+        fast_cabinet::admit(cabinet, request)
+    }
+
     fn find_key<'a>(cabinet: &'a [u8], identity: &[u8]) -> Result<&'a [u8], Refusal> {
         fast_cabinet::find_key(cabinet, identity)
     }

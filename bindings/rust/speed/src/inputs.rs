@@ -1,15 +1,14 @@
 //! What the sides are given, with a fixed seed; all of it is accepted.
 
-use crate::side::{Pieces, Reads, PRINT_TO_END};
+use crate::side::{Pieces, Reads, FIRST_TVP, PRINT_TO_END};
 use compare::kind::Kind;
 use compare::mail::block_of;
 use compare::moment::expiry_of;
 use compare::random::Random;
+use compare::record::read_identity;
 use compare::sample::{self, Cards, Exchange, PublicKey, Signed, Subject};
 use compare::trailed::line_of;
-use obscurlane::{
-    CABINET_NUMBER_AT, CABINET_PLACES, CABINET_SIZE, CABINET_WIDTH, KEY_BYTES, Z_BYTES,
-};
+use obscurlane::{CABINET_PLACES, CABINET_SIZE, CABINET_TVP_AT, CABINET_WIDTH, KEY_BYTES, Z_BYTES};
 
 /// A record as bytes and as what it is built from.
 pub struct Sample {
@@ -124,32 +123,54 @@ impl Kept {
     }
 }
 
-/// A place with this key: the record, zeros after it, and the seconds of its Expiry.
+/// A place with this key: the record, zeros after it, the TVP of a first put, and the seconds of its Expiry.
 pub fn place_of(record: &[u8]) -> Vec<u8> {
     let mut place = record.to_vec();
-    place.resize(CABINET_NUMBER_AT, 0);
+    place.resize(CABINET_TVP_AT, 0);
+    place.extend(FIRST_TVP);
     place.extend(expiry_of(record).expect("a key").to_be_bytes());
     place
 }
 
-/// A full cabinet, and what is in its places.
+/// A request of the module with this identity's Manufacturer and MID.
+pub fn request_of(random: &mut Random, identity: &[u8]) -> Vec<u8> {
+    let names = read_identity(identity).expect("an identity").fields;
+    let names: Vec<Vec<u8>> = names.into_iter().map(<[u8]>::to_vec).collect();
+    let mut fields = sample::fields(random, Kind::VkloadReq, Signed::No);
+    fields[0] = sample::of_kind(Kind::Smid, &names);
+    fields[2] = b"20180125T150000Z".to_vec();
+    sample::of_kind(Kind::VkloadReq, &fields)
+}
+
+/// A full cabinet, what is in its places, and for each a request that is admitted where it is a module's.
 pub struct Filed {
     pub cabinet: Vec<u8>,
     pub kept: Vec<Kept>,
+    pub requests: Vec<Vec<u8>>,
 }
 
 impl Filed {
-    fn new(random: &mut Random) -> Filed {
+    fn new(random: &mut Random, asking: &mut Random) -> Filed {
         let kept: Vec<Kept> = (0..CABINET_PLACES).map(|_| Kept::new(random)).collect();
         let places = kept.iter().map(|kept| place_of(&kept.record));
         let cabinet: Vec<u8> = places.flatten().collect();
         assert_eq!((cabinet.len(), cabinet.len() / kept.len()), (CABINET_SIZE, CABINET_WIDTH));
-        Filed { cabinet, kept }
+        let requests = kept.iter().map(|kept| request_of(asking, &kept.identity)).collect();
+        let filed = Filed { cabinet, kept, requests };
+        assert_eq!(filed.asking().count(), FILED);
+        filed
     }
 
     /// Those whose keys are found, replaced or removed in a turn, from the first place to the last.
     pub fn taken(&self) -> impl Iterator<Item = &Kept> {
         self.kept.iter().step_by(CABINET_PLACES.div_ceil(FILED))
+    }
+
+    /// The requests that are admitted in a turn: as many, of the modules that stand last.
+    pub fn asking(&self) -> impl Iterator<Item = &[u8]> {
+        let all = self.kept.iter().zip(&self.requests).rev();
+        let of_modules = all.filter(|(kept, _)| kept.identity.starts_with(b"SMID.1:"));
+        of_modules.map(|(_, request)| &request[..]).take(FILED)
     }
 }
 
@@ -172,12 +193,14 @@ pub struct Draws {
     agreed: Random,
     filed: Random,
     dates: Random,
+    asking: Random,
 }
 
 impl Draws {
-    pub fn with_seeds(seeds: [u64; 6]) -> Draws {
-        let [records, wrapped_keys, hashed, agreed, filed, dates] = seeds.map(Random::with_seed);
-        Draws { records, wrapped_keys, hashed, agreed, filed, dates }
+    pub fn with_seeds(seeds: [u64; 7]) -> Draws {
+        let [records, wrapped_keys, hashed, agreed, filed, dates, asking] =
+            seeds.map(Random::with_seed);
+        Draws { records, wrapped_keys, hashed, agreed, filed, dates, asking }
     }
 }
 
@@ -219,7 +242,7 @@ pub struct Inputs {
 
 impl Inputs {
     pub fn new(draws: &mut Draws, count: usize) -> Inputs {
-        let Draws { records: random, wrapped_keys, hashed, agreed, filed, dates } = draws;
+        let Draws { records: random, wrapped_keys, hashed, agreed, filed, dates, asking } = draws;
         let mut samples: Vec<Sample> = (0..count)
             .map(|index| {
                 let kind = match index % 5 {
@@ -250,7 +273,7 @@ impl Inputs {
         let worked = Exchange::worked();
         let agreed = (0..count).map(|_| Agreed::new(agreed, &worked)).collect();
         let bytes = hashed.bytes(MESSAGES[2] + count);
-        let filed = Filed::new(filed);
+        let filed = Filed::new(filed, asking);
         let dates = (0..count).map(|_| sample::timestamp(dates)).collect();
         Inputs {
             samples,

@@ -147,6 +147,10 @@ impl Side for Library {
         obscurlane::remove_key(cabinet, identity).map_err(refusal)
     }
 
+    fn admit(cabinet: &mut [u8], request: &[u8]) -> Result<(), Refusal> {
+        obscurlane::admit(cabinet, request).map_err(refusal)
+    }
+
     fn find_key<'a>(cabinet: &'a [u8], identity: &[u8]) -> Result<&'a [u8], Refusal> {
         obscurlane::find_key(cabinet, identity).map_err(refusal)
     }

@@ -250,6 +250,15 @@ fn removing_and_putting<S: Side>(inputs: &Inputs) {
     black_box(&cabinet);
 }
 
+/// On a copy too, in which each TVP is the first one.
+fn admitting_a_request<S: Side>(inputs: &Inputs) {
+    let mut cabinet = inputs.filed.cabinet.clone();
+    for request in inputs.filed.asking() {
+        black_box(S::admit(black_box(&mut cabinet), black_box(request))).expect("later");
+    }
+    black_box(&cabinet);
+}
+
 // ---- the measurement
 
 /// A line of the table: what each side does in a turn, and how often.
@@ -285,7 +294,7 @@ macro_rules! hashing {
     };
 }
 
-const ROWS: [Row; 30] = [
+const ROWS: [Row; 31] = [
     row!("reading", reading),
     row!("reading, all places", reading_all_places),
     row!("seven fields, one reading", seven_fields_one_reading),
@@ -316,6 +325,7 @@ const ROWS: [Row; 30] = [
     filing!("finding a key", finding_a_key),
     filing!("replacing a key", replacing_a_key),
     filing!("removing and putting", removing_and_putting),
+    filing!("admitting a request", admitting_a_request),
 ];
 
 /// Nanoseconds for a turn.
@@ -423,7 +433,7 @@ fn table(sets: &[Inputs], beside: &mut Option<Beside>) -> io::Result<()> {
 fn main() -> io::Result<()> {
     let words: Vec<String> = env::args().skip(1).collect();
     let words: Vec<&str> = words.iter().map(String::as_str).collect();
-    let mut draws = Draws::with_seeds([2026, 2029, 2031, 2033, 2035, 2037]);
+    let mut draws = Draws::with_seeds([2026, 2029, 2031, 2033, 2035, 2037, 2039]);
     let sets: Vec<Inputs> = (0..SETS).map(|_| Inputs::new(&mut draws, TURN)).collect();
     for inputs in &sets {
         same_answers::<Library, Plain>(inputs);
@@ -448,7 +458,7 @@ mod tests {
     #[test]
     fn all_sides_give_the_same_answers() {
         let inputs =
-            Inputs::new(&mut Draws::with_seeds([2028, 2030, 2032, 2034, 2036, 2038]), 3_000);
+            Inputs::new(&mut Draws::with_seeds([2028, 2030, 2032, 2034, 2036, 2038, 2040]), 3_000);
         same_answers::<Library, Plain>(&inputs);
         same_answers::<Library, Fast>(&inputs);
     }

@@ -560,6 +560,10 @@ impl Side for Plain {
         plain_cabinet::remove_key(cabinet, identity)
     }
 
+    fn admit(cabinet: &mut [u8], request: &[u8]) -> Result<(), Refusal> {
+        plain_cabinet::admit(cabinet, request)
+    }
+
     fn find_key<'a>(cabinet: &'a [u8], identity: &[u8]) -> Result<&'a [u8], Refusal> {
         plain_cabinet::find_key(cabinet, identity)
     }

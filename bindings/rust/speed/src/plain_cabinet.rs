@@ -1,18 +1,21 @@
 //! The key cabinet for `plain.rs`, in the library's form: every place is read, and its names are compared with those of all later ones.
 
-use crate::kinds::{IDENTITIES, PUBLIC_KEYS};
+use crate::kinds::{Kind, IDENTITIES, PUBLIC_KEYS};
 use crate::plain::read;
-use crate::plain_dates::seconds_of;
-use crate::side::{Refusal, GNT_TO_END, NOT_CABINET, NOT_LATER, NOT_THERE, NO_PLACE};
-use obscurlane::{CABINET_NUMBER_AT, CABINET_PLACES, CABINET_SIZE, CABINET_WIDTH};
+use crate::plain_dates::{moment_of, seconds_of};
+use crate::side::{
+    Refusal, FIRST_TVP, GNT_TO_END, NOT_CABINET, NOT_LATER, NOT_THERE, NO_PLACE, TVP_NOT_LATER,
+};
+use obscurlane::{CABINET_NUMBER_AT, CABINET_PLACES, CABINET_SIZE, CABINET_TVP_AT, CABINET_WIDTH};
 
-/// What is in an occupied place, or is to be: the record, of its Subject what stands before the GNT, and the GNT; and the number of its
-/// Expiry.
+/// What is in an occupied place, or is to be: the record, of its Subject what stands before the GNT, and the GNT; the last TVP of its
+/// module; and the number of its Expiry.
 #[derive(Clone, Copy)]
 struct Held<'a> {
     record: &'a [u8],
     names: &'a [u8],
     gnt: &'a [u8],
+    tvp: &'a [u8; 16],
     number: [u8; 8],
 }
 
@@ -28,11 +31,15 @@ fn read_key(record: &[u8]) -> Result<Held<'_>, Refusal> {
     let [subject, _, expiry, ..] = read(record, PUBLIC_KEYS)?.1.parts;
     let (names, rest) = split(subject);
     let number = seconds_of(expiry).to_be_bytes();
-    Ok(Held { record, names, gnt: &rest[..16], number })
+    Ok(Held { record, names, gnt: &rest[..16], tvp: FIRST_TVP, number })
 }
 
 fn are_zeros(bytes: &[u8]) -> bool {
     bytes.iter().all(|&byte| byte == 0)
+}
+
+fn is_tvp(text: &[u8]) -> bool {
+    moment_of(text).is_some_and(|seconds| seconds >= 0)
 }
 
 fn read_place(place: &[u8]) -> Result<Option<Held<'_>>, Refusal> {
@@ -40,11 +47,12 @@ fn read_place(place: &[u8]) -> Result<Option<Held<'_>>, Refusal> {
     if len == 0 {
         return are_zeros(place).then_some(None).ok_or(NOT_CABINET);
     }
-    let (front, number) = place.split_at(CABINET_NUMBER_AT);
+    let (front, last) = place.split_at(CABINET_TVP_AT);
+    let (tvp, number) = last.split_first_chunk().ok_or(NOT_CABINET)?;
     let (record, rest) = front.split_at_checked(len).ok_or(NOT_CABINET)?;
     let held = read_key(record).map_err(|_| NOT_CABINET)?;
-    let is_held = are_zeros(rest) && held.number == number;
-    is_held.then_some(Some(held)).ok_or(NOT_CABINET)
+    let is_held = are_zeros(rest) && is_tvp(tvp) && held.number == number;
+    is_held.then_some(Some(Held { tvp, ..held })).ok_or(NOT_CABINET)
 }
 
 fn place_of(shelf: &[Option<Held<'_>>], names: &[u8]) -> Option<usize> {
@@ -76,8 +84,8 @@ fn sought<'a>(cabinet: &'a [u8], identity: &[u8]) -> Result<(usize, &'a [u8]), R
     Ok((place, shelf[place].map_or(&[], |held| held.record)))
 }
 
-/// The place that a record takes, and the number that goes with it.
-fn place_for(cabinet: &[u8], record: &[u8]) -> Result<(usize, [u8; 8]), Refusal> {
+/// The place that a record takes, the TVP that stays there or is that of a first put, and the number that goes with the record.
+fn place_for(cabinet: &[u8], record: &[u8]) -> Result<(usize, [u8; 16], [u8; 8]), Refusal> {
     let shelf = read_cabinet(cabinet)?;
     let key = read_key(record)?;
     let place = match place_of(&shelf, key.names) {
@@ -85,17 +93,20 @@ fn place_for(cabinet: &[u8], record: &[u8]) -> Result<(usize, [u8; 8]), Refusal>
         Some(place) => Ok(place),
         None => shelf.iter().position(Option::is_none).ok_or(NO_PLACE),
     };
-    place.map(|place| (place, key.number))
+    let tvp = |place: usize| *shelf[place].map_or(FIRST_TVP, |held| held.tvp);
+    place.map(|place| (place, tvp(place), key.number))
 }
 
-/// The record, zeros after it, and the number; zeros alone where there is none.
-fn write_place(cabinet: &mut [u8], place: usize, record: &[u8], number: [u8; 8]) {
+/// The record, zeros after it, the TVP and the number; zeros alone where there is none.
+fn write_place(cabinet: &mut [u8], place: usize, record: &[u8], tvp: [u8; 16], number: [u8; 8]) {
     let place = &mut cabinet[place * CABINET_WIDTH..][..CABINET_WIDTH];
-    let (front, last) = place.split_at_mut(CABINET_NUMBER_AT);
+    let (front, last) = place.split_at_mut(CABINET_TVP_AT);
     let (front, rest) = front.split_at_mut(record.len());
     front.copy_from_slice(record);
     rest.fill(0);
-    last.copy_from_slice(&number);
+    let (before, behind) = last.split_at_mut(tvp.len());
+    before.copy_from_slice(&tvp);
+    behind.copy_from_slice(&number);
 }
 
 pub fn check_cabinet(cabinet: &[u8]) -> Result<(), Refusal> {
@@ -103,14 +114,25 @@ pub fn check_cabinet(cabinet: &[u8]) -> Result<(), Refusal> {
 }
 
 pub fn put_key(cabinet: &mut [u8], record: &[u8]) -> Result<(), Refusal> {
-    let (place, number) = place_for(cabinet, record)?;
-    write_place(cabinet, place, record, number);
+    let (place, tvp, number) = place_for(cabinet, record)?;
+    write_place(cabinet, place, record, tvp, number);
     Ok(())
 }
 
 pub fn remove_key(cabinet: &mut [u8], identity: &[u8]) -> Result<(), Refusal> {
     let (place, _) = sought(cabinet, identity)?;
-    write_place(cabinet, place, &[], [0; 8]);
+    write_place(cabinet, place, &[], [0; 16], [0; 8]);
+    Ok(())
+}
+
+pub fn admit(cabinet: &mut [u8], request: &[u8]) -> Result<(), Refusal> {
+    let shelf = read_cabinet(cabinet)?;
+    let [id_sm, _, tvp, ..] = read(request, &[Kind::Request])?.1.parts;
+    let place = place_of(&shelf, split(id_sm).0).ok_or(NOT_THERE)?;
+    if shelf[place].is_some_and(|held| tvp <= &held.tvp[..]) {
+        return Err(TVP_NOT_LATER);
+    }
+    cabinet[place * CABINET_WIDTH..][CABINET_TVP_AT..CABINET_NUMBER_AT].copy_from_slice(tvp);
     Ok(())
 }
 

@@ -1,7 +1,9 @@
 //! That two sides give the same answers and leave the same outputs: to everything that is measured, and to as many inputs that
 //! are damaged or nothing at all.
 
-use crate::inputs::{place_of, Agreed, Filed, Inputs, Kept, Printed, Sample, MESSAGES, TAGGED};
+use crate::inputs::{
+    place_of, request_of, Agreed, Filed, Inputs, Kept, Printed, Sample, MESSAGES, TAGGED,
+};
 use crate::side::{Fields, Line, NamedRefusal, Reads, Refusal, Side};
 use compare::kind::Kind;
 use compare::mail::block_of;
@@ -9,8 +11,8 @@ use compare::random::Random;
 use compare::sample::{self, Exchange, Fault, ListFault, PublicKey};
 use compare::trailed::line_of;
 use obscurlane::{
-    CABINET_NUMBER_AT, CABINET_PLACES, CABINET_WIDTH, KEY_BYTES, LONGEST_MAIL, LONGEST_MODULE_TEXT,
-    LONGEST_RECORD, TRAILER, Z_BYTES,
+    CABINET_NUMBER_AT, CABINET_PLACES, CABINET_TVP_AT, CABINET_WIDTH, KEY_BYTES, LONGEST_MAIL,
+    LONGEST_MODULE_TEXT, LONGEST_RECORD, TRAILER, Z_BYTES,
 };
 
 /// The places of the fields, not only their bytes.
@@ -339,9 +341,21 @@ fn same_filing<A: Side, B: Side>(cabinet: &[u8], record: &[u8], identity: &[u8])
     assert!(one == other, "{identity:?}: {:?}, {:?}", one.0, other.0);
 }
 
-/// A full cabinet, and one with free places: keys that are there, later ones, others, and what is refused. Then the same bytes
-/// damaged, of another length, with the names of one place in another, and with another number, or none, in a place.
-fn same_cabinets<A: Side, B: Side>(random: &mut Random, Filed { cabinet, kept }: &Filed) {
+/// The answer to a request, and to the same once more, and to the key of its module that is replaced afterwards.
+fn same_admission<A: Side, B: Side>(cabinet: &[u8], request: &[u8], later: &[u8]) {
+    let (mut one, mut other) = (cabinet.to_vec(), cabinet.to_vec());
+    for _ in 0..2 {
+        assert_eq!(A::admit(&mut one, request), B::admit(&mut other, request), "{request:?}");
+        assert!(one == other, "{request:?}");
+    }
+    assert_eq!(A::put_key(&mut one, later), B::put_key(&mut other, later), "{later:?}");
+    assert!(one == other, "{later:?}");
+}
+
+/// A full cabinet, and one with free places: keys that are there, later ones, others, requests, and what is refused. Then the same
+/// bytes damaged, of another length, with the names of one place in another, and with another number or TVP, or none, in a place.
+fn same_cabinets<A: Side, B: Side>(random: &mut Random, filed: &Filed) {
+    let Filed { cabinet, kept, requests } = filed;
     assert_eq!(A::check_cabinet(cabinet), Ok(()));
     let mut less = cabinet.clone();
     for kept in kept.iter().step_by(3) {
@@ -349,6 +363,7 @@ fn same_cabinets<A: Side, B: Side>(random: &mut Random, Filed { cabinet, kept }:
         assert_eq!(B::remove_key(&mut cabinet.clone(), &kept.identity), Ok(()));
     }
     for (index, Kept { record, later, identity }) in kept.iter().enumerate().step_by(7) {
+        let request = &requests[index];
         let other = Kept::new(random);
         let damaged = sample::damaged_anywhere(random, later, 1);
         let asking = sample::damaged_anywhere(random, identity, 1);
@@ -360,9 +375,17 @@ fn same_cabinets<A: Side, B: Side>(random: &mut Random, Filed { cabinet, kept }:
             same_filing::<A, B>(cabinet, &damaged, &sample::resealed(&asking));
             same_filing::<A, B>(cabinet, &sample::resealed(&damaged), &any);
             same_filing::<A, B>(cabinet, &any, record);
+            let asking = sample::damaged_anywhere(random, request, 1);
+            let resealed = sample::resealed(&asking);
+            let others = request_of(random, &other.identity);
+            for request in [request, &others, &asking, &resealed, &any, record, identity] {
+                same_admission::<A, B>(cabinet, request, later);
+            }
             let wrong = sample::damaged_anywhere(random, cabinet, 1);
             same_filing::<A, B>(&wrong, later, identity);
+            same_admission::<A, B>(&wrong, request, later);
             same_filing::<A, B>(&cabinet[1..], later, identity);
+            same_admission::<A, B>(&cabinet[1..], request, later);
         }
         let mut twice = less.clone();
         let place = (index + 1 + random.below(CABINET_PLACES - 1)) % CABINET_PLACES;
@@ -375,8 +398,19 @@ fn same_cabinets<A: Side, B: Side>(random: &mut Random, Filed { cabinet, kept }:
         others[2][number.clone()][random.below(8)] ^= 1 << random.below(8);
         others[3][number.start - 1] = 1;
         others[4][number.start - CABINET_NUMBER_AT..number.start].fill(0);
+        let tvp = index * CABINET_WIDTH + CABINET_TVP_AT..number.start;
+        let date = sample::timestamp(random);
+        let wrong = [sample::missing_day(random), sample::damaged_anywhere(random, &date, 1)];
+        let dates = [b"19921231T235959Z", b"20180125T145959Z", b"20180125T150000Z", &[0; 16]];
+        let texts = dates.map(|text| text.to_vec()).into_iter().chain(wrong).chain([date]);
+        for text in texts.filter(|text| text.len() == tvp.len()) {
+            let mut cabinet = cabinet.clone();
+            cabinet[tvp.clone()].copy_from_slice(&text);
+            others.push(cabinet);
+        }
         for wrong in others {
             same_filing::<A, B>(&wrong, later, identity);
+            same_admission::<A, B>(&wrong, request, later);
         }
     }
 }

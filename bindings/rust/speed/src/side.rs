@@ -25,6 +25,7 @@ pub const NOT_CABINET: Refusal = (23, 0);
 pub const NOT_LATER: Refusal = (24, 0);
 pub const NO_PLACE: Refusal = (25, 0);
 pub const NOT_THERE: Refusal = (26, 0);
+pub const TVP_NOT_LATER: Refusal = (27, 0);
 
 /// A refusal, and the record whose own it is: 1 the request, 2 the response, 0 neither.
 pub type NamedRefusal = (u8, Refusal);
@@ -53,6 +54,9 @@ pub const PRINT_TO_END: usize = 16 + 1 + 4;
 
 /// So many stand from its GNT on, which has sixteen characters and a mark.
 pub const GNT_TO_END: usize = 16 + 1 + PRINT_TO_END;
+
+/// The TVP of a module of which no request was admitted.
+pub const FIRST_TVP: &[u8; 16] = b"19930101T000000Z";
 
 /// Where Expiry stands among the fields of a public key.
 pub const EXPIRY: usize = 2;
@@ -113,5 +117,7 @@ pub trait Side {
     fn check_cabinet(cabinet: &[u8]) -> Result<(), Refusal>;
     fn put_key(cabinet: &mut [u8], record: &[u8]) -> Result<(), Refusal>;
     fn remove_key(cabinet: &mut [u8], identity: &[u8]) -> Result<(), Refusal>;
+    /// Admits a load request, and stores its TVP.
+    fn admit(cabinet: &mut [u8], request: &[u8]) -> Result<(), Refusal>;
     fn find_key<'a>(cabinet: &'a [u8], identity: &[u8]) -> Result<&'a [u8], Refusal>;
 }

@@ -121,7 +121,7 @@ pub fn expected_at(file: &[u8], place: usize) -> Option<LineNumbers> {
 
 /// How often each number was answered, 0 being accepted.
 #[derive(Debug, Default)]
-pub struct Seen([usize; 27]);
+pub struct Seen([usize; 28]);
 
 impl Seen {
     pub fn add<T>(&mut self, answer: &Result<T, Numbers>) {
