@@ -20,7 +20,7 @@ pub const WIDTH: usize = 1024;
 
 pub const SIZE: usize = 65536;
 
-// Where the last TVP begins in a place, the record and the zeros after it before it; and behind it the number of Expiry.
+// Where the last TVP begins in a place, behind the record and the zeros after it, and behind that the number of Expiry.
 pub const TVP_AT: usize = 1000;
 
 pub const NUMBER_AT: usize = 1016;

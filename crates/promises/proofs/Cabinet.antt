@@ -341,29 +341,25 @@ remove-said s i after x w =
 
 module _ (s q after : Bytes) (x : Filed) (w : Files (admit s q) after x) where
   module _ {ps : List shelves.Place} (e : shelf s ≡ some ps) (R : Read s ps) where
-    -- what is read of a request is its own
-    its-names : (r : Request q) (k : Names) (t : Bytes) → requests q ≡ about k t → (k ≡ askedNames SMID (r .names)) × (t ≡ said.tvpOf r)
-    its-names r k t a = let f = sym a ∙ requests-accepted q r in (cc, cc)
-
     there-to : x .no ≡ notThere → (r : Request q) × ((j : ℕ) → Module s r j → ⊥)
     there-to n =
         let (k, t, a, f) = admit-exactly-26 s q ps e .0 (sym (number-of w) ∙ n) in
-        let r = requested q k t a .request in
-        let (u, v) = its-names r k t a in (
+        let it = requested q k t a in
+        let r = it .request in (
           r,
           λ j m.
               let (b, c) = there-so s q e R SMID (r .names) j m in
-              let z = sym f ∙ ap (λ (y : Names). lookup y ps) u ∙ b in
+              let z = sym f ∙ ap (λ (y : Names). lookup y ps) (it .names-so) ∙ b in
               let o : _≡_ {A = ℕ} 0 1 = cc in omega arith,
         )
 
     later-to : x .no ≡ tvpNotLater → (r : Request q) × (j : ℕ) × (m : Module s r j) × (later (said.tvpOf r) (m .1 .tvp) ≡ false)
     later-to n =
         let (k, t, h, a, f, l) = admit-exactly-27 s q ps e .0 (sym (number-of w) ∙ n) in
-        let r = requested q k t a .request in
-        let (u, v) = its-names r k t a in
+        let it = requested q k t a in
+        let r = it .request in
         let (j, i, p, y, m) = place-of e R k h f in
-        (r, j, (i, p, share-names SMID (p .key .who) (r .names) (p .key .names) .1 (sym u ∙ m)), ap₂ later (sym v) (ap (λ (z : Held). z .tvp) y) ∙ l)
+        (r, j, (i, p, share-names SMID (p .key .who) (r .names) (p .key .names) .1 (sym (it .names-so) ∙ m)), ap₂ later (sym (it .tvp-so)) (ap (λ (z : Held). z .tvp) y) ∙ l)
 
     module _ (r : Request q) (j : ℕ) (m : Module s r j) where
       found : lookup (askedNames SMID (r .names)) ps ≡ some (heldBy (m .1))

@@ -163,7 +163,7 @@ abbrev pub removeRead : List Place → Reading → Change
 removeRead ps (about k g) = removeAt k ps (lookup k ps)
 removeRead ps (declined n i) = refuse n i
 
--- a request is admitted only for a module in the cabinet: 26; and with a later TVP: 27, which is then stored (E10)
+-- "a request is admitted only for a module in the cabinet", 26 where there is none, "and with a later TVP, which is then stored", 27 where it is not later (E10)
 unfoldable pub admitAt : Names → Bytes → List Place → Option Held → Change
 admitAt k t ps none = refuse notThere 0
 admitAt k t ps (some h) = cond (later t (h .tvp)) (done (change (holds k) (entry (h .names) (h .gnt) (h .text) t) ps)) (refuse tvpNotLater 0)
