@@ -2,7 +2,7 @@
 
 use crate::crc::crc16;
 use crate::kind::Kind;
-use crate::record::{check_fields, LONGEST_READ};
+use crate::record::{check_fields, check_signed, LONGEST_READ};
 use crate::refusal::Refusal;
 use crate::text::check_text;
 
@@ -21,6 +21,7 @@ pub fn build(
         .filter(|fields| fields.len() == kind.fields().len())
         .ok_or(Refusal::FieldCount)?;
     check_fields(kind, &fields)?;
+    check_signed(kind, &fields)?;
 
     let mut record = Vec::new();
     for part in [kind_name].iter().chain(&fields) {

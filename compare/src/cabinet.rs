@@ -1,13 +1,15 @@
-//! Requests E8, E9 and E10: the centre's key cabinet, 64 places of 1,024 bytes in 65,536 lent bytes.
+//! Requests E8 to E11: the centre's key cabinet, 64 places of 1,024 bytes in 65,536 lent bytes.
 //!
-//! A place is all zeros, or holds an accepted public key, zeros behind it, the last TVP accepted for its module,
-//! and in its last eight bytes the number of the key's Expiry, in big endian and two's complement. No two records
-//! share the kind, Manufacturer and MID of their Subjects. All other bytes are no cabinet.
+//! A place is all zeros, or holds a public key that the rules up to E10 accept, zeros behind it, the last TVP accepted
+//! for its module, and in its last eight bytes the number of the key's Expiry, in big endian and two's complement. No
+//! two records share the kind, Manufacturer and MID of their Subjects. All other bytes are no cabinet.
+//!
+//! A record that is refused today is old: it has its place and its names, and nobody finds it.
 
 use crate::kind::Kind;
 use crate::moment::expiry_in;
 use crate::newer::{subject_in, subject_of_key, Subject};
-use crate::record::read;
+use crate::record::{read, read_up_to_e10};
 use crate::refusal::Refusal;
 use crate::text::is_timestamp;
 
@@ -36,16 +38,18 @@ struct Held {
     expiry: i64,
     record: Vec<u8>,
     tvp: Vec<u8>,
+    is_old: bool,
 }
 
 impl Held {
     fn of(record: &[u8], tvp: &[u8]) -> Result<Held, Refusal> {
-        let key = read(record, &Kind::PUBLIC_KEYS)?;
+        let key = read_up_to_e10(record, &Kind::PUBLIC_KEYS)?;
+        let is_old = read(record, &Kind::PUBLIC_KEYS).is_err();
         let Subject { entity: (kind, manufacturer, mid), gnt } = subject_in(&key);
         let entity = (kind, manufacturer.to_vec(), mid.to_vec());
         let expiry = expiry_in(&key);
         let (gnt, record, tvp) = (gnt.to_vec(), record.to_vec(), tvp.to_vec());
-        Ok(Held { entity, gnt, expiry, record, tvp })
+        Ok(Held { entity, gnt, expiry, record, tvp, is_old })
     }
 
     fn is_of(&self, (kind, manufacturer, mid): (Kind, &[u8], &[u8])) -> bool {
@@ -99,15 +103,16 @@ impl Cabinet {
         self.places.iter().flatten().count()
     }
 
-    /// Puts a public key in: over the one of the same entity, which must have an earlier GNT and whose TVP
-    /// stays, and else into the lowest free place.
+    /// Puts a public key in that is accepted today: over the one of the same entity, old or not, which must have
+    /// an earlier GNT and whose TVP stays, and else into the lowest free place.
     pub fn put(&mut self, record: &[u8]) -> Result<(), Refusal> {
+        let entity = subject_of_key(record)?.entity;
         let new = Held::of(record, &START)?;
-        if let Some(old) = self.held_of(subject_of_key(record)?.entity) {
-            if new.gnt <= old.gnt {
+        if let Some(held) = self.held_of(entity) {
+            if new.gnt <= held.gnt {
                 return Err(Refusal::NotLater);
             }
-            *old = Held { tvp: old.tvp.clone(), ..new };
+            *held = Held { tvp: held.tvp.clone(), ..new };
             return Ok(());
         }
         let free = self.places.iter_mut().find(|place| place.is_none()).ok_or(Refusal::NoPlace)?;
@@ -115,14 +120,16 @@ impl Cabinet {
         Ok(())
     }
 
-    /// Admits a load request: its module is here, and its TVP is later than the last one, which it then is.
+    /// Admits a load request: its module is here, with a key that is not old, and its TVP is later than the last one,
+    /// which it then is.
     pub fn admit(&mut self, request: &[u8]) -> Result<(), Refusal> {
         let request = read(request, &[Kind::VkloadReq])?;
         let [id_sm, _id_kmc, tvp, ..] = request.fields[..] else {
             unreachable!("an accepted request has seven fields");
         };
         let module = Subject::of(id_sm).expect("an accepted request has an accepted ID_SM");
-        let held = self.held_of(module.entity).ok_or(Refusal::NotThere)?;
+        let held = self.held_of(module.entity).filter(|held| !held.is_old);
+        let held = held.ok_or(Refusal::NotThere)?;
         if tvp <= &held.tvp[..] {
             return Err(Refusal::TvpNotLater);
         }
@@ -130,20 +137,31 @@ impl Cabinet {
         Ok(())
     }
 
-    /// Takes out the key of the entity that this identity names.
+    /// Takes out the key of the entity that this identity names, old or not.
     pub fn remove(&mut self, identity: &[u8]) -> Result<(), Refusal> {
-        let place = self.find(identity)?;
+        let (place, _) = self.named(identity)?;
         self.places[place] = None;
         Ok(())
     }
 
-    /// The place of the key of the entity that this identity names.
+    /// The place of the key of the entity that this identity names; one that is old is not there.
     pub fn find(&self, identity: &[u8]) -> Result<usize, Refusal> {
-        self.place_of(Subject::of(identity)?.entity).ok_or(Refusal::NotThere)
+        let (place, held) = self.named(identity)?;
+        if held.is_old {
+            Err(Refusal::NotThere)
+        } else {
+            Ok(place)
+        }
     }
 
-    fn place_of(&self, entity: (Kind, &[u8], &[u8])) -> Option<usize> {
-        self.places.iter().position(|place| place.as_ref().is_some_and(|held| held.is_of(entity)))
+    fn named(&self, identity: &[u8]) -> Result<(usize, &Held), Refusal> {
+        let entity = Subject::of(identity)?.entity;
+        let mut occupied = self
+            .places
+            .iter()
+            .enumerate()
+            .filter_map(|(place, held)| Some((place, held.as_ref()?)));
+        occupied.find(|(_, held)| held.is_of(entity)).ok_or(Refusal::NotThere)
     }
 
     fn held_of(&mut self, entity: (Kind, &[u8], &[u8])) -> Option<&mut Held> {
@@ -221,10 +239,20 @@ pub fn find<'a>(lent: &'a [u8], identity: &[u8]) -> Result<&'a [u8], Refusal> {
 #[cfg(test)]
 mod tests {
     use super::*;
-    use crate::worked::worked;
+    use crate::worked::{worked, UNSIGNED};
 
     /// Of the module's key: 99991231T115959Z.
     const EXPIRY: i64 = 252_676_411_199;
+
+    #[test]
+    fn a_record_is_old_that_was_accepted_before_and_is_not_today() {
+        let is_old = |name| Held::of(&worked(name), &START).map(|held| held.is_old);
+        for name in ["PUBKEY_KMC", "PUBKEY_MAN", "PUBKEY_SM"] {
+            assert_eq!(is_old(name), Ok(false), "{name}");
+        }
+        assert_eq!(is_old(UNSIGNED), Ok(true));
+        assert_eq!(is_old("VKLOADREQ"), Err(Refusal::UnknownKind));
+    }
 
     #[test]
     fn a_place_is_all_zeros_or_a_public_key_zeros_a_tvp_and_its_number() {

@@ -464,18 +464,18 @@ mod tests {
         let nothing = format!("{}{}", " 0".repeat(14), " 255".repeat(7));
         assert_eq!(refused, format!("read_record 3 0 255{nothing}"));
 
-        let identity = b"SMID.1:A:B:20180101T000000Z:0123456789ABCDEF:";
+        let identity = b"KMCID.1:A:B:20180101T000000Z:0123456789ABCDEF:";
         let identity = [&identity[..], check_text(crc16(identity)).as_bytes()].concat();
         let read = line(Op::Identity, 0, [&identity, no, no]);
         let nothing = " 255".repeat(7);
-        assert_eq!(read, format!("read_identity 0 0 1 7 9 11 28 0 0 0 1 1 16 16 0 0 0{nothing}"));
+        assert_eq!(read, format!("read_identity 0 0 2 8 10 12 29 0 0 0 1 1 16 16 0 0 0{nothing}"));
 
         let point = [&b"04"[..], &[b'0'; 192]].concat();
         let parts = [&b"PK.ECDH.1|"[..], &identity, b"|", &point, b"|20180101T000000Z|||"].concat();
         let key = [&parts[..], check_text(crc16(&parts)).as_bytes()].concat();
         let (q, expiry) = (11 + identity.len(), 12 + identity.len() + point.len());
         let starts = format!("10 {q} {expiry} {} {} 0 0", expiry + 17, expiry + 18);
-        let kinds = format!("1{}", " 255".repeat(6));
+        let kinds = format!("2{}", " 255".repeat(6));
         let expected =
             format!("read_record 0 0 4 {starts} {} 194 16 0 0 0 0 {kinds}", identity.len());
         assert_eq!(line(Op::Record, 0, [&key, no, no]), expected);

@@ -5,7 +5,7 @@ use crate::kind::Kind;
 use crate::random::Random;
 use crate::record::LONGEST_READ;
 use crate::sample::{of_kind, resealed, short_fields, wrapped_key_fields, Signed};
-use crate::worked::worked;
+use crate::worked::{worked, UNSIGNED};
 
 /// The longest file that is listed.
 pub const LONGEST_FILE: usize = 65_536;
@@ -53,7 +53,7 @@ fn worked_lines() -> Vec<Vec<u8>> {
     let mut lines = vec![Vec::new(), b"PK.ECDH.2|x".to_vec()];
     lines.extend(whole_and_damaged(&worked("PUBKEY_KMC")));
     lines.extend(whole_and_damaged(&worked("PUBKEY_MAN")));
-    lines.push(worked("PUBKEY_SM"));
+    lines.extend([worked("PUBKEY_SM"), worked(UNSIGNED)]);
     lines.extend(whole_and_damaged(&worked("VKLOADREQ")));
     lines.extend(whole_and_damaged(&worked("VKLOADRESP")));
     lines.extend([worked("ID_SM"), vec![b'A'; 1024], vec![b'A'; 1025], worked("VKLOADREQ")]);
@@ -134,10 +134,10 @@ mod tests {
     }
 
     #[test]
-    fn the_longest_file_has_wrapped_keys_on_each_side() {
+    fn the_longest_file_has_lines_on_each_side() {
         let list = list(&longest_file());
         let numbers: Vec<&str> = list.lines().filter_map(|line| line.split(' ').nth(3)).collect();
-        for number in ["0", "1", "2", "3", "4", "5", "6", "11", "14"] {
+        for number in ["0", "1", "2", "3", "4", "5", "6", "11", "14", "28"] {
             assert!(numbers.contains(&number), "{number}");
         }
     }

@@ -67,7 +67,7 @@ mod tests {
     use super::*;
     use crate::random::Random;
     use crate::sample;
-    use crate::worked::worked;
+    use crate::worked::{worked, UNSIGNED};
 
     fn seconds(text: &str) -> i64 {
         moment_of(text.as_bytes()).expect("a TIMESTAMP")
@@ -233,9 +233,8 @@ mod tests {
     fn expiry_is_that_of_the_third_field() {
         assert_eq!(expiry_of(&worked("PUBKEY_KMC")), Ok(884_433_600));
         assert_eq!(expiry_of(&worked("PUBKEY_MAN")), Ok(884_872_800));
-        for name in ["PUBKEY_SM", "PUBKEY_SM_NOSIG"] {
-            assert_eq!(expiry_of(&worked(name)), Ok(252_676_411_199));
-        }
+        assert_eq!(expiry_of(&worked("PUBKEY_SM")), Ok(252_676_411_199));
+        assert_eq!(expiry_of(&worked(UNSIGNED)), Err(Refusal::UnsignedModule));
         for name in ["VKLOADREQ", "VKLOADRESP", "KEY1_1", "ID_SM", "ID_KMC"] {
             assert_eq!(expiry_of(&worked(name)), Err(Refusal::UnknownKind), "{name}");
         }

@@ -54,6 +54,13 @@ pub fn record_field(bytes: &[u8], number: u64) -> Result<&[u8], Refusal> {
 
 /// Reads a record of one of the wanted kinds; all other kinds are unknown here.
 pub fn read<'a>(bytes: &'a [u8], wanted: &[Kind]) -> Result<Record<'a>, Refusal> {
+    let record = read_up_to_e10(bytes, wanted)?;
+    check_signed(record.kind, &record.fields)?;
+    Ok(record)
+}
+
+/// The same by the rules up to request E10, by which the records were read that lie in cabinets.
+pub(crate) fn read_up_to_e10<'a>(bytes: &'a [u8], wanted: &[Kind]) -> Result<Record<'a>, Refusal> {
     if bytes.len() > LONGEST_READ {
         return Err(Refusal::TooLong);
     }
@@ -102,6 +109,21 @@ pub(crate) fn check_fields(kind: Kind, fields: &[&[u8]]) -> Result<(), Refusal> 
         return Err(Refusal::WrongAttributes);
     }
     Ok(())
+}
+
+/// Request E11, after all else that is asked of fields: a module's key for key agreement is signed. One without
+/// a Signature has no Issuer either.
+pub(crate) fn check_signed(kind: Kind, fields: &[&[u8]]) -> Result<(), Refusal> {
+    match fields {
+        [subject, .., b""] if kind == Kind::PkEcdh && is_module(subject) => {
+            Err(Refusal::UnsignedModule)
+        }
+        _ => Ok(()),
+    }
+}
+
+fn is_module(identity: &[u8]) -> bool {
+    read_identity(identity).is_ok_and(|identity| identity.kind == Kind::Smid)
 }
 
 /// Holds one field against its type.

@@ -57,6 +57,8 @@ pub enum Refusal {
     NotThere,
     /// 27: the request's TVP is not later than the last one accepted for its module.
     TvpNotLater,
+    /// 28: a module's key for key agreement that nobody signed.
+    UnsignedModule,
 }
 
 impl Refusal {
@@ -90,6 +92,7 @@ impl Refusal {
             Refusal::NoPlace => 25,
             Refusal::NotThere => 26,
             Refusal::TvpNotLater => 27,
+            Refusal::UnsignedModule => 28,
         }
     }
 

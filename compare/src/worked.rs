@@ -9,11 +9,10 @@ const VALUES: &str = include_str!("../data/worked.txt");
 /// Names of the identities, in document 003 and in Appendix A of document 000.
 pub const IDENTITIES: [&str; 5] = ["ID_KMC", "ID_MAN", "ID_SM", "APPA_ID_KMC", "APPA_ID_SM"];
 
-/// Names of the records, in document 003 and in Appendix A of document 000.
-pub const RECORDS: [&str; 14] = [
+/// Names of the records that are accepted, in document 003 and in Appendix A of document 000.
+pub const RECORDS: [&str; 13] = [
     "PUBKEY_KMC",
     "PUBKEY_MAN",
-    "PUBKEY_SM_NOSIG",
     "PUBKEY_SM",
     "VKLOADREQ",
     "VKLOADRESP",
@@ -27,7 +26,10 @@ pub const RECORDS: [&str; 14] = [
     "APPA_KEY1_5",
 ];
 
-/// Those of them that are wrapped keys.
+/// The name of the module's key before it is signed, in document 003. Request E11 refuses it.
+pub const UNSIGNED: &str = "PUBKEY_SM_NOSIG";
+
+/// Those of the records that are wrapped keys.
 pub const WRAPPED_KEYS: [&str; 7] =
     ["KEY1_1", "KEY1_2", "APPA_KEY1_1", "APPA_KEY1_2", "APPA_KEY1_3", "APPA_KEY1_4", "APPA_KEY1_5"];
 

@@ -85,7 +85,7 @@ fn refuses(lent: &[u8], no: Refusal, call: impl FnOnce(&mut [u8]) -> Result<(), 
 #[test]
 fn the_keys_of_document_003_are_put_found_and_removed() {
     let mut lent = empty();
-    let names = [("PUBKEY_KMC", "ID_KMC"), ("PUBKEY_MAN", "ID_MAN"), ("PUBKEY_SM_NOSIG", "ID_SM")];
+    let names = [("PUBKEY_KMC", "ID_KMC"), ("PUBKEY_MAN", "ID_MAN"), ("PUBKEY_SM", "ID_SM")];
     for (place, (record, identity)) in names.into_iter().enumerate() {
         let (record, identity) = (worked(record), worked(identity));
         assert_eq!(find(&lent, &identity), Err(Refusal::NotThere));
@@ -94,8 +94,9 @@ fn the_keys_of_document_003_are_put_found_and_removed() {
         assert_eq!(lent[place * WIDTH..][..record.len()], record);
         assert_eq!(count(&lent), Ok(place + 1));
     }
-    // The signed key of the module has the GNT of the one without a signature.
-    refuses(&lent, Refusal::NotLater, |lent| put(lent, &worked("PUBKEY_SM")));
+    // Another key of the module that has the same GNT.
+    let other = expiring("20180120T090000Z", "20300101T000000Z");
+    refuses(&lent, Refusal::NotLater, |lent| put(lent, &other));
     let [centre, manufacturer, module] = names.map(|(record, _)| worked(record));
     for (place, number) in [884_433_600, 884_872_800, 252_676_411_199i64].into_iter().enumerate() {
         assert_eq!(lent[place * WIDTH..][1016..1024], number.to_be_bytes());
@@ -103,8 +104,8 @@ fn the_keys_of_document_003_are_put_found_and_removed() {
     assert!(lent == image(&[(0, &centre), (1, &manufacturer), (2, &module)]));
     assert_eq!(remove(&mut lent, &worked("ID_KMC")), Ok(()));
     assert_eq!(remove(&mut lent, &worked("ID_SM")), Ok(()));
-    assert_eq!(put(&mut lent, &worked("PUBKEY_SM")), Ok(()));
-    assert!(lent == image(&[(0, &worked("PUBKEY_SM")), (1, &manufacturer)]));
+    assert_eq!(put(&mut lent, &other), Ok(()));
+    assert!(lent == image(&[(0, &other), (1, &manufacturer)]));
     for name in RECORDS.iter().filter(|name| !name.starts_with("PUBKEY")) {
         refuses(&lent, Refusal::UnknownKind, |lent| put(lent, &worked(name)));
     }
@@ -466,12 +467,12 @@ fn asking(id_sm: &[u8], tvp: &str) -> Vec<u8> {
 #[test]
 fn the_request_of_document_003_is_admitted_once() {
     let (request, id_sm, tvp) = (worked("VKLOADREQ"), worked("ID_SM"), worked("TVP"));
-    for name in ["PUBKEY_SM", "PUBKEY_SM_NOSIG"] {
+    for first in [worked("PUBKEY_SM"), expiring("20180120T090000Z", "19921231T235959Z")] {
         let mut lent = empty();
         refuses(&lent, Refusal::NotThere, |lent| admit(lent, &request));
         assert_eq!(put(&mut lent, &worked("PUBKEY_KMC")), Ok(()));
         refuses(&lent, Refusal::NotThere, |lent| admit(lent, &request));
-        assert_eq!(put(&mut lent, &worked(name)), Ok(()));
+        assert_eq!(put(&mut lent, &first), Ok(()));
         assert_eq!(tvp_in(&lent, 1), START);
         let mut after = lent.clone();
         assert_eq!(admit(&mut after, &request), Ok(()));
@@ -489,7 +490,7 @@ fn the_request_of_document_003_is_admitted_once() {
         assert_eq!(remove(&mut lent, &id_sm), Ok(()));
         assert!(lent == image(&[(0, &worked("PUBKEY_KMC"))]));
         refuses(&lent, Refusal::NotThere, |lent| admit(lent, &request));
-        assert_eq!(put(&mut lent, &worked(name)), Ok(()));
+        assert_eq!(put(&mut lent, &first), Ok(()));
         assert_eq!(tvp_in(&lent, 1), START);
         assert_eq!(admit(&mut lent, &request), Ok(()));
         refuses(&lent, Refusal::TvpNotLater, |lent| admit(lent, &request));

@@ -10,7 +10,7 @@ use compare::refusal::Refusal;
 use compare::sample::{self, Fault, PublicKey, Signed, Subject};
 use compare::worked::{worked, IDENTITIES, RECORDS};
 
-const KEYS: [&str; 4] = ["PUBKEY_KMC", "PUBKEY_MAN", "PUBKEY_SM_NOSIG", "PUBKEY_SM"];
+const KEYS: [&str; 3] = ["PUBKEY_KMC", "PUBKEY_MAN", "PUBKEY_SM"];
 
 fn written(record: &[u8], room: usize) -> Result<Vec<u8>, Refusal> {
     lent::written(room, |output| write(record, output))

@@ -238,7 +238,9 @@ fn identities_inside_a_record() {
         let record = sealed(b'|', &[b"PK.ECDH.1", subject, &q, expiry, issuer, signature]);
         read_record(&record).map(|record| record.kind)
     };
-    assert_eq!(key(&sm, b"", b""), Ok(Kind::PkEcdh));
+    assert_eq!(key(&kmc, b"", b""), Ok(Kind::PkEcdh));
+    assert_eq!(key(&sm, &man, &signature), Ok(Kind::PkEcdh));
+    assert_eq!(key(&sm, b"", b""), Err(Refusal::UnsignedModule));
     assert_eq!(key(&kmc, &man, &signature), Ok(Kind::PkEcdh));
     assert_eq!(key(&man, b"", b""), Err(Refusal::WrongIdentity(1)));
     assert_eq!(key(b"", b"", b""), Err(Refusal::NoIdentity(1)));
@@ -313,8 +315,8 @@ fn the_file_call() {
 #[test]
 fn the_newer_key() {
     let key = |manufacturer: &[u8], mid: &[u8], gnt: &[u8]| {
-        let subject = sealed(b':', &[b"SMID.1", manufacturer, mid, gnt, &[b'0'; 16]]);
-        sealed(b'|', &[b"PK.ECDH.1", &subject, &worked("Q_SM"), b"20300101T000000Z", b"", b""])
+        let subject = sealed(b':', &[b"KMCID.1", manufacturer, mid, gnt, &[b'0'; 16]]);
+        sealed(b'|', &[b"PK.ECDH.1", &subject, &worked("Q_KMC"), b"20300101T000000Z", b"", b""])
     };
     let old = key(b"A", b"B", b"20180101T235959Z");
     let new = key(b"A", b"B", b"20180102T000000Z");

@@ -11,18 +11,18 @@ use compare::kind::Kind;
 use compare::newer::newer;
 use compare::record::{identity_field, read_identity, read_record, record_field, Record};
 use compare::refusal::Refusal;
+use compare::sample::PublicKey;
 use compare::sha384::sha384;
 use compare::text::{base16_decode, check_text};
 use compare::worked::{appendix_a, worked, IDENTITIES, RECORDS, WRAPPED_KEYS};
 
-/// Name, kind, length and check of every record and identity.
-const TABLE: [(&str, Kind, usize, &str); 19] = [
+/// Name, kind, length and check of every record and identity that is accepted.
+const TABLE: [(&str, Kind, usize, &str); 18] = [
     ("ID_KMC", Kind::Kmcid, 73, "4C31"),
     ("ID_MAN", Kind::Smman, 54, "8B04"),
     ("ID_SM", Kind::Smid, 60, "8EFF"),
     ("PUBKEY_KMC", Kind::PkEcdh, 302, "B8F9"),
     ("PUBKEY_MAN", Kind::PkEcdsa, 530, "1F11"),
-    ("PUBKEY_SM_NOSIG", Kind::PkEcdh, 289, "ECD4"),
     ("PUBKEY_SM", Kind::PkEcdh, 535, "4971"),
     ("VKLOADREQ", Kind::VkloadReq, 434, "F6B3"),
     ("VKLOADRESP", Kind::VkloadResp, 219, "D743"),
@@ -182,11 +182,15 @@ fn the_texts_have_their_items() {
 
 #[test]
 fn a_key_is_the_newer_of_itself_and_an_equal_one_comes_first() {
-    let (signed, unsigned) = (worked("PUBKEY_SM"), worked("PUBKEY_SM_NOSIG"));
-    assert_eq!(newer(&signed, &unsigned), Ok(&signed[..]));
-    assert_eq!(newer(&unsigned, &signed), Ok(&unsigned[..]));
-    assert_eq!(newer(&signed, &worked("PUBKEY_KMC")), Err(Refusal::OtherSubject));
-    assert_eq!(newer(&signed, &worked("VKLOADREQ")), Err(Refusal::UnknownKind));
+    let key = worked("PUBKEY_SM");
+    let mut other = PublicKey::of_record(&key);
+    other.expiry = b"20300101T000000Z".to_vec();
+    let other = other.record();
+    assert_eq!(newer(&key, &key), Ok(&key[..]));
+    assert_eq!(newer(&key, &other), Ok(&key[..]));
+    assert_eq!(newer(&other, &key), Ok(&other[..]));
+    assert_eq!(newer(&key, &worked("PUBKEY_KMC")), Err(Refusal::OtherSubject));
+    assert_eq!(newer(&key, &worked("VKLOADREQ")), Err(Refusal::UnknownKind));
 }
 
 #[test]
@@ -205,12 +209,7 @@ fn the_hashes_of_document_003_come_out() {
 
 #[test]
 fn the_three_fingerprints_come_out() {
-    for (name, whose) in [
-        ("PUBKEY_KMC", "KMC"),
-        ("PUBKEY_MAN", "MAN"),
-        ("PUBKEY_SM_NOSIG", "SM"),
-        ("PUBKEY_SM", "SM"),
-    ] {
+    for (name, whose) in [("PUBKEY_KMC", "KMC"), ("PUBKEY_MAN", "MAN"), ("PUBKEY_SM", "SM")] {
         let key = worked(name);
         assert_eq!(check(&key), Ok(()), "{name}");
 

@@ -11,7 +11,7 @@ use compare::kind::Kind;
 use compare::random::Random;
 use compare::sample::{self, Exchange, Fault, PublicKey, Signed, Subject};
 use compare::text::PRINT_DIGITS;
-use compare::worked::{worked, IDENTITIES, RECORDS};
+use compare::worked::{worked, IDENTITIES, RECORDS, UNSIGNED};
 
 pub fn add(plan: &mut Plan) {
     let desk = Desk::new(&mut plan.random);
@@ -126,7 +126,8 @@ struct Desk {
     modules: Vec<Module>,
     /// A key of a centre and one of a manufacturer, which have the names of the first module.
     twins: [Part; 2],
-    /// The module's two keys of document 003, a later one, its identity, and its request.
+    /// The module's two keys of document 003, of which the unsigned one is refused, a later one, its identity, and its
+    /// request.
     worked: [Part; 5],
     no_requests: Vec<Part>,
     right: Vec<Part>,
@@ -167,8 +168,7 @@ impl Desk {
             let mut part = |tvp: &&[u8; 16]| text.add(tvp);
             all.iter().map(&mut part).collect::<Vec<Part>>()
         });
-        let [bare, signed] =
-            ["PUBKEY_SM_NOSIG", "PUBKEY_SM"].map(|name| text.add_key(worked(name)));
+        let [bare, signed] = [UNSIGNED, "PUBKEY_SM"].map(|name| text.add_key(worked(name)));
         let mut replacing = PublicKey::of_record(&worked("PUBKEY_SM"));
         replacing.subject.gnt = b"20180120T090001Z".to_vec();
         replacing.print = replacing.right_print();
@@ -205,7 +205,7 @@ impl Desk {
 }
 
 /// 003's request with another ID_SM and another TVP. Its MacTag is that of 003, because no admission asks for it.
-fn request_of(id_sm: Vec<u8>, tvp: &[u8]) -> Vec<u8> {
+pub(super) fn request_of(id_sm: Vec<u8>, tvp: &[u8]) -> Vec<u8> {
     Exchange { id_sm, tvp: tvp.to_vec(), ..Exchange::worked() }.request()
 }
 
@@ -571,12 +571,17 @@ fn flipped(plan: &mut Plan, desk: &Desk) {
     }
 }
 
-/// Every byte value in each place of the TVP of a module's key.
+/// Every byte value in each place of the TVP of a module's key, an old one among them.
 fn every_byte(plan: &mut Plan) {
-    let key = worked("PUBKEY_SM_NOSIG");
+    let [signed, old] = ["PUBKEY_SM", UNSIGNED].map(worked);
     // Of 99991231T115959Z.
     let number = 252_676_411_199i64.to_be_bytes();
-    for tvp in [&START, b"20200229T195959Z", b"99991231T235959Z"] {
+    for (key, tvp) in [
+        (&signed, &START),
+        (&signed, b"20200229T195959Z"),
+        (&signed, b"99991231T235959Z"),
+        (&old, b"20200229T195959Z"),
+    ] {
         let place = [&key[..], &vec![0; TVP_AT - key.len()], &tvp[..], &number].concat();
         for byte in TVP_AT..NUMBER_AT {
             plan.every_byte(Op::CheckCabinet, [0, 63, 31][byte % 3], &place, byte);

@@ -36,7 +36,7 @@ pub fn add(plan: &mut Plan) {
 /// The calls that take an identity.
 const BY_IDENTITY: [Op; 3] = [Op::RemoveKey, Op::KeyPlace, Op::FindKey];
 
-/// The keys of document 003, each put and then found by its identity; the module's two have one GNT.
+/// The keys of document 003, each put and then found by its identity; the module's unsigned one is refused.
 fn worked_keys(plan: &mut Plan, pool: &Pool) {
     let [centre, manufacturer, bare, module] = pool.worked;
     let put = |part| Step::Call(Op::PutKey, part);

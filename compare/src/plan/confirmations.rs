@@ -450,7 +450,7 @@ fn later_faults(plan: &mut Plan) {
 fn other_kinds(plan: &mut Plan) {
     let right = Exchange::worked();
     let (z, request, response) = (&right.z, &right.request(), &right.response());
-    for name in IDENTITIES[..3].iter().chain(&RECORDS[..9]) {
+    for name in IDENTITIES[..3].iter().chain(&RECORDS[..8]) {
         let record = worked(name);
         if *name != "VKLOADREQ" {
             plan.confirm_request(z, &record);

@@ -9,10 +9,10 @@ use compare::kind::Kind;
 use compare::record::LONGEST_READ;
 use compare::sample::{self, Fault, PublicKey, Signed, Subject};
 use compare::text::TIMESTAMP_LENGTH;
-use compare::worked::{worked, IDENTITIES, RECORDS};
+use compare::worked::{worked, IDENTITIES, RECORDS, UNSIGNED};
 
 /// The public keys of document 003.
-const KEYS: [&str; 4] = ["PUBKEY_KMC", "PUBKEY_MAN", "PUBKEY_SM_NOSIG", "PUBKEY_SM"];
+const KEYS: [&str; 4] = ["PUBKEY_KMC", "PUBKEY_MAN", UNSIGNED, "PUBKEY_SM"];
 
 pub fn add(plan: &mut Plan) {
     worked_keys(plan);
@@ -147,7 +147,7 @@ fn faults(plan: &mut Plan) {
 
 /// No other kind has an Expiry, though a field or an attribute of it is a time, and its check does not count.
 fn other_kinds(plan: &mut Plan) {
-    for name in IDENTITIES.iter().chain(&RECORDS[4..]) {
+    for name in IDENTITIES.iter().chain(&RECORDS[3..]) {
         plan.call(Op::ExpiryOf, worked(name));
     }
     for kind in Kind::ALL.into_iter().filter(|kind| !Kind::PUBLIC_KEYS.contains(kind)) {

@@ -11,13 +11,13 @@ use compare::sha384::sha384;
 use compare::text::{
     base16, base16_decode, LONGEST_IDENT, POINT_DIGITS, PRINT_DIGITS, TIMESTAMP_LENGTH,
 };
-use compare::worked::{worked, IDENTITIES, RECORDS};
+use compare::worked::{worked, IDENTITIES, RECORDS, UNSIGNED};
 
 /// Room for any Fingerprint.
 const AMPLE: u64 = 64;
 
 /// The public keys of document 003.
-const KEYS: [&str; 4] = ["PUBKEY_KMC", "PUBKEY_MAN", "PUBKEY_SM_NOSIG", "PUBKEY_SM"];
+const KEYS: [&str; 4] = ["PUBKEY_KMC", "PUBKEY_MAN", UNSIGNED, "PUBKEY_SM"];
 
 pub fn add(plan: &mut Plan) {
     worked_keys(plan);
@@ -169,9 +169,9 @@ fn changed_pieces(plan: &mut Plan) {
 
 /// A record with each of its bytes before the check changed, and every check right that covers the byte.
 fn every_place(plan: &mut Plan) {
-    let record = worked("PUBKEY_SM_NOSIG");
+    let record = worked("PUBKEY_KMC");
     let start = Kind::PkEcdh.name().len() + 1;
-    let subject = start..start + worked("ID_SM").len();
+    let subject = start..start + worked("ID_KMC").len();
     for place in 0..record.len() - 4 {
         let mut changed = record.clone();
         change(&mut changed, place);
@@ -302,7 +302,7 @@ fn faults(plan: &mut Plan) {
 
 /// No other kind has a point with a Fingerprint, and its check does not count.
 fn other_kinds(plan: &mut Plan) {
-    for name in IDENTITIES.iter().chain(&RECORDS[4..]) {
+    for name in IDENTITIES.iter().chain(&RECORDS[3..]) {
         plan.fingerprint(AMPLE, &worked(name));
     }
     for kind in Kind::ALL.into_iter().filter(|kind| !Kind::PUBLIC_KEYS.contains(kind)) {

@@ -41,7 +41,7 @@ fn counted() -> Step {
 }
 
 /// The numbers below a limit, in any order.
-fn in_any_order(random: &mut Random, limit: usize) -> Vec<usize> {
+pub(super) fn in_any_order(random: &mut Random, limit: usize) -> Vec<usize> {
     let mut all: Vec<usize> = (0..limit).collect();
     for index in (1..limit).rev() {
         all.swap(index, random.below(index + 1));

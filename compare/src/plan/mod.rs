@@ -4,6 +4,7 @@
 mod admissions;
 mod agreement;
 mod alphabets;
+mod attic;
 mod attributes;
 mod building;
 mod cabinets;
@@ -22,6 +23,7 @@ mod long;
 mod mail;
 mod moments;
 mod newer;
+mod old;
 mod places;
 mod pool;
 mod reading;
@@ -30,6 +32,7 @@ mod stored;
 mod trailed_files;
 mod trailers;
 mod types;
+mod unsigned;
 mod walks;
 mod wrapped;
 
@@ -77,6 +80,8 @@ pub fn all() -> Vec<Case> {
         expiries::add,
         stored::add,
         admissions::add,
+        unsigned::add,
+        old::add,
     ];
     let mut plan = Plan { cases: Vec::new(), random: Random::with_seed(0) };
     for (seed, add) in (1..).zip(groups) {

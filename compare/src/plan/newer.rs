@@ -5,7 +5,7 @@ use crate::calls::Op;
 use compare::kind::Kind;
 use compare::sample::{self, Fault, Signed, Subject};
 use compare::text::LONGEST_IDENT;
-use compare::worked::{worked, IDENTITIES, RECORDS};
+use compare::worked::{worked, IDENTITIES, RECORDS, UNSIGNED};
 
 pub fn add(plan: &mut Plan) {
     worked_keys(plan);
@@ -25,14 +25,16 @@ impl Plan {
     }
 }
 
-/// Pairs of worked keys, with the same Subject and with another.
-const WORKED: [(&str, &str); 7] = [
+/// Pairs of worked keys, with the same Subject and with another; one of them is refused.
+const WORKED: [(&str, &str); 9] = [
     ("PUBKEY_KMC", "PUBKEY_KMC"),
     ("PUBKEY_MAN", "PUBKEY_MAN"),
-    ("PUBKEY_SM", "PUBKEY_SM_NOSIG"),
-    ("PUBKEY_SM_NOSIG", "PUBKEY_SM"),
+    ("PUBKEY_SM", "PUBKEY_SM"),
+    ("PUBKEY_SM", UNSIGNED),
+    (UNSIGNED, "PUBKEY_SM"),
     ("PUBKEY_KMC", "PUBKEY_SM"),
-    ("PUBKEY_MAN", "PUBKEY_SM_NOSIG"),
+    ("PUBKEY_MAN", "PUBKEY_SM"),
+    ("PUBKEY_MAN", UNSIGNED),
     ("PUBKEY_KMC", "PUBKEY_MAN"),
 ];
 
@@ -169,7 +171,7 @@ fn refusals(plan: &mut Plan) {
 
 fn other_kinds(plan: &mut Plan) {
     let key = worked("PUBKEY_KMC");
-    for name in IDENTITIES.iter().chain(&RECORDS[4..]) {
+    for name in IDENTITIES.iter().chain(&RECORDS[3..]) {
         plan.pair(Op::Newer, key.clone(), worked(name));
         plan.pair(Op::Newer, worked(name), key.clone());
     }

@@ -39,7 +39,7 @@ fn refused(plan: &mut Plan) {
 /// Every item of the worked texts, and of bytes that are none.
 fn items(plan: &mut Plan) {
     let mut output = [0; 1024];
-    let request = worked(RECORDS[4]);
+    let request = worked("VKLOADREQ");
     for text in [agreement::shared_info, agreement::module_text, agreement::centre_text] {
         let length = text(&request, &mut output).expect("the worked request has texts");
         for number in 0..=8 {

@@ -11,7 +11,7 @@ use compare::moment::moment_of;
 use compare::random::Random;
 use compare::sample::{self, Fault, PublicKey, Signed, Subject};
 use compare::text::PRINT_DIGITS;
-use compare::worked::worked;
+use compare::worked::{worked, UNSIGNED};
 
 /// How many Subjects there are.
 pub(super) const SUBJECTS: usize = 80;
@@ -52,7 +52,7 @@ pub(super) struct Keys {
 pub(super) struct Pool {
     pub(super) text: Vec<u8>,
     pub(super) keys: Vec<Keys>,
-    /// Those of document 003: of the centre, the manufacturer and the module, which has two.
+    /// Those of document 003: of the centre, the manufacturer and the module, which has one that is not signed.
     pub(super) worked: [Part; 4],
     /// The longest key of each kind.
     pub(super) longest: [Part; 2],
@@ -85,7 +85,7 @@ impl Pool {
             let identity = text.add(Subject { gnt, ..subject }.identity(print));
             keys.push(Keys { first, later, not_later, identity });
         }
-        let worked = ["PUBKEY_KMC", "PUBKEY_MAN", "PUBKEY_SM_NOSIG", "PUBKEY_SM"]
+        let worked = ["PUBKEY_KMC", "PUBKEY_MAN", UNSIGNED, "PUBKEY_SM"]
             .map(|name| text.add_key(worked(name)));
         let longest =
             Kind::PUBLIC_KEYS.map(|kind| text.add_key(sample::longest_record(&mut random, kind)));
@@ -237,7 +237,7 @@ impl AsRef<[u8]> for Text {
     }
 }
 
-/// A key of this Subject; now and then it is signed.
+/// A key of this Subject; a module's is signed, another now and then.
 fn short_key(random: &mut Random, subject: &Subject) -> Vec<u8> {
     let signed = if random.once_in(16) { Signed::Yes } else { Signed::No };
     PublicKey::of(random, subject.clone(), signed).record()

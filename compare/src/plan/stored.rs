@@ -88,7 +88,7 @@ impl Shelf {
 
 /// What could be taken for a number: off by one, little-endian, of another record, without a sign, in four bytes with
 /// and without a sign, none, and since another day or in another measure.
-fn mistaken(right: i64, other: i64) -> [i64; 15] {
+pub(super) fn mistaken(right: i64, other: i64) -> [i64; 15] {
     [
         right + 1,
         right - 1,

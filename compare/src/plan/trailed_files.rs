@@ -26,7 +26,7 @@ pub fn add(plan: &mut Plan) {
 
 impl Plan {
     /// The lines of a file from its first place on, and one step past them; and their number.
-    fn walk_trailed(&mut self, file: &[u8]) {
+    pub(super) fn walk_trailed(&mut self, file: &[u8]) {
         let places: Vec<u64> = lines(file).map(|line| line.start).collect();
         for place in places {
             self.numbered(Op::TrailedLine, place, file);

@@ -32,6 +32,8 @@ pub enum Fault {
     InnerKind,
     /// Only one of Issuer and Signature.
     Half,
+    /// A module's key for key agreement without Issuer and Signature.
+    Unsigned,
     /// An attribute list that is not permitted.
     Attributes,
 }
@@ -49,11 +51,13 @@ impl Fault {
             Fault::Inner,
             Fault::InnerKind,
             Fault::Half,
+            Fault::Unsigned,
         ];
         match kind {
             Kind::Smman | Kind::Smid | Kind::Kmcid => &ALL[..6],
             Kind::VkloadReq | Kind::VkloadResp => &ALL[..8],
-            Kind::PkEcdsa | Kind::PkEcdh => ALL,
+            Kind::PkEcdsa => &ALL[..9],
+            Kind::PkEcdh => ALL,
             Kind::WrappedKey => &[
                 Fault::Long,
                 Fault::Name,
@@ -70,13 +74,7 @@ impl Fault {
 /// Fields of a kind with these faults, as far as fields can have them; the number stays right.
 pub fn faulty_fields(random: &mut Random, kind: Kind, faults: &[Fault]) -> Vec<Vec<u8>> {
     let has = |fault| faults.contains(&fault);
-    let half = has(Fault::Half);
-    let signed = if half { Signed::Yes } else { Signed::any(random) };
-    let mut fields = usual_fields(random, kind, signed);
-    if half {
-        fields[random.between(3, 4)].clear();
-    }
-
+    let mut fields = signed_so(random, kind, has(Fault::Half), has(Fault::Unsigned));
     let entries = kind.fields().iter().map(|entry| entry.field_type).zip(0..);
     let (identities, texts): (Vec<_>, Vec<_>) =
         entries.partition(|(field_type, _)| matches!(field_type, FieldType::Identity(_)));
@@ -101,6 +99,24 @@ pub fn faulty_fields(random: &mut Random, kind: Kind, faults: &[Fault]) -> Vec<V
     if has(Fault::Text) {
         let (field_type, index) = random.one_of(&texts);
         fields[index] = wrong_of_type(random, field_type);
+    }
+    fields
+}
+
+/// Fields of a kind that are permitted, but for what is wrong with their Issuer and Signature. Half of them come before
+/// none, so both together are half of a module's.
+fn signed_so(random: &mut Random, kind: Kind, half: bool, unsigned: bool) -> Vec<Vec<u8>> {
+    let signed = match (half, unsigned) {
+        (true, _) => Signed::Yes,
+        (_, true) => Signed::No,
+        _ => Signed::any(random),
+    };
+    let mut fields = usual_fields(random, kind, signed);
+    if unsigned {
+        fields[0] = record(random, Kind::Smid);
+    }
+    if half {
+        fields[random.between(3, 4)].clear();
     }
     fields
 }
@@ -217,6 +233,7 @@ mod tests {
                     Fault::Inner => 7,
                     Fault::InnerKind => 9,
                     Fault::Half => 8,
+                    Fault::Unsigned => 28,
                     Fault::Attributes => 14,
                 };
                 let number = read(&record, &[kind]).map_or_else(Refusal::number, |_| 0);

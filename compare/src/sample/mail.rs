@@ -148,12 +148,12 @@ mod tests {
     #[test]
     fn texts_are_of_every_sort() {
         let mut random = Random::with_seed(33);
-        let mut seen = [0; 23];
+        let mut seen = [0; 29];
         for _ in 0..4000 {
             let answer = read_from(&mail(&mut random));
             seen[answer.map_or_else(|refusal| usize::from(refusal.number()), |_| 0)] += 1;
         }
-        for number in [0, 1, 2, 3, 4, 5, 6, 7, 8, 9, 14, 21, 22] {
+        for number in [0, 1, 2, 3, 4, 5, 6, 7, 8, 9, 14, 21, 22, 28] {
             assert!(seen[number] > 0, "{number}");
         }
     }

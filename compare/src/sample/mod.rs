@@ -26,7 +26,7 @@ pub use trailed::{trailed_file, trailed_line, with_other_trailer};
 
 use crate::crc::crc16;
 use crate::frame::body_of;
-use crate::kind::{FieldType, Kind};
+use crate::kind::{Field, FieldType, Kind};
 use crate::random::Random;
 use crate::record::LONGEST_READ;
 use crate::text::{
@@ -169,9 +169,18 @@ pub fn fields(random: &mut Random, kind: Kind, signed: Signed) -> Vec<Vec<u8>> {
     }
 }
 
+/// The fields of a kind as they are permitted together: the Subject of an unsigned key for key agreement is a centre.
+fn entries(kind: Kind, signed: Signed) -> Vec<Field> {
+    let mut entries = kind.fields().to_vec();
+    if kind == Kind::PkEcdh && signed == Signed::No {
+        entries[0].field_type = FieldType::Identity(&[Kind::Kmcid]);
+    }
+    entries
+}
+
 /// Permitted fields of a kind, to which some bytes can be added before the record is too long.
 fn usual_fields(random: &mut Random, kind: Kind, signed: Signed) -> Vec<Vec<u8>> {
-    let entries = kind.fields().iter();
+    let entries = entries(kind, signed).into_iter();
     entries
         .map(|entry| match entry.field_type {
             _ if entry.may_be_empty && signed == Signed::No => Vec::new(),
@@ -183,7 +192,7 @@ fn usual_fields(random: &mut Random, kind: Kind, signed: Signed) -> Vec<Vec<u8>>
 /// Permitted fields of a kind, in the shortest form: every IDENT has one character, and a wrapped
 /// key has the required attributes alone.
 pub fn short_fields(random: &mut Random, kind: Kind, signed: Signed) -> Vec<Vec<u8>> {
-    let entries = kind.fields().iter();
+    let entries = entries(kind, signed).into_iter();
     entries
         .map(|entry| match entry.field_type {
             _ if entry.may_be_empty && signed == Signed::No => Vec::new(),

@@ -4,7 +4,7 @@ use super::{fields, of_kind, Signed, Subject};
 use crate::fingerprint::fingerprint;
 use crate::kind::Kind;
 use crate::random::Random;
-use crate::record::{read, read_identity};
+use crate::record::{read_identity, read_up_to_e10};
 
 /// A public key by its parts, permitted or not.
 #[derive(Clone)]
@@ -23,19 +23,20 @@ impl PublicKey {
     /// A permitted key of this Subject, with the right Fingerprint; all else in it is random.
     pub fn of(random: &mut Random, subject: Subject, signed: Signed) -> PublicKey {
         let kind = subject.key_kind();
-        let [_subject, q, expiry, issuer, signature] = Self::five(fields(random, kind, signed));
+        let fields = fields(random, kind, subject.signed(signed));
+        let [_subject, q, expiry, issuer, signature] = Self::five(fields);
         let mut key = PublicKey { kind, subject, print: vec![], q, expiry, issuer, signature };
         key.print = key.right_print();
         key
     }
 
-    /// The parts of an accepted key.
+    /// The parts of a key that is accepted, or was before request E11.
     ///
     /// # Panics
     ///
     /// When it is none.
     pub fn of_record(record: &[u8]) -> PublicKey {
-        let key = read(record, &Kind::PUBLIC_KEYS).expect("an accepted key");
+        let key = read_up_to_e10(record, &Kind::PUBLIC_KEYS).expect("an accepted key");
         let identity = read_identity(key.fields[0]).expect("an accepted Subject");
         let owned = |fields: &[&[u8]]| fields.iter().map(|field| field.to_vec()).collect();
         let [_subject, q, expiry, issuer, signature] = Self::five(owned(&key.fields));
@@ -48,6 +49,11 @@ impl PublicKey {
 
     fn five(fields: Vec<Vec<u8>>) -> [Vec<u8>; 5] {
         fields.try_into().expect("a public key has five fields")
+    }
+
+    /// The same key without Issuer and Signature.
+    pub fn unsigned(self) -> PublicKey {
+        PublicKey { issuer: Vec::new(), signature: Vec::new(), ..self }
     }
 
     /// The Fingerprint that is right for the Subject and Q, whatever they are.
@@ -73,7 +79,7 @@ mod tests {
     use super::*;
     use crate::fingerprint::check;
     use crate::refusal::Refusal;
-    use crate::worked::worked;
+    use crate::worked::{worked, UNSIGNED};
 
     #[test]
     fn a_key_has_the_right_fingerprint_until_another_is_put_in() {
@@ -89,8 +95,10 @@ mod tests {
 
     #[test]
     fn the_parts_of_a_key_make_it_again() {
-        for name in ["PUBKEY_KMC", "PUBKEY_MAN", "PUBKEY_SM_NOSIG", "PUBKEY_SM"] {
+        for name in ["PUBKEY_KMC", "PUBKEY_MAN", UNSIGNED, "PUBKEY_SM"] {
             assert_eq!(PublicKey::of_record(&worked(name)).record(), worked(name), "{name}");
         }
+        let signed = PublicKey::of_record(&worked("PUBKEY_SM"));
+        assert_eq!(signed.unsigned().record(), worked(UNSIGNED));
     }
 }

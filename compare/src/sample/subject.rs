@@ -28,7 +28,7 @@ impl Subject {
     pub fn key(&self, random: &mut Random) -> Vec<u8> {
         let kind = self.key_kind();
         let signed = if random.once_in(8) { Signed::Yes } else { Signed::No };
-        let mut fields = fields(random, kind, signed);
+        let mut fields = fields(random, kind, self.signed(signed));
         fields[0] = self.identity(hex(random, PRINT_DIGITS));
         of_kind(kind, &fields)
     }
@@ -38,6 +38,14 @@ impl Subject {
         match self.kind {
             Kind::Smman => Kind::PkEcdsa,
             _ => Kind::PkEcdh,
+        }
+    }
+
+    /// Whether a permitted key of this Subject is signed: a module's is, whatever is asked for.
+    pub(super) fn signed(&self, asked: Signed) -> Signed {
+        match self.kind {
+            Kind::Smid => Signed::Yes,
+            _ => asked,
         }
     }
 

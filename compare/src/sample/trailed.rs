@@ -62,12 +62,12 @@ mod tests {
     #[test]
     fn lines_are_of_every_sort() {
         let mut random = Random::with_seed(11);
-        let mut seen = [0; 21];
+        let mut seen = [0; 29];
         for _ in 0..2000 {
             let line = trailed_line(&mut random);
             seen[read(&line).map_or_else(|refusal| usize::from(refusal.number()), |_| 0)] += 1;
         }
-        for number in [0, 1, 2, 3, 4, 5, 6, 7, 8, 9, 14, 19, 20] {
+        for number in [0, 1, 2, 3, 4, 5, 6, 7, 8, 9, 14, 19, 20, 28] {
             assert!(seen[number] > 0, "{number}");
         }
     }

@@ -10,6 +10,7 @@ use Rattle.text.specs.Text.{Bytes}
 use Rattle.format.specs.Kinds.{Kind, name, mark, allKinds}
 use Rattle.format.specs.Build.{joined, withCheck, recordOf, longestRecord}
 use Rattle.format.specs.Read.{accepted, refused, passing, ofKind, judged, readIdentity}
+use Rattle.format.specs.declared.Rules.the-variants.{Today}
 use Rattle.format.proofs.Parts.{record-length}
 use Rattle.table.specs.Table.{rowFor, markOf, countOf, named}
 use Rattle.table.proofs.Rows.{Found, found, of-kind}
@@ -96,21 +97,21 @@ module _ {t bytes : Bytes} {ns : List ℕ} {row no : ℕ} (b : Begun t bytes ns 
 
   -- ---- the fields: j is what is said of the parts ps at the places of the code
 
-  module _ (ps : List Bytes) (ep : ps ≡ pieces ns bytes) (j : Judged) (ej : j ≡ judgedSaid (judgedBy row ps)) where
-    said : j ≡ judgedSaid (judged readIdentity (call-kind .kind) (pieces ns bytes) (accepted (call-kind .kind) (pieces ns bytes)))
-    said = ej ∙ ap (λ (x : List Bytes). judgedSaid (judgedBy row x)) ep ∙ ap judgedSaid (judged-kind (call-kind .kind) row (pieces ns bytes) (call-kind .at))
+  module _ (ps : List Bytes) (ep : ps ≡ pieces ns bytes) (j : Judged) (ej : j ≡ judgedSaid (judgedBy Today row ps)) where
+    said : j ≡ judgedSaid (judged Today readIdentity (call-kind .kind) (pieces ns bytes) (accepted (call-kind .kind) (pieces ns bytes)))
+    said = ej ∙ ap (λ (x : List Bytes). judgedSaid (judgedBy Today row x)) ep ∙ ap judgedSaid (judged-kind Today (call-kind .kind) row (pieces ns bytes) (call-kind .at))
 
     to-fields : (room : ℕ) → buildOf t bytes ns room ≡ fromFields bytes ns room (call-kind .kind)
     to-fields room = to-form b room ∙ passing-on no 0 _ z ∙ ap (λ o. ofKind o (fromFields bytes ns room)) (call-kind .is)
 
     pub call-fields : (room : ℕ) → (j .no ≡ 0 → ⊥) → buildOf t bytes ns room ≡ refused (j .no) (j .field)
-    call-fields room u = to-fields room ∙ denied (call-kind .kind) (pieces ns bytes) j said u (fromLength bytes ns room (call-kind .kind))
+    call-fields room u = to-fields room ∙ denied Today (call-kind .kind) (pieces ns bytes) j said u (fromLength bytes ns room (call-kind .kind))
 
     -- ---- the length and the room
 
     module _ (u : j .no ≡ 0) (room : ℕ) where
       to-length : buildOf t bytes ns room ≡ fromLength bytes ns room (call-kind .kind)
-      to-length = to-fields room ∙ agreed (call-kind .kind) (pieces ns bytes) j said u (fromLength bytes ns room (call-kind .kind))
+      to-length = to-fields room ∙ agreed Today (call-kind .kind) (pieces ns bytes) j said u (fromLength bytes ns room (call-kind .kind))
 
       pub call-long : longestRecord < length t + 1 + length bytes + length ns + 4 → buildOf t bytes ns room ≡ refused 1 0
       call-long h = to-length ∙ rw (lt-leb (length (recordOf (call-kind .kind) (pieces ns bytes))) longestRecord (omega (arith, needed)))

@@ -15,6 +15,7 @@ use Rattle.numbers.specs.Numbers.{tooLong, wrongCount, shortOutput}
 use Rattle.format.specs.Kinds.{Kind, name, fieldsOf, allKinds}
 use Rattle.format.specs.Build.{recordOf, longestRecord, IsIdentity, Permitted}
 use Rattle.format.specs.Read.{Outcome, accepted, answer, provided, readIdentity}
+use Rattle.format.specs.declared.Rules.the-variants.{Today}
 use Rattle.format.proofs.Outcomes.{provided-law, ofKind-law, Honest, honest-zero}
 use Rattle.format.proofs.Fields.{fit-length, judged-law}
 use Rattle.format.proofs.Exactly.{ask-exact, permitted-judged}
@@ -37,14 +38,14 @@ build-says t bytes ns room =
     let both = and-yes (eqb (length ns) (length (fieldsOf k))) (eqb (sum ns) (length bytes)) counts in
     let total : sum ns ≡ length bytes = eqb→eq (sum ns) (length bytes) (both .1) in
     let count : length fs ≡ length (fieldsOf k) = pieces-count ns bytes ∙ eqb→eq (length ns) (length (fieldsOf k)) (both .0) in
-    judged-law readIdentity IsIdentity ask-exact P (λ n i. tt) k fs _ count
-    (λ fit both attributes. provided-law P (leb (length (recordOf k fs)) longestRecord) tooLong _ tt
+    judged-law readIdentity IsIdentity ask-exact P (λ n i. tt) Today k fs _ count
+    (λ fit both attributes signs. provided-law P (leb (length (recordOf k fs)) longestRecord) tooLong _ tt
     (λ short. provided-law P (leb (length (recordOf k fs)) room) shortOutput (accepted k fs) tt
     (λ fits. record {
       named-so = named-some allKinds t k e;
       lengths-so = sym (pieces-lengths ns bytes total);
       bytes-so = sym (pieces-run ns bytes total);
-      permitted-so = record { fit = fit; both = both; attributes = attributes; short = short };
+      permitted-so = record { fit = fit; both = both; attributes = attributes; signs = signs; short = short };
       room-so = leb→le (length (recordOf k fs)) room fits;
     })))))
 
@@ -57,7 +58,7 @@ as-permitted k fs room p =
     rw (
       T-true (eqb (length (lengths fs)) (length (fieldsOf k)) && eqb (sum (lengths fs)) (length (run fs))) counts,
       pieces-back fs,
-      permitted-judged k fs _ p,
+      permitted-judged Today k fs _ p,
       T-true (leb (length (recordOf k fs)) longestRecord) (p .short),
     )
 

@@ -15,6 +15,7 @@ use Rattle.numbers.specs.Numbers.{tooLong, shortOutput}
 use Rattle.format.specs.Kinds.{Kind, fieldsOf}
 use Rattle.format.specs.Build.{recordOf, longestRecord}
 use Rattle.format.specs.Read.{Outcome, accepted, provided, passing, ofKind, judged, readIdentity}
+use Rattle.format.specs.declared.Rules.the-variants.{Today}
 use Rattle.table.specs.Table.{rowOf, missingRow, rowFor, countOf}
 use Rattle.table.proofs.Rows.{row-small, of-kind}
 use Rattle.building.specs.Building.{sum, pieces, buildAs}
@@ -66,7 +67,7 @@ module _ (bytes : Bytes) (ns : List ℕ) (room : ℕ) where
   fromLength k = provided (leb (length (recordOf k (pieces ns bytes))) longestRecord) tooLong (fromRoom k)
 
   abbrev pub fromFields : Kind → Outcome
-  fromFields k = judged readIdentity k (pieces ns bytes) (fromLength k)
+  fromFields k = judged Today readIdentity k (pieces ns bytes) (fromLength k)
 
   as-form : (k : Kind) → buildAs bytes ns room k ≡ passing (countNo (rowOf k) bytes ns) 0 (fromFields k)
   unfolding buildAs countNo

@@ -12,6 +12,7 @@ use Rattle.numbers.specs.Numbers.{tooLong, wrongCount, shortOutput}
 use Rattle.format.specs.Kinds.{Kind, name, fieldsOf, allKinds}
 use Rattle.format.specs.Build.{recordOf, longestRecord, Permitted}
 use Rattle.format.specs.Read.{Outcome, accepted, refused, provided, ofKind, judged, readIdentity}
+use Rattle.format.specs.declared.Rules.the-variants.{Today}
 use Rattle.table.specs.Table.{named}
 use Rattle.places.specs.Places.{lengths}
 use Rattle.put.specs.Made.{Made, made, denied}
@@ -38,7 +39,7 @@ run (f ∷ fs) = f ++ run fs
 unfoldable pub buildAs : Bytes → List ℕ → ℕ → Kind → Outcome
 buildAs bytes ns room k =
     provided (eqb (length ns) (length (fieldsOf k)) && eqb (sum ns) (length bytes)) wrongCount
-    (judged readIdentity k (pieces ns bytes)
+    (judged Today readIdentity k (pieces ns bytes)
     (provided (leb (length (recordOf k (pieces ns bytes))) longestRecord) tooLong
     (provided (leb (length (recordOf k (pieces ns bytes))) room) shortOutput
     (accepted k (pieces ns bytes)))))

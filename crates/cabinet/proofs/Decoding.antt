@@ -22,19 +22,22 @@ use Rattle.text.specs.declared.moment.Moment.{Moment}
 use Rattle.text.proofs.Tests.{T-true, T-false, by-test, same-true, same-false, same-append}
 use Rattle.text.proofs.Seconds.{moment-valid, moment-back, start-moment, bytes-length}
 use Rattle.format.specs.Kinds.{pubkeyKinds}
-use Rattle.format.specs.Build.{Built}
-use Rattle.format.specs.Read.{Outcome, accepted, refused, readOf}
+use Rattle.format.specs.Build.{BuiltUnder}
+use Rattle.format.specs.Read.{Outcome, accepted, refused, readUnder, readOf}
 use Rattle.format.specs.Files.{upTo}
+use Rattle.format.specs.declared.Rules.the-variants.{UpToE10, Today}
 use Rattle.format.proofs.Lines.{take-upTo}
-use Rattle.format.proofs.Exactly.{read-says}
+use Rattle.format.proofs.Exactly.{under-says}
 use Rattle.format.proofs.Outcomes.{Honest}
 use Rattle.frame.specs.Frame.{nextMark}
-use Rattle.subjects.proofs.Keys.{key}
-use Rattle.expiry.specs.Expiry.{expiryBy, expiryOf}
+use Rattle.reading.specs.Reading.{answerOf}
+use Rattle.reading.specs.declared.Answer.{Answer}
+use Rattle.subjects.proofs.Keys.{key-under}
+use Rattle.expiry.specs.Expiry.{expiryBy, expiryUnder}
 use Rattle.expiry.specs.declared.Expiry.{Expiry}
 use Rattle.expiry.proofs.Expiries.{expiry-back}
 use Rattle.shelf.specs.Places.{Names, Place, free}
-use Rattle.shelf.specs.Cabinet.{width, tvpAt, numberAt, numberOf, Reading, about, declined, reads, zeros, encode, entry, isTvp, decodeAs, decode}
+use Rattle.shelf.specs.Cabinet.{width, tvpAt, numberAt, numberOf, Reading, about, declined, stands, zeros, encode, entry, isTvp, decodeAs, decode, isRefused, isOld}
 use Rattle.shelf.proofs.Readings.{Fitting, fitting, reads-accepted, reads-refused}
 use Rattle.shelf.proofs.Images.{length-zeros, upTo-zeros}
 use Rattle.cabinet.specs.Steps.{isZero, isPlace}
@@ -51,20 +54,20 @@ abbrev isAbout : Reading → Bool
 isAbout (about k g) = true
 isAbout (declined n i) = false
 
--- x is what the call about Expiry answered for t
-module _ (t : Bytes) {x : Expiry} (e : x ≡ expiryOf t) where
-  about-so : eqb (x .no) 0 ≡ isAbout (reads t)
-  unfolding expiryOf
-  about-so = rw e (go (readOf pubkeyKinds t) refl (read-says pubkeyKinds t))
+-- x is what the call about Expiry answered for t, under the rules up to E10
+module _ (t : Bytes) {x : Expiry} (e : x ≡ expiryUnder UpToE10 t) where
+  about-so : eqb (x .no) 0 ≡ isAbout (stands t)
+  unfolding expiryUnder
+  about-so = rw e (go (readUnder UpToE10 pubkeyKinds t) refl (under-says UpToE10 pubkeyKinds t))
     where
-      go : (o : Outcome) → readOf pubkeyKinds t ≡ o → Honest (Built pubkeyKinds t) o → eqb (expiryBy o .no) 0 ≡ isAbout (reads t)
-      go (accepted k fs) h w = rw (reads-accepted t (key t k fs h))
+      go : (o : Outcome) → readUnder UpToE10 pubkeyKinds t ≡ o → Honest (BuiltUnder UpToE10 pubkeyKinds t) o → eqb (expiryBy o .no) 0 ≡ isAbout (stands t)
+      go (accepted k fs) h w = rw (reads-accepted t (key-under UpToE10 t k fs h))
       go (refused zero i) h w = absurd w
-      go (refused (suc n) i) h w = rw (reads-refused t (suc n) i h) (ne-eqb (suc n) 0 (λ z. omega arith))
+      go (refused (suc n) i) h w = rw (reads-refused UpToE10 t (suc n) i h) (ne-eqb (suc n) 0 (λ z. omega arith))
 
   pub number-so : {v : Bytes} → v ≡ secondsBytes (toZ w64 (ofZ w64 (x .seconds))) → v ≡ numberOf t
   unfolding numberOf
-  number-so f = f ∙ ap secondsBytes (expiry-back t e)
+  number-so f = f ∙ ap secondsBytes (expiry-back UpToE10 t e)
 
 pub number-short : {v : Bytes} (z : ℤ) → v ≡ secondsBytes z → length v ≤ 8
 number-short z e = omega (arith, ap length e, bytes-length z)
@@ -85,7 +88,7 @@ module _ (b : Bytes) (l : length b ≡ 1024) {n : ℕ} (m : n ≡ nextMark 0 b 0
   ends : n ≡ length text
   ends = m ∙ text-end b
 
-  fits-so : (x : Reading) → reads text ≡ x → isAbout x ≡ true → Fitting text
+  fits-so : (x : Reading) → stands text ≡ x → isAbout x ≡ true → Fitting text
   fits-so (about k g) e f = fitting text k g e
   fits-so (declined i j) e f = let z : _≡_ {A = ℕ} 0 1 = cc in absurd (omega arith)
 
@@ -94,29 +97,29 @@ module _ (b : Bytes) (l : length b ≡ 1024) {n : ℕ} (m : n ≡ nextMark 0 b 0
   no-record (declined i j) f = refl
 
   -- where a text of this length is no record
-  unfitting : (Fitting text → ⊥) → isAbout (reads text) ≡ false
-  unfitting h = by-test (isAbout (reads text)) (λ t. absurd (h (fits-so (reads text) refl (T-true (isAbout (reads text)) t)))) (T-false (isAbout (reads text)))
+  unfitting : (Fitting text → ⊥) → isAbout (stands text) ≡ false
+  unfitting h = by-test (isAbout (stands text)) (λ t. absurd (h (fits-so (stands text) refl (T-true (isAbout (stands text)) t)))) (T-false (isAbout (stands text)))
 
   -- no text: all zeros, or no place
   pub place-free : n ≡ 0 → every isZero b ≡ isPlace (decode b)
   unfolding decode encode width
   place-free e =
-      let none-read = no-record (reads text) (unfitting (λ f. f .some-byte (sym ends ∙ e))) in
-      sym (go (same b (zeros 1024)) (decodeAs b text (reads text)) none-read ∙ ap (λ (k : ℕ). same b (zeros k)) (sym l) ∙ same-zeros b)
+      let none-read = no-record (stands text) (unfitting (λ f. f .some-byte (sym ends ∙ e))) in
+      sym (go (same b (zeros 1024)) (decodeAs b text (stands text)) none-read ∙ ap (λ (k : ℕ). same b (zeros k)) (sym l) ∙ same-zeros b)
     where
       go : (q : Bool) (r : Option Place) → isPlace r ≡ false → isPlace (cond q (some free) r) ≡ q
       go true r f = refl
       go false r f = f
 
   -- and else not all zeros
-  held-so : (n ≡ 0 → ⊥) → isPlace (decode b) ≡ isPlace (decodeAs b text (reads text))
+  held-so : (n ≡ 0 → ⊥) → isPlace (decode b) ≡ isPlace (decodeAs b text (stands text))
   unfolding decode encode
   held-so z = rw (same-false b (zeros width) (λ f. z (ends ∙ ap length (ap (upTo 0) f ∙ upTo-zeros width))))
 
   module _ (z : n ≡ 0 → ⊥) where
     pub place-long : 1000 < n → false ≡ isPlace (decode b)
     unfolding tvpAt
-    place-long h = sym (held-so z ∙ no-record (reads text) (unfitting (λ f. omega (arith, ends, f .long))))
+    place-long h = sym (held-so z ∙ no-record (stands text) (unfitting (λ f. omega (arith, ends, f .long))))
 
     module _ (h : n ≤ 1000) where
       -- the bytes between the text and the TVP, and the TVP
@@ -163,22 +166,22 @@ module _ (b : Bytes) (l : length b ≡ 1024) {n : ℕ} (m : n ≡ nextMark 0 b 0
           go true false = refl
           go false q = refl
 
-      held-as : isPlace (decode b) ≡ (isAbout (reads text) && (isTvp date && (every isZero between && same (drop 1016 b) (numberOf text))))
-      held-as = held-so z ∙ as-read (reads text)
+      held-as : isPlace (decode b) ≡ (isAbout (stands text) && (isTvp date && (every isZero between && same (drop 1016 b) (numberOf text))))
+      held-as = held-so z ∙ as-read (stands text)
 
       -- something else stands between
       pub place-gap : every isZero between ≡ false → false ≡ isPlace (decode b)
-      place-gap e = sym (held-as ∙ rw (e, and-false (isTvp date)) (and-false (isAbout (reads text))))
+      place-gap e = sym (held-as ∙ rw (e, and-false (isTvp date)) (and-false (isAbout (stands text))))
 
       -- no TVP
       pub place-dateless : isTvp date ≡ false → false ≡ isPlace (decode b)
-      place-dateless e = sym (held-as ∙ rw e (and-false (isAbout (reads text))))
+      place-dateless e = sym (held-as ∙ rw e (and-false (isAbout (stands text))))
 
-      module _ (e : every isZero between ≡ true) (d : isTvp date ≡ true) {x : Expiry} (f : x ≡ expiryOf (take (n - 0) b)) where
-        read-so : x ≡ expiryOf text
+      module _ (e : every isZero between ≡ true) (d : isTvp date ≡ true) {x : Expiry} (f : x ≡ expiryUnder UpToE10 (take (n - 0) b)) where
+        read-so : x ≡ expiryUnder UpToE10 text
         read-so =
             let q : n - 0 ≡ length text = omega (arith, ends) in
-            f ∙ ap expiryOf (ap (λ (k : ℕ). take k b) q ∙ take-upTo 0 b)
+            f ∙ ap (expiryUnder UpToE10) (ap (λ (k : ℕ). take k b) q ∙ take-upTo 0 b)
 
         -- no record
         pub place-other : (x .no ≡ 0 → ⊥) → false ≡ isPlace (decode b)
@@ -189,6 +192,20 @@ module _ (b : Bytes) (l : length b ≡ 1024) {n : ℕ} (m : n ≡ nextMark 0 b 0
         place-number w {v} g =
             ap₂ same (take-all (length b - 1016) (drop 1016 b) (omega (arith, length-drop 1016 b))) (number-so text read-so g)
             ∙ sym (held-as ∙ rw (e, d, sym (about-so text read-so) ∙ eq-eqb (x .no) 0 w))
+
+-- ---- an old record, as the code asks for it: r is what the reading answered for what stands before the first zero
+
+pub old-so : (b : Bytes) {n : ℕ} → n ≡ nextMark 0 b 0 → {r : Answer} → r ≡ answerOf (readOf pubkeyKinds (take (n - 0) b)) → not (eqb (r .no) 0) ≡ isOld (upTo 0 b)
+unfolding isOld
+old-so b {n} m {r} e =
+    let q : n - 0 ≡ length (upTo 0 b) = omega (arith, m, text-end b) in
+    let text : take (n - 0) b ≡ upTo 0 b = ap (λ (k : ℕ). take k b) q ∙ take-upTo 0 b in
+    go (readOf pubkeyKinds (upTo 0 b)) (e ∙ ap (λ (x : Bytes). answerOf (readOf pubkeyKinds x)) text) (under-says Today pubkeyKinds (upTo 0 b))
+  where
+    go : (o : Outcome) → r ≡ answerOf o → Honest (BuiltUnder Today pubkeyKinds (upTo 0 b)) o → not (eqb (r .no) 0) ≡ isRefused o
+    go (accepted k fs) h w = rw h
+    go (refused zero i) h w = absurd w
+    go (refused (suc k) i) h w = rw h (ap not (ne-eqb (suc k) 0 (λ z. omega arith)))
 
 -- ---- the TVP, as the code asks for it: m is what the date call answered
 

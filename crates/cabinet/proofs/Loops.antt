@@ -2,6 +2,7 @@
 -- Assumes nothing.
 use Prim.Native.Nat.{ℕ, zero, suc, _+_, _-_, _≤_, _<_}
 use mathlib.Core.Path.{_≡_, refl, sym, ap, _∙_}
+use mathlib.Core.Logic.{_≢_}
 use mathlib.Core.Bool.{Bool, true, false, not, cond, _&&_, and-true, and-assoc}
 use native.Mathlib.Omega.{arith}
 use native.Mathlib.Numerals.{add-one}
@@ -62,6 +63,18 @@ first-after t (suc n) i =
     by-test (t i)
     (λ h. rw (T-true (t i) h) (omega arith))
     (λ h. rw (T-false (t i) h) (omega (arith, first-after t n (suc i))))
+
+first-before : (t : ℕ → Bool) (n i : ℕ) → first t n i ≤ i + n
+unfolding first
+first-before t zero i = omega arith
+first-before t (suc n) i =
+    by-test (t i)
+    (λ h. rw (T-true (t i) h) (omega arith))
+    (λ h. rw (T-false (t i) h) (omega (arith, first-before t n (suc i))))
+
+-- a place that was found, of all 64
+pub found-below : (t : ℕ → Bool) {i : ℕ} → i ≡ firstFrom t 0 → (i ≡ 64 → ⊥) → i < 64
+found-below t {i} e n = let n′ : i ≢ 64 = n in omega (arith, first-before t 64 0)
 
 first-passes : (t : ℕ → Bool) (n i : ℕ) → first t n i < i + n → t (first t n i) ≡ true
 unfolding first

@@ -20,18 +20,19 @@ use Rattle.text.specs.Later.{later}
 use Rattle.text.proofs.Tests.{T-true, T-false, by-test}
 use Rattle.text.proofs.Types.{plain-without}
 use Rattle.format.specs.Kinds.{Kind, name, mark, identityKinds, pubkeyKinds}
-use Rattle.format.specs.Build.{joined, WithoutAll, withCheck, recordOf, IsIdentity, Built}
+use Rattle.format.specs.Build.{joined, WithoutAll, withCheck, recordOf, IsIdentity, Built, BuiltUnder}
 use Rattle.format.specs.Read.{cut}
+use Rattle.format.specs.declared.Rules.the-variants.{UpToE10}
 use Rattle.format.proofs.Table.{every-kind, all-among, identity-row, pubkey-row, name-plain, mark-no-character}
 use Rattle.format.proofs.Parts.{joined-append, cut-parts}
 use Rattle.format.proofs.Fields.{record-clean}
-use Rattle.format.proofs.Exactly.{identity-exact, identity-tame, read-exact, its-count}
+use Rattle.format.proofs.Exactly.{identity-exact, identity-tame, under-exact, its-count}
 use Rattle.frame.specs.Frame.{partOf, partStart}
 use Rattle.subjects.specs.Subjects.{manufacturer, mid, gnt}
-use Rattle.subjects.specs.Keys.{subject, Key}
+use Rattle.subjects.specs.Keys.{subject, KeyUnder}
 use Rattle.subjects.proofs.Subjects.{identity-field}
 use Rattle.shelf.specs.Places.{Names, named, sameNames, Held, held}
-use Rattle.shelf.specs.Cabinet.{width, tvpAt, numberOf, reads, about, zeros, encode}
+use Rattle.shelf.specs.Cabinet.{width, tvpAt, numberOf, stands, about, zeros, encode}
 use Rattle.shelf.proofs.Readings.{Asked, held-of}
 use Rattle.cabinet.specs.Steps.{namesIn, subjectAt, startsSo, isLaterThan}
 
@@ -161,15 +162,15 @@ free-names k p = zeros-begin (partStart (code "|") (zeros width) 1) width (names
     front-joined [] u h = absurd (h refl)
     front-joined (c ∷ a) u h = h
 
-module _ (h : Held) (good : reads (h .text) ≡ about (h .names) (h .gnt)) where
-  abbrev pub key-so : Key (h .text)
-  key-so = held-of (h .text) (h .names) (h .gnt) good .key
+module _ (h : Held) (good : stands (h .text) ≡ about (h .names) (h .gnt)) where
+  abbrev pub key-so : KeyUnder UpToE10 (h .text)
+  key-so = held-of UpToE10 (h .text) (h .names) (h .gnt) good .key
 
   pub its-subject : Asked (subject (key-so .fields)) (h .names) (h .gnt)
-  its-subject = held-of (h .text) (h .names) (h .gnt) good .subject-so
+  its-subject = held-of UpToE10 (h .text) (h .names) (h .gnt) good .subject-so
 
-  built-key : Built pubkeyKinds (h .text) (key-so .kind) (key-so .fields)
-  built-key = read-exact pubkeyKinds (h .text) (key-so .kind) (key-so .fields) .0 (key-so .is)
+  built-key : BuiltUnder UpToE10 pubkeyKinds (h .text) (key-so .kind) (key-so .fields)
+  built-key = under-exact UpToE10 pubkeyKinds (h .text) (key-so .kind) (key-so .fields) .0 (key-so .is)
 
   key-mark : mark (key-so .kind) ≡ code "|"
   key-mark = all-among (λ k. mark k ≡ code "|") pubkeyKinds (refl, (refl, tt)) (key-so .kind) (built-key .of-kind)

@@ -10,10 +10,11 @@ use lib.ListN.{length, take, drop, getD}
 use lib.Dec.{leb, eqb}
 use Rattle.text.specs.Text.{Bytes, same}
 use Rattle.text.specs.Later.{later}
+use Rattle.format.specs.Files.{upTo}
 use Rattle.frame.specs.Frame.{partOf, partStart}
 use Rattle.subjects.specs.Subjects.{identityPart}
 use Rattle.shelf.specs.Places.{Place}
-use Rattle.shelf.specs.Cabinet.{zeros, decode}
+use Rattle.shelf.specs.Cabinet.{zeros, decode, isOld}
 
 -- ---- one place
 
@@ -84,12 +85,19 @@ first t (suc n) i = cond (t i) i (first t n (suc i))
 abbrev pub firstFrom : (ℕ → Bool) → ℕ → ℕ
 firstFrom t i = first t (64 - i) i
 
+-- the place whose record has the names v; 64 where there is none, or where it is old
+unfoldable pub unlessOldAt : Bytes → ℕ → ℕ
+unlessOldAt s i = cond (eqb i 64) 64 (cond (isOld (upTo 0 (partAt s i))) 64 i)
+
 -- every place passes the test
 abbrev pub allPass : (ℕ → Bool) → Bool
 allPass t = eqb (firstFrom (λ i. not (t i)) 0) 64
 
 abbrev pub hasNames : Bytes → Bytes → ℕ → Bool
 hasNames s v i = startsSo (partAt s i) v
+
+abbrev pub currentOf : Bytes → Bytes → ℕ
+currentOf s v = unlessOldAt s (firstFrom (hasNames s v) 0)
 
 abbrev pub isPlaceAt : Bytes → ℕ → Bool
 isPlaceAt s i = isPlace (decode (partAt s i))

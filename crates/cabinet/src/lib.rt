@@ -1,6 +1,7 @@
-// The centre's key cabinet: document 02, E8, E9 and E10. 64 places of 1,024 bytes in 65,536 lent bytes; each is all zeros, or an accepted public key, zeros after it, the
-// last TVP accepted for its module and in the last eight bytes the number of its Expiry, and no two records share Subject kind, Manufacturer and MID. Every call takes any
-// bytes and asks first whether they are a cabinet; none has a `requires`.
+// The centre's key cabinet: document 02, E8 to E11. 64 places of 1,024 bytes in 65,536 lent bytes; each is all zeros, or a public key that the rules up to E10 accept,
+// zeros after it, the last TVP accepted for its module and in the last eight bytes the number of its Expiry, and no two records share Subject kind, Manufacturer and MID.
+// Every call takes any bytes and asks first whether they are a cabinet; none has a `requires`.
+mod ages;
 mod naming;
 mod tvps;
 mod writing;
@@ -11,7 +12,7 @@ ghost use lib.ListN.{length};
 ghost use Rattle.text.specs.Text.{every};
 ghost use Rattle.shelf.specs.Cabinet.{decode, shelf, makeCabinet, putKey, removeKey, admit, findKey};
 ghost use Rattle.cabinet.specs.Cabinet.{Files, counted, checked, FindSaid, FindPart};
-ghost use Rattle.cabinet.specs.Steps.{isZero, isPlace, isSome, partAt, firstFrom, allPass, hasNames, isPlaceAt, isFreeAt, isHeldAt, aloneAt, occupiedOf, Sized, PlaceIn};
+ghost use Rattle.cabinet.specs.Steps.{isZero, isPlace, isSome, partAt, firstFrom, currentOf, allPass, hasNames, isPlaceAt, isFreeAt, isHeldAt, aloneAt, occupiedOf, Sized, PlaceIn};
 
 pub const PLACES: usize = 64;
 
@@ -78,7 +79,7 @@ fn is_place(place: &[u8]) -> bool
     if !tvps::is_tvp(&place[TVP_AT..NUMBER_AT]) {
         return false;
     }
-    let expiry = expiry::expiry_of(&place[0..len]);
+    let expiry = expiry::expiry_under(format::Rules::UpToE10, &place[0..len]);
     if expiry.no != numbers::ACCEPTED {
         return false;
     }
@@ -111,6 +112,21 @@ fn place_of(cabinet: &[u8], from: usize, names: &[u8]) -> usize
         i += 1;
     }
     i
+}
+
+// The place of the record with these names; PLACES where there is none, or where it is old.
+fn current_of(cabinet: &[u8], names: &[u8]) -> usize
+    requires { ⌜ Sized (now cabinet) ⌝ }
+    ensures { λ r. ⌜ r ≡ currentOf (now (cabinet .entry)) (now (names .entry)) ⌝ }
+{
+    let its = place_of(cabinet, 0, names);
+    if its == PLACES {
+        return PLACES;
+    }
+    if ages::is_old(place_at(cabinet, its)) {
+        return PLACES;
+    }
+    its
 }
 
 // Whether every place is all zeros or holds a record.
@@ -320,7 +336,7 @@ pub fn admit(cabinet: &mut [u8], request: &[u8]) -> Filed
     let starts = answer.starts;
     let lens = answer.lens;
     let id_sm = places::field_at(request, &starts, &lens, table::REQ_ID_SM);
-    let its = place_of(cabinet, 0, naming::names_in(id_sm));
+    let its = current_of(cabinet, naming::names_in(id_sm));
     if its == PLACES {
         return file(numbers::NOT_THERE, 0);
     }
@@ -355,7 +371,7 @@ pub fn key_place(cabinet: &[u8], identity: &[u8]) -> fields::Place
     if answer.no != numbers::ACCEPTED {
         return find_none(answer.no, answer.field);
     }
-    let its = place_of(cabinet, 0, naming::names_in(identity));
+    let its = current_of(cabinet, naming::names_in(identity));
     if its == PLACES {
         return find_none(numbers::NOT_THERE, 0);
     }

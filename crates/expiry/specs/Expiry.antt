@@ -6,7 +6,9 @@ use lib.ListN.{getD}
 use Rattle.text.specs.Text.{Bytes}
 use Rattle.text.specs.Seconds.{momentOf}
 use Rattle.format.specs.Kinds.{pubkeyKinds}
-use Rattle.format.specs.Read.{Outcome, accepted, refused, readOf}
+use Rattle.format.specs.Read.{Outcome, accepted, refused, readUnder}
+use Rattle.format.specs.declared.Rules.{Rules}
+use Rattle.format.specs.declared.Rules.the-variants.{Today}
 use Rattle.expiry.specs.declared.Expiry.{Expiry}
 
 -- of the fields of a public key
@@ -18,5 +20,9 @@ abbrev pub expiryBy : Outcome → Expiry
 expiryBy (accepted k fs) = record { no = 0; field = 0; seconds = momentOf (expiry fs) .seconds }
 expiryBy (refused n i) = record { no = n; field = i; seconds = pos 0 }
 
-unfoldable pub expiryOf : Bytes → Expiry
-expiryOf s = expiryBy (readOf pubkeyKinds s)
+-- under some rules, and today
+unfoldable pub expiryUnder : Rules → Bytes → Expiry
+expiryUnder rules s = expiryBy (readUnder rules pubkeyKinds s)
+
+abbrev pub expiryOf : Bytes → Expiry
+expiryOf = expiryUnder Today

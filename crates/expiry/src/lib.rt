@@ -1,7 +1,7 @@
 // When a public key expires, as a number: document 02, E9. The call takes any bytes and has no `requires`; the record's own
 // refusals come first.
 ghost use mathlib.Core.Path.{_≡_};
-ghost use Rattle.expiry.specs.Expiry.{expiryOf};
+ghost use Rattle.expiry.specs.Expiry.{expiryUnder, expiryOf};
 
 // The number and the field's number, 0 where none is named; with 0 the seconds from 19930101T000000Z to Expiry, negative
 // before, and 0 with a refusal.
@@ -12,11 +12,11 @@ pub struct Expiry {
     pub seconds: i64,
 }
 
-// Of a public key; any other kind answers 2 in its place.
-pub fn expiry_of(record: &[u8]) -> Expiry
-    ensures { λ r. ⌜ r ≡ expiryOf (now («record» .entry)) ⌝ }
+// Of a public key under these rules; any other kind answers 2 in its place.
+pub fn expiry_under(rules: format::Rules, record: &[u8]) -> Expiry
+    ensures { λ r. ⌜ r ≡ expiryUnder rules (now («record» .entry)) ⌝ }
 {
-    let answer = reading::read_of(table::ECDSA, table::REQ, record);
+    let answer = reading::read_under(rules, table::ECDSA, table::REQ, record);
     if answer.no != numbers::ACCEPTED {
         return Expiry {
             no: answer.no,
@@ -34,4 +34,11 @@ pub fn expiry_of(record: &[u8]) -> Expiry
         field: 0,
         seconds,
     }
+}
+
+// The same under today's rules.
+pub fn expiry_of(record: &[u8]) -> Expiry
+    ensures { λ r. ⌜ r ≡ expiryOf (now («record» .entry)) ⌝ }
+{
+    expiry_under(format::Rules::Today, record)
 }

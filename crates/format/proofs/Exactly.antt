@@ -20,8 +20,10 @@ use Rattle.text.proofs.Types.{hex-length, timestamp-length, point-hex}
 use Rattle.text.proofs.Hexadecimal.{check-hex}
 use Rattle.numbers.specs.Numbers.{tooLong, missingCheck, wrongCheck, wrongCount}
 use Rattle.format.specs.Kinds.{Kind, KEY, Field, name, mark, fieldsOf, identityFields, identityKinds, recordKinds, pubkeyKinds, keyKinds, among}
-use Rattle.format.specs.Build.{WithoutAll, recordOf, empty, Fits, FitAll, longestRecord, PermittedOver, BuiltOver, NeverIdentity, IsIdentity, Permitted, Built}
-use Rattle.format.specs.Read.{Outcome, accepted, answer, title, markAfter, kindIn, body, check, endsIn, checkNo, cut, fieldsIn, judged, readAs, readOver, nobody, readIdentity, readOf, readRecord}
+use Rattle.format.specs.Build.{WithoutAll, recordOf, empty, Fits, FitAll, longestRecord, signed, PermittedOver, BuiltOver, NeverIdentity, IsIdentity, PermittedUnder, BuiltUnder, Permitted, Built}
+use Rattle.format.specs.Read.{Outcome, accepted, answer, title, markAfter, kindIn, body, check, endsIn, checkNo, cut, fieldsIn, judged, readAs, readOver, nobody, readIdentity, readUnder, readOf, readRecord}
+use Rattle.format.specs.declared.Rules.{Rules}
+use Rattle.format.specs.declared.Rules.the-variants.{UpToE10, Today}
 use Rattle.format.proofs.Table.{name-inj, All, kindIn-some, kindIn-known, longestBounded, record-room, identity-row, pubkey-row, seven-fields}
 use Rattle.format.proofs.Parts.{record-length, ends-last, built-title, built-ends, built-check, built-parts, record-without, found-built}
 use Rattle.format.proofs.Outcomes.{never, provided-law, passing-law, ofKind-law, Honest, honest-map, honest-zero}
@@ -52,20 +54,20 @@ built-right k fs =
 
 -- ---- a call that asks `ask` of identities, which accepts exactly the identities I
 
-module _ (ask : Bytes → Outcome) (I : Kind → Bytes → Type 0) (x : Exact ask I) where
-  over-says : (ks : List Kind) (s : Bytes) → Honest (BuiltOver I ks s) (readOver ask ks s)
+module _ (rules : Rules) (ask : Bytes → Outcome) (I : Kind → Bytes → Type 0) (x : Exact ask I) where
+  over-says : (ks : List Kind) (s : Bytes) → Honest (BuiltOver rules I ks s) (readOver rules ask ks s)
   unfolding readOver readAs
   over-says ks s =
-      let P : Outcome → Type 0 = Honest (BuiltOver I ks s) in
+      let P : Outcome → Type 0 = Honest (BuiltOver rules I ks s) in
       provided-law P (leb (length s) longestRecord) tooLong _ tt
-      (λ short. ofKind-law P (kindIn ks (title s) (markAfter s)) (readAs ask s) tt
+      (λ short. ofKind-law P (kindIn ks (title s) (markAfter s)) (readAs rules ask s) tt
       (λ k e.
       let fs : List Bytes = fieldsIn k s in
       let known = kindIn-some ks (title s) (markAfter s) k e in
       passing-law P (checkNo (mark k) s) 0 _ (λ n. tt)
       (λ right. provided-law P (eqb (length fs) (length (fieldsOf k))) wrongCount _ tt
-      (λ count. judged-law ask I x P (λ n i. tt) k fs (accepted k fs) (eqb→eq (length fs) (length (fieldsOf k)) count)
-      (λ fit both attributes.
+      (λ count. judged-law ask I x P (λ n i. tt) rules k fs (accepted k fs) (eqb→eq (length fs) (length (fieldsOf k)) count)
+      (λ fit both attributes signs.
       let checked = check-right (mark k) s right in
       let built =
       found-built k s (known .1) (known .2) (ends-last (mark k) (body s) (checked .0))
@@ -73,23 +75,23 @@ module _ (ask : Bytes → Outcome) (I : Kind → Bytes → Type 0) (x : Exact as
       record {
         of-kind = known .0;
         permitted =
-            record { fit = fit; both = both; attributes = attributes; short = subst (λ (x : Bytes). T (leb (length x) longestRecord)) built short };
+            record { fit = fit; both = both; attributes = attributes; signs = signs; short = subst (λ (x : Bytes). T (leb (length x) longestRecord)) built short };
         built = built;
       })))))
 
-  as-accepts : (k : Kind) (fs : List Bytes) → WithoutAll (mark k) fs → PermittedOver I k fs → readAs ask (recordOf k fs) k ≡ accepted k fs
+  as-accepts : (k : Kind) (fs : List Bytes) → WithoutAll (mark k) fs → PermittedOver rules I k fs → readAs rules ask (recordOf k fs) k ≡ accepted k fs
   unfolding readAs
   as-accepts k fs w p =
       rw (
         ap (drop 1) (built-parts k fs w),
         built-right k fs,
         T-true (eqb (length fs) (length (fieldsOf k))) (yes-eqb (fit-length I (fieldsOf k) fs (p .fit))),
-      ) (fits-judged ask I x k fs (accepted k fs) p)
+      ) (fits-judged ask I x rules k fs (accepted k fs) p)
 
-  over-exact : Tame I → (ks : List Kind) (s : Bytes) (k : Kind) (fs : List Bytes) → (readOver ask ks s ≡ accepted k fs) ↔ BuiltOver I ks s k fs
+  over-exact : Tame I → (ks : List Kind) (s : Bytes) (k : Kind) (fs : List Bytes) → (readOver rules ask ks s ≡ accepted k fs) ↔ BuiltOver rules I ks s k fs
   unfolding readOver
   over-exact tame ks s k fs = (
-    λ e. subst (Honest (BuiltOver I ks s)) e (over-says ks s),
+    λ e. subst (Honest (BuiltOver rules I ks s)) e (over-says ks s),
     λ b.
         let known = built-title k fs in
         rw (
@@ -109,9 +111,9 @@ never-exact = record { sound = λ k fs f e. never e; complete = λ k f i. absurd
 never-tame : Tame NeverIdentity
 never-tame m u k f i = absurd i
 
-identity-over : (s : Bytes) (k : Kind) (fs : List Bytes) → (readIdentity s ≡ accepted k fs) ↔ BuiltOver NeverIdentity identityKinds s k fs
+identity-over : (s : Bytes) (k : Kind) (fs : List Bytes) → (readIdentity s ≡ accepted k fs) ↔ BuiltOver Today NeverIdentity identityKinds s k fs
 unfolding readIdentity
-identity-over s k fs = over-exact nobody NeverIdentity never-exact never-tame identityKinds s k fs
+identity-over s k fs = over-exact Today nobody NeverIdentity never-exact never-tame identityKinds s k fs
 
 pub ask-sound : (k : Kind) (fs : List Bytes) (f : Bytes) → readIdentity f ≡ accepted k fs → IsIdentity k f
 unfolding IsIdentity
@@ -133,7 +135,7 @@ refit I J [] g (f ∷ fs) h = h
 refit I J (t ∷ ts) g [] h = h
 refit I J (t ∷ ts) g (f ∷ fs) h = (g .0 f (h .0), refit I J ts (g .1) fs (h .1))
 
-built-over : (I J : Kind → Bytes → Type 0) (s : Bytes) (k : Kind) (fs : List Bytes) → BuiltOver I identityKinds s k fs → BuiltOver J identityKinds s k fs
+built-over : (I J : Kind → Bytes → Type 0) (s : Bytes) (k : Kind) (fs : List Bytes) → BuiltOver Today I identityKinds s k fs → BuiltOver Today J identityKinds s k fs
 unfolding Fits
 built-over I J s k fs b =
     let row = identity-row k (b .of-kind) .1 in
@@ -141,13 +143,13 @@ built-over I J s k fs b =
     let p = b .permitted in
     record {
       of-kind = b .of-kind;
-      permitted = record { fit = rw row fit; both = p .both; attributes = p .attributes; short = p .short };
+      permitted = record { fit = rw row fit; both = p .both; attributes = p .attributes; signs = p .signs; short = p .short };
       built = b .built;
     }
 
 pub identity-says : (s : Bytes) → Honest (Built identityKinds s) (readIdentity s)
 unfolding readIdentity
-identity-says s = honest-map (built-over NeverIdentity IsIdentity s) (readIdentity s) (over-says nobody NeverIdentity never-exact identityKinds s)
+identity-says s = honest-map (built-over NeverIdentity IsIdentity s) (readIdentity s) (over-says Today nobody NeverIdentity never-exact identityKinds s)
 
 pub identity-exact : (s : Bytes) (k : Kind) (fs : List Bytes) → (readIdentity s ≡ accepted k fs) ↔ Built identityKinds s k fs
 identity-exact s k fs = (
@@ -167,21 +169,30 @@ identity-tame m u k f (fs, b) =
     let short = record-short NeverIdentity never-tame k fs (row .3) fit in
     rw (b .built) (record-without m (u′ .0) k fs (rw (row .0) (u′ .1)) clean, omega arith)
 
--- whatever kinds it reads: the fields of an identity are texts
+-- whatever rules it reads by, and whatever kinds: the fields of an identity are texts
+pub under-exact : (rules : Rules) (ks : List Kind) (s : Bytes) (k : Kind) (fs : List Bytes) → (readUnder rules ks s ≡ accepted k fs) ↔ BuiltUnder rules ks s k fs
+unfolding readUnder
+under-exact rules ks s k fs = over-exact rules readIdentity IsIdentity ask-exact identity-tame ks s k fs
+
 pub read-exact : (ks : List Kind) (s : Bytes) (k : Kind) (fs : List Bytes) → (readOf ks s ≡ accepted k fs) ↔ Built ks s k fs
-unfolding readOf
-read-exact ks s k fs = over-exact readIdentity IsIdentity ask-exact identity-tame ks s k fs
+read-exact = under-exact Today
 
 pub record-exact : (s : Bytes) (k : Kind) (fs : List Bytes) → (readRecord s ≡ accepted k fs) ↔ Built recordKinds s k fs
 unfolding readRecord
 record-exact s k fs = read-exact recordKinds s k fs
 
+pub under-says : (rules : Rules) (ks : List Kind) (s : Bytes) → Honest (BuiltUnder rules ks s) (readUnder rules ks s)
+unfolding readUnder
+under-says rules ks s = over-says rules readIdentity IsIdentity ask-exact ks s
+
 pub read-says : (ks : List Kind) (s : Bytes) → Honest (Built ks s) (readOf ks s)
-unfolding readOf
-read-says ks s = over-says readIdentity IsIdentity ask-exact ks s
+read-says = under-says Today
+
+pub under-honest : (rules : Rules) (ks : List Kind) (s : Bytes) → answer (readUnder rules ks s) ≡ 0 → (k : Kind) × (fs : List Bytes) × (readUnder rules ks s ≡ accepted k fs)
+under-honest rules ks s = honest-zero (BuiltUnder rules ks s) (readUnder rules ks s) (under-says rules ks s)
 
 pub read-honest : (ks : List Kind) (s : Bytes) → answer (readOf ks s) ≡ 0 → (k : Kind) × (fs : List Bytes) × (readOf ks s ≡ accepted k fs)
-read-honest ks s = honest-zero (Built ks s) (readOf ks s) (read-says ks s)
+read-honest = under-honest Today
 
 pub record-says : (s : Bytes) → Honest (Built recordKinds s) (readRecord s)
 unfolding readRecord
@@ -190,10 +201,10 @@ record-says s = read-says recordKinds s
 -- ---- one kind and one list of fields
 
 -- the first part of the body is the kind's name, and the fields are the others
-permitted-parts : (k : Kind) (fs : List Bytes) → Permitted k fs → cut (mark k) (body (recordOf k fs)) ≡ name k ∷ fs
+permitted-parts : {rules : Rules} (k : Kind) (fs : List Bytes) → PermittedUnder rules k fs → cut (mark k) (body (recordOf k fs)) ≡ name k ∷ fs
 permitted-parts k fs p = built-parts k fs (record-clean IsIdentity identity-tame k fs (p .fit))
 
-module _ {ks : List Kind} {s : Bytes} {k : Kind} {fs : List Bytes} (b : Built ks s k fs) where
+module _ {rules : Rules} {ks : List Kind} {s : Bytes} {k : Kind} {fs : List Bytes} (b : BuiltUnder rules ks s k fs) where
   pub its-title : title s ≡ name k
   its-title = ap title (b .built) ∙ built-title k fs .0
 
@@ -209,7 +220,7 @@ module _ {ks : List Kind} {s : Bytes} {k : Kind} {fs : List Bytes} (b : Built ks
   pub its-few : length fs ≤ 7
   its-few = omega (arith, its-count, seven-fields k)
 
-pub built-unique : (s : Bytes) (j k : Kind) (fs gs : List Bytes) → Permitted j fs → Permitted k gs → s ≡ recordOf j fs → s ≡ recordOf k gs
+pub built-unique : {rules others : Rules} (s : Bytes) (j k : Kind) (fs gs : List Bytes) → PermittedUnder rules j fs → PermittedUnder others k gs → s ≡ recordOf j fs → s ≡ recordOf k gs
     → (j ≡ k) × (fs ≡ gs)
 built-unique s j k fs gs p q d e =
     let one : j ≡ k = name-inj j k (sym (built-title j fs .0) ∙ ap title (sym d ∙ e) ∙ built-title k gs .0) in
@@ -217,11 +228,11 @@ built-unique s j k fs gs p q d e =
 
 -- ---- lengths
 
-pub built-length : (k : Kind) (fs : List Bytes) → Permitted k fs → length (recordOf k fs) ≤ longestRecord
+pub built-length : {rules : Rules} (k : Kind) (fs : List Bytes) → PermittedUnder rules k fs → length (recordOf k fs) ≤ longestRecord
 built-length k fs p = leb→le (length (recordOf k fs)) longestRecord (p .short)
 
 -- every kind but the wrapped key
-pub built-shorter : (k : Kind) (fs : List Bytes) → T (not (among k keyKinds)) → Permitted k fs → length (recordOf k fs) ≤ longestBounded
+pub built-shorter : {rules : Rules} (k : Kind) (fs : List Bytes) → T (not (among k keyKinds)) → PermittedUnder rules k fs → length (recordOf k fs) ≤ longestBounded
 built-shorter k fs other p = le-trans (record-short IsIdentity identity-tame k fs other (p .fit)) (record-room k other)
 
 -- a wrapped key has 37 bytes beside its Attributes and its ProtectedKey
@@ -257,5 +268,5 @@ signed-length k s q e i g h p n = let l = pubkey-length k s q e i g h p in omega
 
 -- ---- the fields that a builder is given
 
-pub permitted-judged : (k : Kind) (fs : List Bytes) (o : Outcome) → Permitted k fs → judged readIdentity k fs o ≡ o
+pub permitted-judged : (rules : Rules) (k : Kind) (fs : List Bytes) (o : Outcome) → PermittedUnder rules k fs → judged rules readIdentity k fs o ≡ o
 permitted-judged = fits-judged readIdentity IsIdentity ask-exact

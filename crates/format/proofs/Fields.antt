@@ -13,10 +13,11 @@ use mir.Facts.{and-yes}
 use Rattle.text.specs.Text.{Bytes, Ident, without, allOf, printable, isPrintable, isOf, shortest, longest}
 use Rattle.text.proofs.Tests.{by-test, cond-yes, cond-no, between-high}
 use Rattle.text.proofs.Types.{plain, plain-without, every-without, printable-characters, lengths}
-use Rattle.numbers.specs.Numbers.{wrongText, wrongIdentity, wrongKind, unpaired, wrongAttributes}
+use Rattle.numbers.specs.Numbers.{wrongText, wrongIdentity, wrongKind, unpaired, wrongAttributes, moduleUnsigned}
 use Rattle.format.specs.Kinds.{Kind, Field, Text, Printable, Identity, OrEmpty, name, mark, fieldsOf, keyKinds, among}
-use Rattle.format.specs.Build.{joined, WithoutAll, recordOf, empty, Fits, FitAll, paired, attributed, PermittedOver}
+use Rattle.format.specs.Build.{joined, WithoutAll, recordOf, empty, Fits, FitAll, paired, attributed, signed, PermittedOver}
 use Rattle.format.specs.Read.{Outcome, accepted, refused, passing, identityAnswer, fieldAnswer, each, wholeAnswer, judged}
+use Rattle.format.specs.declared.Rules.{Rules}
 use Rattle.format.proofs.Table.{alien, absent, bounded, bounded-fields, longestIdentity, longestOf, fieldRoom, mark-absent}
 use Rattle.format.proofs.Parts.{record-length}
 use Rattle.format.proofs.Outcomes.{passing-law}
@@ -50,9 +51,10 @@ zero-yes : (b : Bool) (n : ℕ) → cond b 0 (suc n) ≡ 0 → T b
 zero-yes true n e = tt
 zero-yes false n e = absurd (omega arith)
 
-whole-zero : (a b : Bool) → cond a (cond b 0 wrongAttributes) unpaired ≡ 0 → T a × T b
-whole-zero true b e = (tt, zero-yes b _ e)
-whole-zero false b e = absurd (omega arith)
+whole-zero : (a b c : Bool) → cond a (cond b (cond c 0 moduleUnsigned) wrongAttributes) unpaired ≡ 0 → T a × T b × T c
+whole-zero true true c e = (tt, tt, zero-yes c _ e)
+whole-zero true false c e = absurd (omega arith)
+whole-zero false b c e = absurd (omega arith)
 
 module _ (ask : Bytes → Outcome) (I : Kind → Bytes → Type 0) (x : Exact ask I) where
   field-fits : (t : Field) (f : Bytes) → fieldAnswer ask t f ≡ 0 → Fits I t f
@@ -81,11 +83,12 @@ module _ (ask : Bytes → Outcome) (I : Kind → Bytes → Type 0) (x : Exact as
   fits-each i (t ∷ ts) [] o h = refl
   fits-each i (t ∷ ts) (f ∷ fs) o h = rw (fits-field t f (h .0)) (fits-each (suc i) ts fs o (h .1))
 
-  pub fits-judged : (k : Kind) (fs : List Bytes) (o : Outcome) → PermittedOver I k fs → judged ask k fs o ≡ o
+  pub fits-judged : (rules : Rules) (k : Kind) (fs : List Bytes) (o : Outcome) → PermittedOver rules I k fs → judged rules ask k fs o ≡ o
   unfolding judged wholeAnswer
-  fits-judged k fs o p =
-      fits-each 1 (fieldsOf k) fs (passing (wholeAnswer k fs) 0 o) (p .fit)
-      ∙ ap (λ (n : ℕ). passing n 0 o) (cond-yes (paired k fs) _ unpaired (p .both) ∙ cond-yes (attributed k fs) 0 wrongAttributes (p .attributes))
+  fits-judged rules k fs o p =
+      fits-each 1 (fieldsOf k) fs (passing (wholeAnswer rules k fs) 0 o) (p .fit)
+      ∙ ap (λ (n : ℕ). passing n 0 o)
+      (cond-yes (paired k fs) _ unpaired (p .both) ∙ cond-yes (attributed k fs) _ wrongAttributes (p .attributes) ∙ cond-yes (signed rules k fs) 0 moduleUnsigned (p .signs))
 
   -- what holds of refusals, and of o if the fields fit, holds of the call
   module _ (S : Outcome → Type 0) (r : (n i : ℕ) → S (refused (suc n) i)) where
@@ -100,12 +103,12 @@ module _ (ask : Bytes → Outcome) (I : Kind → Bytes → Type 0) (x : Exact as
         (λ z. each-law (suc i) ts fs o (omega arith) (λ h. g (field-fits t f z, h)))
 
     -- all but the length of the record, which a reader asks first and a builder last
-    pub judged-law : (k : Kind) (fs : List Bytes) (o : Outcome) → length fs ≡ length (fieldsOf k)
-        → (FitAll I (fieldsOf k) fs → T (paired k fs) → T (attributed k fs) → S o) → S (judged ask k fs o)
+    pub judged-law : (rules : Rules) (k : Kind) (fs : List Bytes) (o : Outcome) → length fs ≡ length (fieldsOf k)
+        → (FitAll I (fieldsOf k) fs → T (paired k fs) → T (attributed k fs) → T (signed rules k fs) → S o) → S (judged rules ask k fs o)
     unfolding judged wholeAnswer
-    judged-law k fs o l g =
-        each-law 1 (fieldsOf k) fs (passing (wholeAnswer k fs) 0 o) l
-        (λ h. passing-law S (wholeAnswer k fs) 0 o (λ n. r n 0) (λ z. let w = whole-zero (paired k fs) (attributed k fs) z in g h (w .0) (w .1)))
+    judged-law rules k fs o l g =
+        each-law 1 (fieldsOf k) fs (passing (wholeAnswer rules k fs) 0 o) l
+        (λ h. passing-law S (wholeAnswer rules k fs) 0 o (λ n. r n 0) (λ z. let w = whole-zero (paired k fs) (attributed k fs) (signed rules k fs) z in g h (w .0) (w .1) (w .2)))
 
 -- ---- no mark in a field, and its length
 

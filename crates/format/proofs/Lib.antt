@@ -8,3 +8,4 @@ pub mod Lines
 pub mod DamagedLines
 pub mod Damage
 pub mod Refusals
+pub mod Earlier

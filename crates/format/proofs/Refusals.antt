@@ -1,5 +1,5 @@
 -- Which numbers a call can give: those of the form, those that the types of a kind's fields can be refused with, 8 where the kind has
--- Issuer and Signature, and 14 where it has Attributes. And that a field is named exactly with 6, 7 and 9.
+-- Issuer and Signature, 14 where it has Attributes, and today 28 where a module's key is of that kind. And that a field is named exactly with 6, 7 and 9.
 -- Assumes nothing.
 use Prim.Native.Nat.{ℕ, zero, suc}
 use mathlib.Core.Path.{_≡_, refl}
@@ -15,10 +15,12 @@ use Rattle.crc16.specs.Crc.{crcOf}
 use Rattle.text.specs.Text.{Bytes, allOf, oneOf, every, same, isHex, isOf, isPrintable}
 use Rattle.text.specs.Base16.{checkText}
 use Rattle.text.proofs.Tests.{or-right, one-of}
-use Rattle.numbers.specs.Numbers.{tooLong, unknownKind, missingCheck, wrongCheck, wrongCount, wrongText, wrongIdentity, unpaired, wrongKind, wrongAttributes}
-use Rattle.format.specs.Kinds.{Kind, Field, Text, Printable, Identity, OrEmpty, mark, fieldsOf, pubkeyKinds, keyKinds, among}
-use Rattle.format.specs.Build.{empty, longestRecord}
+use Rattle.numbers.specs.Numbers.{tooLong, unknownKind, missingCheck, wrongCheck, wrongCount, wrongText, wrongIdentity, unpaired, wrongKind, wrongAttributes, moduleUnsigned}
+use Rattle.format.specs.Kinds.{Kind, ECDH, Field, Text, Printable, Identity, OrEmpty, mark, fieldsOf, pubkeyKinds, keyKinds, among}
+use Rattle.format.specs.Build.{empty, signed, longestRecord}
 use Rattle.format.specs.Read.{Outcome, accepted, refused, answer, place, provided, passing, title, markAfter, kindIn, body, check, endsIn, checkNo, fieldsIn, identityAnswer, fieldAnswer, each, wholeAnswer, judged, readAs, readOver}
+use Rattle.format.specs.declared.Rules.{Rules}
+use Rattle.format.specs.declared.Rules.the-variants.{UpToE10, Today}
 use Rattle.format.proofs.Table.{All, all-among, kindIn-some}
 use Rattle.format.proofs.Outcomes.{provided-law, ofKind-law}
 
@@ -33,12 +35,16 @@ covered ns (Identity ks) = oneOf ns wrongIdentity && oneOf ns wrongKind
 covered ns (OrEmpty t) = covered ns t
 
 -- those of the fields of this kind together
-abbrev coversWhole : List ℕ → Kind → Bool
-coversWhole ns k = (not (among k pubkeyKinds) || oneOf ns unpaired) && (not (among k keyKinds) || oneOf ns wrongAttributes)
+abbrev coversUnsigned : Rules → List ℕ → Kind → Bool
+coversUnsigned UpToE10 ns k = true
+coversUnsigned Today ns k = not (among k (ECDH ∷ [])) || oneOf ns moduleUnsigned
+
+abbrev coversWhole : Rules → List ℕ → Kind → Bool
+coversWhole rules ns k = (not (among k pubkeyKinds) || oneOf ns unpaired) && ((not (among k keyKinds) || oneOf ns wrongAttributes) && coversUnsigned rules ns k)
 
 -- and each and together
-abbrev pub covers : List ℕ → Kind → Bool
-covers ns k = allOf (map (covered ns) (fieldsOf k)) && coversWhole ns k
+abbrev pub covers : Rules → List ℕ → Kind → Bool
+covers rules ns k = allOf (map (covered ns) (fieldsOf k)) && coversWhole rules ns k
 
 module _ (ns : List ℕ) (z : T (oneOf ns 0)) where
   pub either-given : (b : Bool) (n m : ℕ) → T (oneOf ns n) → T (oneOf ns m) → T (oneOf ns (cond b n m))
@@ -88,17 +94,28 @@ module _ (ns : List ℕ) (z : T (oneOf ns 0)) where
     test-given true test n m h k = k
     test-given false test n m h k = either-given test n m k h
 
-    whole-given : (k : Kind) (fs : List Bytes) → T (coversWhole ns k) → T (oneOf ns (wholeAnswer k fs))
-    unfolding wholeAnswer
-    whole-given k fs h =
-        let both = and-yes (not (among k pubkeyKinds) || oneOf ns unpaired) (not (among k keyKinds) || oneOf ns wrongAttributes) h in
-        test-given (not (among k pubkeyKinds)) _ _ unpaired (both .0) (test-given (not (among k keyKinds)) _ 0 wrongAttributes (both .1) z)
+    -- a test that those of one kind fail which fail another one, too
+    both-given : (kind test : Bool) (m : ℕ) → T (not kind || oneOf ns m) → T (oneOf ns (cond (not (kind && test)) 0 m))
+    both-given true test m h = either-given (not test) 0 m z h
+    both-given false test m h = z
 
-    pub judged-given : (k : Kind) (fs : List Bytes) (o : Outcome) → T (covers ns k) → Gives ns o → Gives ns (judged ask k fs o)
+    unsigned-given : (rules : Rules) (k : Kind) (fs : List Bytes) → T (coversUnsigned rules ns k) → T (oneOf ns (cond (signed rules k fs) 0 moduleUnsigned))
+    unsigned-given UpToE10 k fs h = z
+    unsigned-given Today k fs h = both-given (among k (ECDH ∷ [])) _ moduleUnsigned h
+
+    whole-given : (rules : Rules) (k : Kind) (fs : List Bytes) → T (coversWhole rules ns k) → T (oneOf ns (wholeAnswer rules k fs))
+    unfolding wholeAnswer
+    whole-given rules k fs h =
+        let first = and-yes (not (among k pubkeyKinds) || oneOf ns unpaired) _ h in
+        let others = and-yes (not (among k keyKinds) || oneOf ns wrongAttributes) (coversUnsigned rules ns k) (first .1) in
+        test-given (not (among k pubkeyKinds)) _ _ unpaired (first .0)
+        (test-given (not (among k keyKinds)) _ _ wrongAttributes (others .0) (unsigned-given rules k fs (others .1)))
+
+    pub judged-given : (rules : Rules) (k : Kind) (fs : List Bytes) (o : Outcome) → T (covers rules ns k) → Gives ns o → Gives ns (judged rules ask k fs o)
     unfolding judged
-    judged-given k fs o h g =
+    judged-given rules k fs o h g =
         let both = and-yes (allOf (map (covered ns) (fieldsOf k))) _ h in
-        each-given 1 (fieldsOf k) fs (passing (wholeAnswer k fs) 0 o) (both .0) (passing-given (wholeAnswer k fs) 0 o (whole-given k fs (both .1)) g)
+        each-given 1 (fieldsOf k) fs (passing (wholeAnswer rules k fs) 0 o) (both .0) (passing-given (wholeAnswer rules k fs) 0 o (whole-given rules k fs (both .1)) g)
 
     -- ---- a call that reads the kinds ks
 
@@ -106,16 +123,16 @@ module _ (ns : List ℕ) (z : T (oneOf ns 0)) where
     abbrev pub Form : Type 0
     Form = T (oneOf ns tooLong) × T (oneOf ns unknownKind) × T (oneOf ns missingCheck) × T (oneOf ns wrongCheck) × T (oneOf ns wrongCount)
 
-    pub over-given : Form → (ks : List Kind) → All (λ k. T (covers ns k)) ks → (s : Bytes) → Gives ns (readOver ask ks s)
+    pub over-given : (rules : Rules) → Form → (ks : List Kind) → All (λ k. T (covers rules ns k)) ks → (s : Bytes) → Gives ns (readOver rules ask ks s)
     unfolding readOver readAs
-    over-given (long, kind, missing, wrong, count) ks h s =
+    over-given rules (long, kind, missing, wrong, count) ks h s =
         provided-given (leb (length s) longestRecord) tooLong _ long
-        (ofKind-law (Gives ns) (kindIn ks (title s) (markAfter s)) (readAs ask s) kind
+        (ofKind-law (Gives ns) (kindIn ks (title s) (markAfter s)) (readAs rules ask s) kind
         (λ k e.
         let fs : List Bytes = fieldsIn k s in
         passing-given (checkNo (mark k) s) 0 _ (check-given (mark k) s missing wrong)
         (provided-given (eqb (length fs) (length (fieldsOf k))) wrongCount _ count
-        (judged-given k fs (accepted k fs) (all-among (λ k. T (covers ns k)) ks h k (kindIn-some ks (title s) (markAfter s) k e .0)) z))))
+        (judged-given rules k fs (accepted k fs) (all-among (λ k. T (covers rules ns k)) ks h k (kindIn-some ks (title s) (markAfter s) k e .0)) z))))
 
 -- ---- a field is named exactly with 6, 7 and 9
 
@@ -150,31 +167,35 @@ any-covered (OrEmpty t) = any-covered t
 
 -- what all fields together can be answered
 abbrev ofWhole : List ℕ
-ofWhole = 0 ∷ 8 ∷ 14 ∷ []
+ofWhole = 0 ∷ 8 ∷ 14 ∷ 28 ∷ []
 
-any-whole : (k : Kind) → T (coversWhole ofWhole k)
-any-whole k =
-    yes-and (not (among k pubkeyKinds) || true) (not (among k keyKinds) || true) (or-right (not (among k pubkeyKinds)) true tt)
-    (or-right (not (among k keyKinds)) true tt)
+any-unsigned : (rules : Rules) (k : Kind) → T (coversUnsigned rules ofWhole k)
+any-unsigned UpToE10 k = tt
+any-unsigned Today k = or-right (not (among k (ECDH ∷ []))) true tt
 
-module _ (ask : Bytes → Outcome) where
+any-whole : (rules : Rules) (k : Kind) → T (coversWhole rules ofWhole k)
+any-whole rules k =
+    yes-and (not (among k pubkeyKinds) || true) _ (or-right (not (among k pubkeyKinds)) true tt)
+    (yes-and (not (among k keyKinds) || true) (coversUnsigned rules ofWhole k) (or-right (not (among k keyKinds)) true tt) (any-unsigned rules k))
+
+module _ (rules : Rules) (ask : Bytes → Outcome) where
   each-names : (i : ℕ) (ts : List Field) (fs : List Bytes) (o : Outcome) → Names o → Names (each ask (suc i) ts fs o)
   each-names i [] fs o s = s
   each-names i (t ∷ ts) [] o s = s
   each-names i (t ∷ ts) (f ∷ fs) o s =
       passing-names ofFields (fieldAnswer ask t f) (suc i) (each ask (suc (suc i)) ts fs o) (field-given ofFields tt ask t f (any-covered t)) (rw (lt-ltb 0 (suc i) (omega arith)) tt) (each-names (suc i) ts fs o s)
 
-  pub judged-names : (k : Kind) (fs : List Bytes) (o : Outcome) → Names o → Names (judged ask k fs o)
+  pub judged-names : (k : Kind) (fs : List Bytes) (o : Outcome) → Names o → Names (judged rules ask k fs o)
   unfolding judged
   judged-names k fs o s =
-      each-names 0 (fieldsOf k) fs (passing (wholeAnswer k fs) 0 o)
-      (passing-names ofWhole (wholeAnswer k fs) 0 o (whole-given ofWhole tt ask k fs (any-whole k)) tt s)
+      each-names 0 (fieldsOf k) fs (passing (wholeAnswer rules k fs) 0 o)
+      (passing-names ofWhole (wholeAnswer rules k fs) 0 o (whole-given ofWhole tt ask rules k fs (any-whole rules k)) tt s)
 
-  pub over-names : (ks : List Kind) (s : Bytes) → Names (readOver ask ks s)
+  pub over-names : (ks : List Kind) (s : Bytes) → Names (readOver rules ask ks s)
   unfolding readOver readAs
   over-names ks s =
       provided-law Names (leb (length s) longestRecord) tooLong _ refl
-      (λ _. ofKind-law Names (kindIn ks (title s) (markAfter s)) (readAs ask s) refl
+      (λ _. ofKind-law Names (kindIn ks (title s) (markAfter s)) (readAs rules ask s) refl
       (λ k e.
       let fs : List Bytes = fieldsIn k s in
       passing-names (0 ∷ 3 ∷ 4 ∷ []) (checkNo (mark k) s) 0 _ (check-given (0 ∷ 3 ∷ 4 ∷ []) tt (mark k) s tt tt) tt

@@ -12,8 +12,8 @@ use lib.ListN.{length, getD}
 use mir.Facts.{and-yes, or-yes, yes-eqb}
 use Rattle.text.specs.Text.{Bytes, same, every, allOf, identCharacter, printable, longest}
 use Rattle.text.proofs.Tests.{by-test, T-true, T-false, or-left, or-right, same→eq, same-refl, at-every}
-use Rattle.format.specs.Kinds.{Kind, SMMAN, SMID, KMCID, ECDSA, ECDH, REQ, RESP, KEY, Field, Text, Printable, Identity, OrEmpty, name, mark, fieldsOf, identityFields, pubkeyFields, identityKinds, pubkeyKinds, keyKinds, allKinds, among}
-use Rattle.format.specs.Read.{isMark, kindIn}
+use Rattle.format.specs.Kinds.{Kind, SMMAN, SMID, KMCID, ECDSA, ECDH, REQ, RESP, KEY, Field, Text, Printable, Identity, OrEmpty, name, mark, fieldsOf, identityFields, pubkeyFields, identityKinds, pubkeyKinds, keyKinds, allKinds, among, isMark}
+use Rattle.format.specs.Read.{kindIn}
 
 -- ---- a kind is known by its name
 

@@ -2,9 +2,9 @@
 -- Assumes nothing.
 use Prim.Native.Nat.{ℕ}
 use Prim.Native.Char.{code}
-use mathlib.Core.Bool.{Bool, false, _||_}
+use mathlib.Core.Bool.{Bool, false, cond, _||_}
 use mathlib.Core.List.{List, [], _∷_}
-use Rattle.text.specs.Text.{Bytes, ascii, same, TextType, Ident, Timestamp, Point, Sig, Mac, Print, Protected, Hex}
+use Rattle.text.specs.Text.{Bytes, ascii, same, oneOf, TextType, Ident, Timestamp, Point, Sig, Mac, Print, Protected, Hex}
 
 pub data Kind : Type 0 where
   SMMAN SMID KMCID ECDSA ECDH REQ RESP KEY : Kind
@@ -77,3 +77,13 @@ allKinds = SMMAN ∷ SMID ∷ KMCID ∷ ECDSA ∷ ECDH ∷ REQ ∷ RESP ∷ KEY 
 abbrev pub among : Kind → List Kind → Bool
 among k [] = false
 among k (j ∷ ks) = same (name k) (name j) || among k ks
+
+-- ---- what a record, or an identity in one, is called
+
+abbrev pub isMark : ℕ → Bool
+isMark c = oneOf (ascii ":|") c
+
+-- what stands before the first mark, whichever that is
+abbrev pub title : Bytes → Bytes
+title [] = []
+title (c ∷ s) = cond (isMark c) [] (c ∷ title s)

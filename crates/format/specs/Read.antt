@@ -1,5 +1,5 @@
 -- How a record is read: document 01, "Numbers given back", order when reading: 1, 2, 3, 4, 5, then fields left to right (6, or 7
--- before 9), then 8; document 02, E1: then 14; STS 600-4-2, clause 5.8.2 (PARSE-RECORD).
+-- before 9), then 8; document 02, E1: then 14, and E11: then 28; STS 600-4-2, clause 5.8.2 (PARSE-RECORD).
 -- Assumes nothing.
 use Prim.Native.Nat.{ℕ, zero, suc, _-_}
 use Prim.Native.Char.{code}
@@ -9,12 +9,15 @@ use mathlib.Core.List.{List, [], _∷_}
 use lib.ListN.{length, take, drop}
 use lib.Dec.{leb, eqb}
 use Rattle.crc16.specs.Crc.{crcOf}
-use Rattle.text.specs.Text.{Bytes, same, oneOf, ascii, isHex, isOf, isPrintable}
+use Rattle.text.specs.Text.{Bytes, same, isHex, isOf, isPrintable}
 use Rattle.text.specs.Base16.{checkText}
-use Rattle.numbers.specs.Numbers.{tooLong, unknownKind, missingCheck, wrongCheck, wrongCount, wrongText, wrongIdentity, unpaired, wrongKind, wrongAttributes}
+use Rattle.numbers.specs.Numbers.{tooLong, unknownKind, missingCheck, wrongCheck, wrongCount, wrongText, wrongIdentity, unpaired, wrongKind, wrongAttributes, moduleUnsigned}
 pub use Rattle.format.specs.Parts.{lastOr, endsIn, onFirst, cut}
+pub use Rattle.format.specs.Kinds.{isMark, title}
 use Rattle.format.specs.Kinds.{Kind, Field, Text, Printable, Identity, OrEmpty, name, mark, fieldsOf, identityKinds, recordKinds, among}
-use Rattle.format.specs.Build.{empty, paired, attributed, longestRecord}
+use Rattle.format.specs.Build.{empty, paired, attributed, signed, longestRecord}
+use Rattle.format.specs.declared.Rules.{Rules}
+use Rattle.format.specs.declared.Rules.the-variants.{Today}
 
 -- ---- what a call says: the kind and the fields, or the number of the refusal and of the field
 
@@ -43,14 +46,7 @@ passing (suc n) i o = refused (suc n) i
 
 -- ---- number 2: the kind
 
-abbrev pub isMark : ℕ → Bool
-isMark c = oneOf (ascii ":|") c
-
--- what stands before the first mark, whichever that is, and that mark (0 if there is none)
-abbrev pub title : Bytes → Bytes
-title [] = []
-title (c ∷ s) = cond (isMark c) [] (c ∷ title s)
-
+-- the mark behind the title (0 if there is none)
 abbrev pub markAfter : Bytes → ℕ
 markAfter [] = 0
 markAfter (c ∷ s) = cond (isMark c) c (markAfter s)
@@ -85,7 +81,7 @@ checkNo m s =
 abbrev pub fieldsIn : Kind → Bytes → List Bytes
 fieldsIn k s = drop 1 (cut (mark k) (body s))
 
--- ---- numbers 6, 7 and 9: one field, and 8 and 14: the fields together
+-- ---- numbers 6, 7 and 9: one field, and 8, 14 and 28: the fields together
 
 -- an identity to which the identity call says o, where the kinds ks are permitted
 unfoldable pub identityAnswer : List Kind → Outcome → ℕ
@@ -106,28 +102,33 @@ each ask i (t ∷ ts) [] o = o
 each ask i (t ∷ ts) (f ∷ fs) o = passing (fieldAnswer ask t f) i (each ask (suc i) ts fs o)
 
 -- what the fields together are answered
-unfoldable pub wholeAnswer : Kind → List Bytes → ℕ
-wholeAnswer k fs = cond (paired k fs) (cond (attributed k fs) 0 wrongAttributes) unpaired
+unfoldable pub wholeAnswer : Rules → Kind → List Bytes → ℕ
+wholeAnswer rules k fs =
+    cond (paired k fs)
+    (cond (attributed k fs)
+    (cond (signed rules k fs) 0 moduleUnsigned)
+    wrongAttributes)
+    unpaired
 
 -- the fields fs of a record of kind k: each of them, and then all together
-unfoldable pub judged : (Bytes → Outcome) → Kind → List Bytes → Outcome → Outcome
-judged ask k fs o = each ask 1 (fieldsOf k) fs (passing (wholeAnswer k fs) 0 o)
+unfoldable pub judged : Rules → (Bytes → Outcome) → Kind → List Bytes → Outcome → Outcome
+judged rules ask k fs o = each ask 1 (fieldsOf k) fs (passing (wholeAnswer rules k fs) 0 o)
 
 -- ---- the calls
 
 -- s, which begins with the name and the mark of the kind k
-unfoldable pub readAs : (Bytes → Outcome) → Bytes → Kind → Outcome
-readAs ask s k =
+unfoldable pub readAs : Rules → (Bytes → Outcome) → Bytes → Kind → Outcome
+readAs rules ask s k =
     passing (checkNo (mark k) s) 0
     (provided (eqb (length (fieldsIn k s)) (length (fieldsOf k))) wrongCount
-    (judged ask k (fieldsIn k s)
+    (judged rules ask k (fieldsIn k s)
     (accepted k (fieldsIn k s))))
 
 -- a call that reads the kinds ks
-unfoldable pub readOver : (Bytes → Outcome) → List Kind → Bytes → Outcome
-readOver ask ks s =
+unfoldable pub readOver : Rules → (Bytes → Outcome) → List Kind → Bytes → Outcome
+readOver rules ask ks s =
     provided (leb (length s) longestRecord) tooLong
-    (ofKind (kindIn ks (title s) (markAfter s)) (readAs ask s))
+    (ofKind (kindIn ks (title s) (markAfter s)) (readAs rules ask s))
 
 -- whom the identity call asks: an identity has no identity in it
 abbrev pub nobody : Bytes → Outcome
@@ -135,11 +136,14 @@ nobody f = refused unknownKind 0
 
 -- the identity call
 unfoldable pub readIdentity : Bytes → Outcome
-readIdentity s = readOver nobody identityKinds s
+readIdentity s = readOver Today nobody identityKinds s
 
--- a call that reads the kinds ks of records, and the record call, which reads them all
-unfoldable pub readOf : List Kind → Bytes → Outcome
-readOf ks s = readOver readIdentity ks s
+-- a call that reads the kinds ks of records under some rules, one that reads them today, and the record call, which reads them all
+unfoldable pub readUnder : Rules → List Kind → Bytes → Outcome
+readUnder rules ks s = readOver rules readIdentity ks s
+
+abbrev pub readOf : List Kind → Bytes → Outcome
+readOf = readUnder Today
 
 unfoldable pub readRecord : Bytes → Outcome
 readRecord s = readOf recordKinds s

@@ -13,7 +13,7 @@ use Rattle.text.specs.Text.{Bytes}
 use Rattle.numbers.specs.Numbers.{tooLong, shortOutput, missingBegins, missingEnds}
 use Rattle.format.specs.Kinds.{Kind, SMMAN, SMID, KMCID, ECDSA, ECDH, REQ, RESP, KEY, name, recordKinds, allKinds}
 use Rattle.format.specs.Build.{Built}
-use Rattle.format.specs.Read.{readOver, readOf}
+use Rattle.format.specs.Read.{readOver, readUnder, readOf}
 use Rattle.format.specs.Files.{lineFeed}
 use Rattle.format.proofs.Exactly.{read-says}
 use Rattle.frame.proofs.Parts.{cut-none}
@@ -76,7 +76,7 @@ module _ (t s : Bytes) {row : ℕ} (at : row ≡ rowFor (named allKinds t)) {a :
 -- ---- the rows, joined
 
 pub too-long : (t s out : Bytes) → 1024 < length s → (w : Written) → w ≡ says (denied tooLong 0) → Writes (readFound (length out) (block t s)) out out w
-unfolding readOf readOver
+unfolding readUnder readOver
 too-long t s out h w e = rw (lt-leb (length s) 1024 h) (put-denied w e)
 
 -- the part of the array a that holds the record

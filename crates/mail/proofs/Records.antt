@@ -21,7 +21,7 @@ use Rattle.text.proofs.Hexadecimal.{check-hex}
 use Rattle.format.specs.Kinds.{Kind, name, mark, fieldsOf, recordKinds, among}
 use Rattle.format.specs.Build.{longestRecord, recordOf, withCheck, joined, IsIdentity, Permitted, Built}
 use Rattle.numbers.specs.Numbers.{unknownKind}
-use Rattle.format.specs.Read.{accepted, refused, kindIn, title, markAfter, lastOr, readOver, readOf, readRecord}
+use Rattle.format.specs.Read.{accepted, refused, kindIn, title, markAfter, lastOr, readOver, readUnder, readOf, readRecord}
 use Rattle.format.specs.Files.{lineFeed}
 use Rattle.format.proofs.Table.{every-kind, all-among, absent}
 use Rattle.format.proofs.Parts.{last-append, last-any, last-every, record-without}
@@ -80,7 +80,7 @@ kind-alone t m = go (named recordKinds t) refl
     go (some k) n = rw (named-some recordKinds t k n) (each k (named-among recordKinds t k n))
 
 pub named-read : (s : Bytes) → readOf (alone (named recordKinds (title s))) s ≡ readRecord s
-unfolding readRecord readOf readOver
+unfolding readRecord readUnder readOver
 named-read s = rw (kind-alone (title s) (markAfter s))
 
 -- so a record of the kind that is named is accepted
@@ -89,7 +89,7 @@ built-read {k} {fs} s b = rw (its-title b) at (named-read s) ∙ record-exact s 
 
 -- and else it is of another kind
 pub other-read : (t s : Bytes) → t ≢ title s → length s ≤ longestRecord → readOf (alone (named recordKinds t)) s ≡ refused unknownKind 0
-unfolding readOf readOver
+unfolding readUnder readOver
 other-read t s n h = rw (le-leb (length s) longestRecord h, none-in (named recordKinds t) refl)
   where
     none-in : (o : Option Kind) → named recordKinds t ≡ o → kindIn (alone o) (title s) (markAfter s) ≡ none

@@ -82,3 +82,6 @@ notThere = 26
 
 abbrev pub tvpNotLater : ℕ
 tvpNotLater = 27
+
+abbrev pub moduleUnsigned : ℕ
+moduleUnsigned = 28

@@ -55,3 +55,5 @@ pub const NO_PLACE: u8 = 25;
 pub const NOT_THERE: u8 = 26;
 
 pub const TVP_NOT_LATER: u8 = 27;
+
+pub const MODULE_UNSIGNED: u8 = 28;

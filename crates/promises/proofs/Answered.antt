@@ -14,7 +14,9 @@ use Rattle.text.proofs.Tests.{T-true, T-false, by-test}
 use Rattle.numbers.specs.Numbers.{tooLong, unknownKind, wrongCount, shortOutput, unfinished, missingItem, notAlike, wrongFingerprint, wrongZ, otherRequest, wrongTag, missingTrailer, wrongHash, missingBegins, missingEnds, notCabinet, notLater, noPlace, notThere, tvpNotLater}
 use Rattle.format.specs.Kinds.{Kind, REQ, fieldsOf, recordKinds, pubkeyKinds, allKinds}
 use Rattle.format.specs.Build.{recordOf, longestRecord}
-use Rattle.format.specs.Read.{Outcome, accepted, refused, answer, place, provided, judged, readIdentity, readOf, readRecord}
+use Rattle.format.specs.Read.{Outcome, accepted, refused, answer, place, provided, judged, readIdentity, readUnder, readOf, readRecord}
+use Rattle.format.specs.declared.Rules.{Rules}
+use Rattle.format.specs.declared.Rules.the-variants.{Today}
 use Rattle.format.specs.Files.{lineAtOver}
 use Rattle.format.proofs.Outcomes.{provided-law, ofKind-law}
 use Rattle.format.proofs.Lines.{at-end, at-line, at-unfinished, by-place}
@@ -31,9 +33,9 @@ use Rattle.files.specs.declared.Line.the-variants.{Finished, Read}
 use Rattle.trailed.specs.Trailed.{trailer, recordIn, trailerIn, isTrailer, onlyIf, readTrailed}
 use Rattle.mail.specs.Mail.{linesIn, alone, readFound, readMail}
 use Rattle.mail.proofs.Blocks.{opened-found}
-use Rattle.expiry.specs.Expiry.{expiryBy, expiryOf}
+use Rattle.expiry.specs.Expiry.{expiryBy, expiryUnder, expiryOf}
 use Rattle.shelf.specs.Places.{Names, Held, Place, holds, lookup, lowest, anyFree}
-use Rattle.shelf.specs.Cabinet.{places, width, Reading, about, declined, asks, reads, requests, zeros, shelf, putAt, putRead, removeAt, removeRead, admitAt, admitRead, leaving, told, onPlaces, makeCabinet, putKey, removeKey, admit, foundAt, findRead, findIn, findKey, countIn, countKeys, checkCabinet}
+use Rattle.shelf.specs.Cabinet.{places, width, Reading, about, declined, asks, reads, requests, zeros, shelf, putAt, putRead, removeAt, removeRead, unlessOld, admitAt, admitRead, leaving, told, onPlaces, makeCabinet, putKey, removeKey, admit, foundAt, findRead, findIn, findKey, countIn, countKeys, checkCabinet}
 use Rattle.shelf.proofs.Readings.{asks-own, reads-own, requests-own}
 use Rattle.subjects.specs.Subjects.{gnt, alike}
 use Rattle.fingerprint.specs.Fingerprint.{rightPrint, printIn, checkBy}
@@ -110,7 +112,7 @@ module _ (P : ℕ → ℕ → Type 0) (z : P 0 0) where
   response-answered x (refused n i) p h g long other tag = h
 
   -- the fields alone: 2 besides; a building: 2, 5, 1 and 10
-  module _ (fields : (k : Kind) (fs : List Bytes) (o : Outcome) → Of o → Of (judged readIdentity k fs o)) (kind : P unknownKind 0) where
+  module _ (fields : (k : Kind) (fs : List Bytes) (o : Outcome) → Of o → Of (judged Today readIdentity k fs o)) (kind : P unknownKind 0) where
     judged-answered : (o : Outcome) → Of o → P (judgedSaid o .no) (judgedSaid o .field)
     judged-answered (accepted k fs) h = h
     judged-answered (refused n i) h = h
@@ -119,7 +121,7 @@ module _ (P : ℕ → ℕ → Type 0) (z : P 0 0) where
     unfolding judgedBy
     judge-answered row s starts lens =
         let fs : List Bytes = partsFrom s starts lens 0 (countOf row) in
-        judged-answered (judgedBy row fs) (ofKind-law Of (kindOf row) (λ k. judged readIdentity k fs (accepted k fs)) kind (λ k e. fields k fs (accepted k fs) z))
+        judged-answered (judgedBy Today row fs) (ofKind-law Of (kindOf row) (λ k. judged Today readIdentity k fs (accepted k fs)) kind (λ k e. fields k fs (accepted k fs) z))
 
     made-answered : (o : Outcome) → Of o → P (says (recordMade o) .no) (says (recordMade o) .field)
     made-answered (accepted k fs) h = h
@@ -219,7 +221,7 @@ module _ (P : ℕ → ℕ → Type 0) (z : P 0 0) where
         enter k t ps (some h) = by-test (later t (h .tvp)) (λ u. rw (T-true (later t (h .tvp)) u) z) (λ u. rw (T-false (later t (h .tvp)) u) early)
 
         read : (ps : List Place) (x : Reading) → requests q ≡ x → let y = told s (admitRead ps x) in P (y .no) (y .field)
-        read ps (about k t) e = enter k t ps (lookup k ps)
+        read ps (about k t) e = enter k t ps (unlessOld (lookup k ps))
         read ps (declined n i) e = rw (requests-own q n i e .0) at (own q)
 
         go : (o : Option (List Place)) → let x = onPlaces (λ ps. admitRead ps (requests q)) s o in P (x .no) (x .field)
@@ -253,7 +255,7 @@ module _ (P : ℕ → ℕ → Type 0) (z : P 0 0) where
           find j (some h) = z
 
           read : (ps : List Place) (x : Reading) → asks i ≡ x → P (findRead ps x .no) (findRead ps x .field)
-          read ps (about k g) e = find (lowest (holds k) ps) (lookup k ps)
+          read ps (about k g) e = find (lowest (holds k) ps) (unlessOld (lookup k ps))
           read ps (declined n j) e = rw (asks-own i n j e .0) at (own i)
 
           go : (o : Option (List Place)) → P (findIn i o .no) (findIn i o .field)
@@ -261,9 +263,9 @@ module _ (P : ℕ → ℕ → Type 0) (z : P 0 0) where
           go (some ps) = read ps (asks i) refl
 
   -- Expiry as a number: none besides
-  pub expiry-answered : ((s : Bytes) → Of (readOf pubkeyKinds s)) → (s : Bytes) → P (expiryOf s .no) (expiryOf s .field)
-  unfolding expiryOf
-  expiry-answered own s = go (readOf pubkeyKinds s) (own s)
+  pub expiry-answered : (rules : Rules) → ((s : Bytes) → Of (readUnder rules pubkeyKinds s)) → (s : Bytes) → P (expiryUnder rules s .no) (expiryUnder rules s .field)
+  unfolding expiryUnder
+  expiry-answered rules own s = go (readUnder rules pubkeyKinds s) (own s)
     where
       go : (o : Outcome) → Of o → P (expiryBy o .no) (expiryBy o .field)
       go (accepted k fs) g = z

@@ -3,11 +3,11 @@
 use Prim.Native.Nat.{ℕ, zero, suc, _+_, _-_, _*_, _<_}
 use mathlib.Core.Path.{_≡_, refl, sym, ap, ap₂, _∙_, subst}
 use mathlib.Core.Logic.{_↔_, _⊎_, inl, inr, ⊎-elim, _≢_}
-use mathlib.Core.Bool.{Bool, true, false, not, cond}
+use mathlib.Core.Bool.{Bool, true, false, not, cond, true≢false}
 use mathlib.Core.Option.{Option, none, some}
 use mathlib.Core.List.{List, [], _∷_, _++_}
 use native.Mathlib.Omega.{arith}
-use lib.ListN.{length, getD, replicate}
+use lib.ListN.{length, getD, replicate, length-replicate}
 use lib.Dec.{T, eqb, eqb→eq}
 use lib.IntN.{ℤ}
 use mir.Facts.{T-not, yes-eqb}
@@ -20,25 +20,28 @@ use Rattle.text.proofs.Tests.{T-true, T-false, by-test, cond-yes}
 use Rattle.text.proofs.Types.{timestamp-length}
 use Rattle.text.proofs.Later.{later-itself}
 use Rattle.numbers.specs.Numbers.{notCabinet, notLater, noPlace, notThere, tvpNotLater}
-use Rattle.format.specs.Kinds.{Kind, SMID, name}
-use Rattle.format.specs.Read.{accepted, readIdentity}
+use Rattle.format.specs.Kinds.{Kind, SMID, name, pubkeyKinds}
+use Rattle.format.specs.Read.{accepted, refused, readIdentity, readOf}
+use Rattle.format.specs.declared.Rules.{Rules}
+use Rattle.format.specs.declared.Rules.the-variants.{UpToE10, Today}
 use Rattle.format.proofs.Table.{name-inj}
 use Rattle.fields.specs.declared.Place.{Place}
 use Rattle.subjects.specs.Subjects.{manufacturer, mid, gnt}
-use Rattle.subjects.specs.Keys.{Key, gntOf}
+use Rattle.subjects.specs.Keys.{KeyUnder, Key, gntOf}
 use Rattle.subjects.specs.Requests.{Request}
+use Rattle.subjects.proofs.Keys.{earlier-key}
 use Rattle.subjects.proofs.Requests.{request-tvp}
 use Rattle.expiry.proofs.Expiries.{expiry-seconds}
 use Rattle.shelf.specs.Places as shelves
 use Rattle.shelf.specs.Places.{Names, named, sameNames, Held, free, held, isFree, holds, lookup, lowest, occupied, distinct, others}
-use Rattle.shelf.specs.Cabinet.{places, width, tvpAt, numberOf, about, asks, reads, requests, encode, entry, isTvp, decode, shelf, image, Result, leaving, Finding, nothing, foundAt, makeCabinet, putKey, removeKey, admit, findKey, countIn, countKeys, checkCabinet}
+use Rattle.shelf.specs.Cabinet.{places, width, tvpAt, numberOf, about, asks, readsUnder, stands, reads, requests, encode, entry, isOld, unlessOld, isTvp, decode, shelf, image, Result, leaving, Finding, nothing, foundAt, makeCabinet, putKey, removeKey, admit, findKey, countIn, countKeys, checkCabinet}
 use Rattle.shelf.specs.History.{nowhere, heldIn, textOf, tvpOf, lastPut, removals, lastTvp, admittedOf, Call, putting, removing, finding, admitting, checking, counting, Moment, putEvent, removeEvent, admitEvent, onto, noted, afterCall, run}
 use Rattle.shelf.proofs.Places.{names-refl, found-at, Once, distinct-once, once-distinct, lookup-at, lowest-there, lowest-free-at}
-use Rattle.shelf.proofs.Tvps.{tvp-parts, parts-tvp, AllEarlier, Under, rising-at, rising-apart, earlier-at}
-use Rattle.shelf.proofs.Readings.{asks-accepted, asks-refused, asked, reads-accepted, reads-refused, held-of, requests-accepted, requests-refused, requested}
+use Rattle.shelf.proofs.Tvps.{start-tvp, tvp-parts, parts-tvp, AllEarlier, Under, rising-at, rising-apart, earlier-at}
+use Rattle.shelf.proofs.Readings.{asks-accepted, asks-refused, asked, reads-accepted, reads-refused, held-of, goes-in, key-current, current-key, requests-accepted, requests-refused, requested}
 use Rattle.shelf.proofs.Images.{Good, AllGood, lookup-good, decode-encode, shelf-image, shelf-some}
-use Rattle.shelf.proofs.Stores.{storedAt, put-23, put-own, put-later, put-first, remove-23, remove-own, remove-some, admit-23, admit-own, admit-none, admit-later, admit-not-later, find-23, find-own, find-some}
-use Rattle.shelf.proofs.Histories.{Kept, kept-run, shelved-empty, lookup-empty, occupied-empty, shelf-empty, since-made, since-image}
+use Rattle.shelf.proofs.Stores.{storedAt, put-23, put-own, put-later, put-first, remove-23, remove-own, remove-some, admit-23, admit-own, admit-none, admit-later, admit-not-later, find-23, find-own, find-some, find-none}
+use Rattle.shelf.proofs.Histories.{not-old, Kept, kept-run, good-empty, shelved-empty, lookup-empty, occupied-empty, shelf-empty, since-made, since-image}
 use Rattle.shelf.proofs.Numbers.{others-all, all-others-so, putNumbers, findNumbers, admitNumbers, put-leaves, remove-leaves, admit-leaves, find-leaves, put-given, exactly-24, exactly-25, remove-given, find-given, remove-exactly-26, find-exactly-26, admit-given, admit-exactly-26, admit-exactly-27}
 use Rattle.cabinet.specs.declared.Filed.{Filed}
 use Rattle.cabinet.specs.declared.Counted.{Counted}
@@ -48,12 +51,12 @@ use Rattle.cabinet.proofs.Bridge.{first-none}
 use Rattle.cabinet.proofs.Bytes.{tvp-alone}
 use Rattle.cabinet.proofs.Calls.{dated-so}
 use Rattle.cabinet.proofs.Cabinets.{places-are, width-is, Read, its, all-read, read-all, distinct-so, cabinet-so, none-there, some-there}
-use Rattle.promises.specs.Cabinet.{placeIn, firstTvp, IsTvp, placeOf, Filled, Share, Shared, IsCabinet, withPlace, withTvp, PutSaid, There, RemoveSaid, Module, AdmitSaid, FindSaid, Step, Ran, Gives, answerTo, Remembers, begun, Cabinet}
+use Rattle.promises.specs.Cabinet.{placeIn, firstTvp, IsTvp, placeOf, Filled, Old, Share, Shared, IsCabinet, withPlace, withTvp, PutSaid, There, RemoveSaid, Module, AdmitSaid, FindSaid, Step, Ran, Gives, answerTo, Answers, Remembers, begun, Cabinet}
 use Rattle.promises.specs.Cabinet as said
 
 -- ---- a public key's names, and what a place holds
 
-abbrev namesOf : {r : Bytes} → Key r → Names
+abbrev namesOf : {rules : Rules} {r : Bytes} → KeyUnder rules r → Names
 namesOf q = named (name (q .who)) (manufacturer (q .names)) (mid (q .names))
 
 abbrev heldBy : {b : Bytes} → Filled b → Held
@@ -62,19 +65,19 @@ heldBy q = record { names = namesOf (q .key); gnt = gntOf (q .key); text = q .te
 share-names : (j k : Kind) (fs gs : List Bytes) → Share j fs k gs ↔ (named (name j) (manufacturer fs) (mid fs) ≡ named (name k) (manufacturer gs) (mid gs))
 share-names j k fs gs = (λ (a, b, c). rw (a, b, c), λ e. (name-inj j k cc, cc, cc))
 
-shared-names : {a b : Bytes} (p : Key a) (q : Key b) → Shared p q ↔ (namesOf p ≡ namesOf q)
+shared-names : {rules others : Rules} {a b : Bytes} (p : KeyUnder rules a) (q : KeyUnder others b) → Shared p q ↔ (namesOf p ≡ namesOf q)
 shared-names p q = share-names (p .who) (q .who) (p .names) (q .names)
 
 -- what is read from a key is its names and its GNT
-key-reads : {r : Bytes} (p : Key r) {k : Names} {g : Bytes} → reads r ≡ about k g → (namesOf p ≡ k) × (gntOf p ≡ g)
-key-reads {r} p e = let f = sym (reads-accepted r p) ∙ e in (cc, cc)
+key-reads : {rules : Rules} {r : Bytes} (p : KeyUnder rules r) {k : Names} {g : Bytes} → readsUnder rules r ≡ about k g → (namesOf p ≡ k) × (gntOf p ≡ g)
+key-reads {rules} {r} p e = let f = sym (reads-accepted r p) ∙ e in (cc, cc)
 
 zeros-place : encode free ≡ replicate 1024 0
 unfolding encode width
 zeros-place = refl
 
 -- the bytes of the place for a key with a TVP, whatever names and GNT are kept beside it
-key-place : {r : Bytes} (p : Key r) (k : Names) (g t : Bytes) → encode (entry k g r t) ≡ placeOf p t
+key-place : {r : Bytes} (p : KeyUnder UpToE10 r) (k : Names) (g t : Bytes) → encode (entry k g r t) ≡ placeOf p t
 unfolding encode tvpAt numberOf
 key-place {r} p k g t = ap (λ (z : ℤ). ((r ++ replicate (1000 - length r) 0) ++ t) ++ secondsBytes z) (expiry-seconds p)
 
@@ -109,7 +112,7 @@ module _ {s : Bytes} {ps : List shelves.Place} (R : Read s ps) (j : ℕ) (l : j 
   place-filled h e =
       let (b, g) = R .at j l in
       let g′ : Good (held h) = subst Good e g in
-      let k = held-of (h .text) (h .names) (h .gnt) (g′ .0) .key in
+      let k = held-of UpToE10 (h .text) (h .names) (h .gnt) (g′ .0) .key in
       let (n, m) = key-reads k (g′ .0) in (
         record { text = h .text; key = k; tvp = h .tvp; is-tvp = tvp-so (h .tvp) (g′ .1); so = sym b ∙ ap encode e ∙ key-place k (h .names) (h .gnt) (h .tvp) },
         ap₂ (λ (x : Names) (y : Bytes). record { names = x; gnt = y; text = h .text; tvp = h .tvp }) n m,
@@ -216,7 +219,7 @@ module _ {s : Bytes} {ps : List shelves.Place} (e : shelf s ≡ some ps) (R : Re
 
 stored-place : (s : Bytes) (j : ℕ) {r : Bytes} (p : Key r) (t : Bytes) → storedAt s j (entry (namesOf p) (gntOf p) r t) ≡ withPlace s j (placeOf p t)
 unfolding width
-stored-place s j p t = ap (withPlace s j) (key-place p (namesOf p) (gntOf p) t)
+stored-place s j p t = ap (withPlace s j) (key-place (earlier-key p) (namesOf p) (gntOf p) t)
 
 emptied-place : (s : Bytes) (j : ℕ) → storedAt s j free ≡ withPlace s j (replicate 1024 0)
 unfolding encode width
@@ -231,7 +234,7 @@ put-said s r after x w =
             (λ ps q n. listed putNumbers (putKey s r .no) notCabinet (put-given s r ps q) tt (sym (number-of w) ∙ n));
         untouched = λ n. w .left ∙ put-leaves s r (λ z. n (number-of w ∙ z));
       };
-      own = λ c n i e. let (ps, q, R) = of-cabinet s c in result-so w (put-own s ps q r n i (reads-refused r n i e)) .0;
+      own = λ c n i e. let (ps, q, R) = of-cabinet s c in result-so w (put-own s ps q r n i (reads-refused Today r n i e)) .0;
       not-later = λ c. let (ps, q, R) = of-cabinet s c in (later-to ps q R, later-from ps q R);
       no-place = λ c. let (ps, q, R) = of-cabinet s c in (place-to ps q R, place-from ps q R);
       replaces = λ c p j l f sh t.
@@ -253,7 +256,7 @@ put-said s r after x w =
         → (p : Key r) × (j : ℕ) × (j < 64) × (q : Filled (placeIn s j)) × Shared p (q .key) × (later (gntOf p) (gntOf (q .key)) ≡ false)
     later-to ps e R n =
         let (k, g, h, a, f, t) = exactly-24 s r ps e .0 (sym (number-of w) ∙ n) in
-        let p = held-of r k g a .key in
+        let p = held-of Today r k g a .key in
         let (u, v) = key-reads p a in
         let (j, l, q, o, m) = place-of e R k h f in
         (p, j, l, q, shared-names p (q .key) .1 (u ∙ m), ap₂ later v (ap (λ (y : Held). y .gnt) o) ∙ t)
@@ -267,7 +270,7 @@ put-said s r after x w =
     place-to : (ps : List shelves.Place) → shelf s ≡ some ps → Read s ps → x .no ≡ noPlace → (p : Key r) × ((j : ℕ) → j < 64 → (q : Filled (placeIn s j)) × (Shared p (q .key) → ⊥))
     place-to ps e R n =
         let (k, g, a, o) = exactly-25 s r ps e .0 (sym (number-of w) ∙ n) in
-        let p = held-of r k g a .key in
+        let p = held-of Today r k g a .key in
         let (u, v) = key-reads p a in (
           p,
           λ j l.
@@ -311,6 +314,25 @@ module _ (s i : Bytes) {ps : List shelves.Place} (e : shelf s ≡ some ps) (R : 
   nothing-so : (who : Kind) (fs : List Bytes) → ((j : ℕ) → There s who fs j → ⊥) → lookup (askedNames who fs) ps ≡ none
   nothing-so who fs f = none-found e R (askedNames who fs) (λ j l q n. f j (l, q, share-names who (q .key .who) fs (q .key .names) .1 n))
 
+  -- nothing is found of what is there exactly where it is old
+  old-there : (who : Kind) (fs : List Bytes) → unlessOld (lookup (askedNames who fs) ps) ≡ none → (j : ℕ) (t : There s who fs j) → Old (t .1 .text)
+  old-there who fs f j (l, q, sh) key =
+      let (b, c) = at-place e R j l q (askedNames who fs) (share-names who (q .key .who) fs (q .key .names) .0 sh) in
+      let z : none ≡ some (heldBy q) = sym f ∙ ap unlessOld b ∙ rw (key-current key) in
+      let w : _≡_ {A = ℕ} 0 1 = cc in omega arith
+
+  there-old : (who : Kind) (fs : List Bytes) → ((j : ℕ) (t : There s who fs j) → Old (t .1 .text)) → unlessOld (lookup (askedNames who fs) ps) ≡ none
+  there-old who fs f = go (lookup (askedNames who fs) ps) refl
+    where
+      go : (o : Option Held) → lookup (askedNames who fs) ps ≡ o → unlessOld o ≡ none
+      go none g = refl
+      go (some h) g =
+          let (j, l, q, u, n) = place-of e R (askedNames who fs) h g in
+          let gone = f j (l, q, share-names who (q .key .who) fs (q .key .names) .1 n) in
+          by-test (isOld (h .text))
+          (λ t. cond-yes (isOld (h .text)) none (some h) t)
+          (λ t. absurd (gone (current-key (q .text) (ap (λ (x : Held). isOld (x .text)) u ∙ T-false (isOld (h .text)) t))))
+
   there-so : (who : Kind) (fs : List Bytes) (j : ℕ) (t : There s who fs j) → (lookup (askedNames who fs) ps ≡ some (heldBy (t .1))) × (lowest (holds (askedNames who fs)) ps ≡ j)
   there-so who fs j (l, q, sh) = at-place e R j l q (askedNames who fs) (share-names who (q .key .who) fs (q .key .names) .0 sh)
 
@@ -341,32 +363,27 @@ remove-said s i after x w =
 
 module _ (s q after : Bytes) (x : Filed) (w : Files (admit s q) after x) where
   module _ {ps : List shelves.Place} (e : shelf s ≡ some ps) (R : Read s ps) where
-    there-to : x .no ≡ notThere → (r : Request q) × ((j : ℕ) → Module s r j → ⊥)
+    there-to : x .no ≡ notThere → (r : Request q) × ((j : ℕ) (m : Module s r j) → Old (m .1 .text))
     there-to n =
         let (k, t, a, f) = admit-exactly-26 s q ps e .0 (sym (number-of w) ∙ n) in
         let it = requested q k t a in
-        let r = it .request in (
-          r,
-          λ j m.
-              let (b, c) = there-so s q e R SMID (r .names) j m in
-              let z = sym f ∙ ap (λ (y : Names). lookup y ps) (it .names-so) ∙ b in
-              let o : _≡_ {A = ℕ} 0 1 = cc in omega arith,
-        )
+        (it .request, old-there s q e R SMID (it .request .names) (ap (λ (y : Names). unlessOld (lookup y ps)) (sym (it .names-so)) ∙ f))
 
-    later-to : x .no ≡ tvpNotLater → (r : Request q) × (j : ℕ) × (m : Module s r j) × (later (said.tvpOf r) (m .1 .tvp) ≡ false)
+    later-to : x .no ≡ tvpNotLater → (r : Request q) × (j : ℕ) × (m : Module s r j) × Key (m .1 .text) × (later (said.tvpOf r) (m .1 .tvp) ≡ false)
     later-to n =
         let (k, t, h, a, f, l) = admit-exactly-27 s q ps e .0 (sym (number-of w) ∙ n) in
         let it = requested q k t a in
         let r = it .request in
-        let (j, i, p, y, m) = place-of e R k h f in
-        (r, j, (i, p, share-names SMID (p .key .who) (r .names) (p .key .names) .1 (sym (it .names-so) ∙ m)), ap₂ later (sym (it .tvp-so)) (ap (λ (z : Held). z .tvp) y) ∙ l)
+        let (g, new) = not-old (lookup k ps) h f in
+        let (j, i, p, y, m) = place-of e R k h g in
+        (r, j, (i, p, share-names SMID (p .key .who) (r .names) (p .key .names) .1 (sym (it .names-so) ∙ m)), current-key (p .text) (ap (λ (z : Held). isOld (z .text)) y ∙ new), ap₂ later (sym (it .tvp-so)) (ap (λ (z : Held). z .tvp) y) ∙ l)
 
-    module _ (r : Request q) (j : ℕ) (m : Module s r j) where
+    module _ (r : Request q) (j : ℕ) (m : Module s r j) (new : Key (m .1 .text)) where
       found : lookup (askedNames SMID (r .names)) ps ≡ some (heldBy (m .1))
       found = there-so s q e R SMID (r .names) j m .0
 
       later-from : later (said.tvpOf r) (m .1 .tvp) ≡ false → x .no ≡ tvpNotLater
-      later-from l = number-of w ∙ admit-exactly-27 s q ps e .1 (askedNames SMID (r .names), said.tvpOf r, heldBy (m .1), requests-accepted q r, found, l)
+      later-from l = number-of w ∙ admit-exactly-27 s q ps e .1 (askedNames SMID (r .names), said.tvpOf r, heldBy (m .1), requests-accepted q r, ap unlessOld found ∙ rw (key-current new), l)
 
       -- the place, with the request's TVP
       dated-place : storedAt s j (entry (namesOf (m .1 .key)) (gntOf (m .1 .key)) (m .1 .text) (said.tvpOf r)) ≡ withTvp s j (said.tvpOf r)
@@ -378,7 +395,7 @@ module _ (s q after : Bytes) (x : Filed) (w : Files (admit s q) after x) where
       admits-so : later (said.tvpOf r) (m .1 .tvp) ≡ true → (x .no ≡ 0) × (after ≡ withTvp s j (said.tvpOf r))
       admits-so l =
           done-so w
-          (admit-later s ps e q (askedNames SMID (r .names)) (said.tvpOf r) (requests-accepted q r) (heldBy (m .1)) found l (lowest-there (askedNames SMID (r .names)) ps (heldBy (m .1)) found)
+          (admit-later s ps e q (askedNames SMID (r .names)) (said.tvpOf r) (requests-accepted q r) (heldBy (m .1)) found (key-current new) l (lowest-there (askedNames SMID (r .names)) ps (heldBy (m .1)) found)
           ∙ ap (λ (y : Bytes). record { no = 0; field = 0; bytes = y })
           (ap (λ (i : ℕ). storedAt s i (entry (namesOf (m .1 .key)) (gntOf (m .1 .key)) (m .1 .text) (said.tvpOf r))) (there-so s q e R SMID (r .names) j m .1) ∙ dated-place))
 
@@ -395,10 +412,10 @@ module _ (s q after : Bytes) (x : Filed) (w : Files (admit s q) after x) where
         not-there = λ c.
             let (ps, e, R) = of-cabinet s c in (
               there-to e R,
-              λ (r, f). number-of w ∙ ap (λ (y : Result). y .no) (admit-none s ps e q (askedNames SMID (r .names)) (said.tvpOf r) (requests-accepted q r) (nothing-so s q e R SMID (r .names) f)),
+              λ (r, f). number-of w ∙ ap (λ (y : Result). y .no) (admit-none s ps e q (askedNames SMID (r .names)) (said.tvpOf r) (requests-accepted q r) (there-old s q e R SMID (r .names) f)),
             );
-        not-later = λ c. let (ps, e, R) = of-cabinet s c in (later-to e R, λ (r, j, m, l). later-from e R r j m l);
-        admits = λ c r j m l. let (ps, e, R) = of-cabinet s c in admits-so e R r j m l;
+        not-later = λ c. let (ps, e, R) = of-cabinet s c in (later-to e R, λ (r, j, m, new, l). later-from e R r j m new l);
+        admits = λ c r j m new l. let (ps, e, R) = of-cabinet s c in admits-so e R r j m new l;
       }
 
 -- of the definition, then of what a call answered
@@ -412,13 +429,16 @@ find-so s i =
           (ap (λ (y : Finding). y .no) f, ap (λ (y : Finding). y .field) f);
       not-there = λ c.
           let (ps, q, R) = of-cabinet s c in (
-            λ n. let (k, g, a, f) = find-exactly-26 s i ps q .0 n in nowhere-so s i q R k g a f,
-            λ (who, fs, h, f). find-exactly-26 s i ps q .1 (askedNames who fs, gnt fs, asks-accepted i h, nothing-so s i q R who fs f),
+            λ n.
+                let (k, g, a, f) = find-exactly-26 s i ps q .0 n in
+                let it = asked i k g a in
+                (it .who, it .fields, it .known, old-there s i q R (it .who) (it .fields) (ap (λ (y : Names). unlessOld (lookup y ps)) (sym (it .names-so)) ∙ f)),
+            λ (who, fs, h, f). find-exactly-26 s i ps q .1 (askedNames who fs, gnt fs, asks-accepted i h, there-old s i q R who fs f),
           );
-      found = λ c who fs h j t.
+      found = λ c who fs h j t new.
           let (ps, q, R) = of-cabinet s c in
           let (a, b) = there-so s i q R who fs j t in
-          let f = find-some s ps q i (askedNames who fs) (gnt fs) (asks-accepted i h) (heldBy (t .1)) a in
+          let f = find-some s ps q i (askedNames who fs) (gnt fs) (asks-accepted i h) (heldBy (t .1)) a (key-current new) in
           (ap (λ (y : Finding). y .no) f, ap (λ (y : Finding). y .start) f ∙ ap₂ (λ (m n : ℕ). m * n) b width-is, ap (λ (y : Finding). y .text) f);
       nothing = find-leaves s i;
     }
@@ -488,15 +508,30 @@ ran-calls (suc k) m n (l, s, r) =
     let (cs, f) = ran-calls k l n r in
     (c ∷ cs, f ∙ ap (run cs) e)
 
--- what is answered to a request, where `o` is held under the names of its module
-answer-so : (s q : Bytes) (ps : List shelves.Place) → shelf s ≡ some ps → (k : Names) (t : Bytes) → requests q ≡ about k t → (o : Option Held) → lookup k ps ≡ o → admit s q .no ≡ answerTo (tvpOf o) t
-answer-so s q ps e k t a none f = ap (λ (y : Result). y .no) (admit-none s ps e q k t a f)
-answer-so s q ps e k t a (some h) f =
-    by-test (later t (h .tvp))
-    (λ u. let l = T-true (later t (h .tvp)) u in rw l (ap (λ (y : Result). y .no) (admit-later s ps e q k t a h f l (lowest-there k ps h f))))
-    (λ u. let l = T-false (later t (h .tvp)) u in rw l (ap (λ (y : Result). y .no) (admit-not-later s ps e q k t a h f l)))
+is-old : (r : Bytes) → Old r → isOld r ≡ true
+is-old r old = by-test (isOld r) (T-true (isOld r)) (λ t. absurd (old (current-key r (T-false (isOld r) t))))
 
--- a request that is admitted has a later TVP than all that were admitted before
+-- what is answered to a request, where `o` is held under the names of its module
+answer-so : (s q : Bytes) (ps : List shelves.Place) → shelf s ≡ some ps → (k : Names) (t : Bytes) → requests q ≡ about k t → (o : Option Held) → lookup k ps ≡ o → Answers (textOf o) (tvpOf o) t (admit s q .no)
+answer-so s q ps e k t a none f = ap (λ (y : Result). y .no) (admit-none s ps e q k t a (ap unlessOld f))
+answer-so s q ps e k t a (some h) f = (
+  λ key.
+      let new = key-current key in
+      by-test (later t (h .tvp))
+      (λ u. let l = T-true (later t (h .tvp)) u in rw l (ap (λ (y : Result). y .no) (admit-later s ps e q k t a h f new l (lowest-there k ps h f))))
+      (λ u. let l = T-false (later t (h .tvp)) u in rw l (ap (λ (y : Result). y .no) (admit-not-later s ps e q k t a h f new l))),
+  λ old. ap (λ (y : Result). y .no) (admit-none s ps e q k t a (ap unlessOld f ∙ rw (is-old (h .text) old))),
+)
+
+-- a request that is admitted is one of a module whose record is there and not old
+answered-zero : (o u : Option Bytes) (t : Bytes) (n : ℕ) → Answers o u t n → n ≡ 0 → answerTo u t ≡ 0
+answered-zero none u t n a z = absurd (omega (arith, a))
+answered-zero (some r) u t n a z =
+    by-test (isOld r)
+    (λ o. absurd (omega (arith, a .1 (λ key. true≢false (sym (T-true (isOld r) o) ∙ key-current key)))))
+    (λ o. sym (a .0 (current-key r (T-false (isOld r) o))) ∙ z)
+
+-- it has a later TVP than all that were admitted before
 admitted-later : (o : Option Bytes) (t : Bytes) (ts : List Bytes) → Under o ts → answerTo o t ≡ 0 → AllEarlier t ts
 admitted-later none t ts u z = absurd (omega arith)
 admitted-later (some v) t ts u z =
@@ -511,15 +546,16 @@ kept-remembers before many m H =
           let f = p ∙ ap (λ (o : Option (List shelves.Place)). record { no = countIn o .no; count = countIn o .count }) q in
           (ap (λ (x : Counted). x .no) f, ap (λ (x : Counted). x .count + removals (m .events)) f ∙ H .counts);
       finds = λ κs a r s p e k g f.
-          let q : findKey (now (a .0)) (now (a .1 .0)) ≡ foundAt (lowest (holds k) (H .its-places)) (lookup k (H .its-places)) = rw (here (now (a .0)) e, f) in
+          let q : findKey (now (a .0)) (now (a .1 .0)) ≡ foundAt (lowest (holds k) (H .its-places)) (unlessOld (lookup k (H .its-places))) = rw (here (now (a .0)) e, f) in
           gives (lookup k (H .its-places)) (lowest (holds k) (H .its-places)) (lastPut before k (m .events)) (H .looks k)
           (p .its-no ∙ ap (λ (x : Finding). x .no) q) (p .its-part .holds ∙ ap (λ (x : Finding). x .text) q);
-      admits = λ κs a r s p e k t f. number-of p ∙ answers (now (a .0)) (now (a .1 .0)) e k t f;
+      olds = λ k r f old. H .olds k r f (is-old r old);
+      admits = λ κs a r s p e k t f. rw (number-of p) (answers (now (a .0)) (now (a .1 .0)) e k t f);
       unshared = λ k. rising-apart (admittedOf before k (m .events)) (H .rises k .0);
       rise = λ k. rising-at (admittedOf before k (m .events)) (H .rises k .0);
       comes-back = λ κs a r s p e k t f (i, l, same-tvp) z.
           let ts = admittedOf before k (m .events) in
-          let later-than = admitted-later (lastTvp before k (m .events)) t ts (H .rises k .1) (sym (answers (now (a .0)) (now (a .1 .0)) e k t f) ∙ sym (number-of p) ∙ z) in
+          let later-than = admitted-later (lastTvp before k (m .events)) t ts (H .rises k .1) (answered-zero (lastPut before k (m .events)) _ t _ (answers (now (a .0)) (now (a .1 .0)) e k t f) (sym (number-of p) ∙ z)) in
           let itself = sym (later-itself t) ∙ ap (later t) same-tvp ∙ earlier-at t ts i later-than l in
           let no-such : _≡_ {A = ℕ} 0 1 = cc in omega arith;
     }
@@ -527,14 +563,18 @@ kept-remembers before many m H =
     here : (x : Bytes) → x ≡ m .bytes → shelf x ≡ some (H .its-places)
     here x e = ap shelf (e ∙ H .bytes-are) ∙ shelf-image (H .its-places) (H .shelved)
 
-    answers : (x q : Bytes) → x ≡ m .bytes → (k : Names) (t : Bytes) → requests q ≡ about k t → admit x q .no ≡ answerTo (lastTvp before k (m .events)) t
-    answers x q e k t f = answer-so x q (H .its-places) (here x e) k t f (lookup k (H .its-places)) refl ∙ ap (λ (o : Option Bytes). answerTo o t) (H .tvps k)
+    answers : (x q : Bytes) → x ≡ m .bytes → (k : Names) (t : Bytes) → requests q ≡ about k t → Answers (lastPut before k (m .events)) (lastTvp before k (m .events)) t (admit x q .no)
+    answers x q e k t f = rw (← (H .looks k), ← (H .tvps k)) (answer-so x q (H .its-places) (here x e) k t f (lookup k (H .its-places)) refl)
 
-    gives : (o : Option Held) (j : ℕ) (l : Option Bytes) → textOf o ≡ l → {part : Bytes} {n : ℕ} → n ≡ foundAt j o .no → part ≡ foundAt j o .text → Gives l part n
+    gives : (o : Option Held) (j : ℕ) (l : Option Bytes) → textOf o ≡ l → {part : Bytes} {n : ℕ} → n ≡ foundAt j (unlessOld o) .no → part ≡ foundAt j (unlessOld o) .text → Gives l part n
     gives none j none e a b = a
     gives none j (some t) e a b = let z : _≡_ {A = ℕ} 0 1 = cc in absurd (omega arith)
     gives (some h) j none e a b = let z : _≡_ {A = ℕ} 0 1 = cc in absurd (omega arith)
-    gives (some h) j (some t) e a b = let f : h .text ≡ t = cc in (a, b ∙ f)
+    gives (some h) j (some t) e a b =
+        let f : h .text ≡ t = cc in (
+          λ key. let new : unlessOld (some h) ≡ some h = rw (f, key-current key) in (a ∙ ap (λ (o : Option Held). foundAt j o .no) new, b ∙ ap (λ (o : Option Held). foundAt j o .text) new ∙ f),
+          λ old. let gone : unlessOld (some h) ≡ none = rw (f, is-old t old) in a ∙ ap (λ (o : Option Held). foundAt j o .no) gone,
+        )
 
 -- since it was made
 since-empty : (s after : Bytes) (r : Filed) → Files (makeCabinet s) after r → r .no ≡ 0 → (n : ℕ) (m : Moment) → Ran n (begun after) m → Remembers nowhere 0 m
@@ -564,6 +604,7 @@ empty-kept = record {
   tvps = λ k. ap tvpOf (lookup-empty places k);
   counts = omega (arith, occupied-empty places);
   rises = λ k. (tt, tt);
+  olds = λ k r f o. f;
 }
 
 module _ (r : Bytes) (p : Key r) where
@@ -593,7 +634,7 @@ module _ (r : Bytes) (p : Key r) where
       found ps (some h) f t a =
           let text : h .text ≡ r = cc in
           let good = lookup-good (namesOf p) ps h a f .0 in
-          let (n, m) = key-reads p (ap reads (sym text) ∙ good) in
+          let (n, m) = key-reads (earlier-key p) (ap stands (sym text) ∙ good) in
           (namesOf p, gntOf p, h, reads-accepted r p, f, ap (later (gntOf p)) (sym m) ∙ later-itself (gntOf p))
 
 -- a request of the module whose key is there, with a TVP that is not the first
@@ -605,26 +646,82 @@ module _ (r : Bytes) (p : Key r) (q : Bytes) (u : Request q) (n : askedNames SMI
   asks-it = requests-accepted q u ∙ ap (λ (k : Names). about k (said.tvpOf u)) n
 
   -- what is answered after these calls
-  answer-after : (cs : List Call) (x : Bytes) → x ≡ run cs (begun (replicate 65536 0)) .bytes → (v : Bytes) → lastTvp nowhere (namesOf p) (run cs (begun (replicate 65536 0)) .events) ≡ some v
-      → admit x q .no ≡ cond (later (said.tvpOf u) v) 0 tvpNotLater
-  answer-after cs x e v f =
+  answer-after : (cs : List Call) (x : Bytes) → x ≡ run cs (begun (replicate 65536 0)) .bytes → lastPut nowhere (namesOf p) (run cs (begun (replicate 65536 0)) .events) ≡ some r
+      → (v : Bytes) → lastTvp nowhere (namesOf p) (run cs (begun (replicate 65536 0)) .events) ≡ some v → admit x q .no ≡ cond (later (said.tvpOf u) v) 0 tvpNotLater
+  answer-after cs x e put v f =
       let H = kept-run nowhere 0 cs (begun (replicate 65536 0)) empty-kept in
-      answer-so x q (H .its-places) (ap shelf (e ∙ H .bytes-are) ∙ shelf-image (H .its-places) (H .shelved)) (namesOf p) (said.tvpOf u) asks-it (lookup (namesOf p) (H .its-places)) refl
-      ∙ ap (λ (o : Option Bytes). answerTo o (said.tvpOf u)) (H .tvps (namesOf p) ∙ f)
+      let said-so = answer-so x q (H .its-places) (ap shelf (e ∙ H .bytes-are) ∙ shelf-image (H .its-places) (H .shelved)) (namesOf p) (said.tvpOf u) asks-it (lookup (namesOf p) (H .its-places)) refl in
+      subst (λ (o : Option Bytes). Answers (some r) o (said.tvpOf u) (admit x q .no)) (H .tvps (namesOf p) ∙ f)
+      (subst (λ (o : Option Bytes). Answers o (tvpOf (lookup (namesOf p) (H .its-places))) (said.tvpOf u) (admit x q .no)) (H .looks (namesOf p) ∙ put) said-so) .0 p
 
   pub admitted-once : admit filledOnce q .no ≡ 0
   unfolding run afterCall
   admitted-once =
-      answer-after (putting r ∷ []) filledOnce refl start
+      answer-after (putting r ∷ []) filledOnce refl
+      (rw (first-done r p, reads-accepted r p) (cond-yes (sameNames (namesOf p) (namesOf p)) (some r) none (names-refl (namesOf p)))) start
       (rw (first-done r p, reads-accepted r p) (cond-yes (sameNames (namesOf p) (namesOf p)) (some start) none (names-refl (namesOf p))))
       ∙ rw l
 
   pub refused-then : admit (admit filledOnce q .bytes) q .no ≡ tvpNotLater
   unfolding run afterCall
   refused-then =
-      answer-after (putting r ∷ admitting q ∷ []) (admit filledOnce q .bytes) refl (said.tvpOf u)
+      answer-after (putting r ∷ admitting q ∷ []) (admit filledOnce q .bytes) refl
+      (rw (admitted-once, asks-it, first-done r p, reads-accepted r p) (cond-yes (sameNames (namesOf p) (namesOf p)) (some r) none (names-refl (namesOf p)))) (said.tvpOf u)
       (rw (admitted-once, asks-it) (cond-yes (sameNames (namesOf p) (namesOf p)) (some (said.tvpOf u)) _ (names-refl (namesOf p))))
       ∙ rw (later-itself (said.tvpOf u))
+
+-- ---- a cabinet with one record, which is old
+
+module _ (r : Bytes) (p : KeyUnder UpToE10 r) (old : isOld r ≡ true) where
+  abbrev oldHeld : Held
+  oldHeld = record { names = namesOf p; gnt = gntOf p; text = r; tvp = start }
+
+  abbrev oldPlaces : List shelves.Place
+  oldPlaces = held oldHeld ∷ replicate 63 free
+
+  abbrev pub oldImage : Bytes
+  oldImage = image oldPlaces
+
+  here : shelf oldImage ≡ some oldPlaces
+  unfolding places
+  here =
+      shelf-image oldPlaces
+      (record {
+        good = ((reads-accepted r p, start-tvp), good-empty 63);
+        apart = tt;
+        number = ap suc (length-replicate 63 free);
+      })
+
+  itself : lookup (namesOf p) oldPlaces ≡ some oldHeld
+  itself = cond-yes (sameNames (namesOf p) (namesOf p)) (some oldHeld) _ (names-refl (namesOf p))
+
+  gone : unlessOld (lookup (namesOf p) oldPlaces) ≡ none
+  gone = ap unlessOld itself ∙ rw old
+
+  pub old-cabinet : IsCabinet oldImage
+  old-cabinet = let (ps, q, R) = some-there oldImage (sym (ap isSome here)) in is-cabinet oldImage ps q R
+
+  pub old-counted : countKeys oldImage ≡ record { no = 0; count = 1 }
+  unfolding countKeys
+  old-counted = ap countIn here ∙ ap (λ (n : ℕ). record { no = 0; count = n }) (ap suc (occupied-empty 63))
+
+  -- an identity of its names
+  module _ (i : Bytes) (g : Bytes) (a : asks i ≡ about (namesOf p) g) where
+    pub old-missed : findKey oldImage i .no ≡ notThere
+    old-missed = ap (λ (x : Finding). x .no) (find-none oldImage oldPlaces here i (namesOf p) g a gone)
+
+    pub old-removed : removeKey oldImage i .no ≡ 0
+    old-removed = ap (λ (x : Result). x .no) (remove-some oldImage oldPlaces here i (namesOf p) g a oldHeld itself (lowest-there (namesOf p) oldPlaces oldHeld itself))
+
+  pub old-unknown : (q : Bytes) (t : Bytes) → requests q ≡ about (namesOf p) t → admit oldImage q .no ≡ notThere
+  old-unknown q t a = ap (λ (x : Result). x .no) (admit-none oldImage oldPlaces here q (namesOf p) t a gone)
+
+  pub old-not-later : (x : Bytes) (k : Key x) → namesOf k ≡ namesOf p → later (gntOf k) (gntOf p) ≡ false → putKey oldImage x .no ≡ notLater
+  old-not-later x k n l =
+      exactly-24 oldImage x oldPlaces here .1 (namesOf k, gntOf k, oldHeld, reads-accepted x k, ap (λ (y : Names). lookup y oldPlaces) n ∙ itself, l)
+
+  pub old-own : (x : Bytes) (n j : ℕ) → readOf pubkeyKinds x ≡ refused n j → putKey oldImage x .no ≡ n
+  old-own x n j e = ap (λ (y : Result). y .no) (put-own oldImage oldPlaces here x n j (reads-refused Today x n j e))
 
 pub cabinet : Cabinet
 cabinet =
@@ -642,6 +739,10 @@ cabinet =
         rw (p .its-part .holds, p .its-no, p .its-field) (find-so (now (a .0)) (now (a .1 .0))),
       );
       history = λ κs a r s p. since-empty (now (a .0)) (now (s .0)) r p;
+      none-old = λ κs a r s p z n m t k x f.
+          by-test (isOld x)
+          (λ o. let w = since-empty (now (a .0)) (now (s .0)) r p z n m t .olds k x f (λ key. true≢false (sym (T-true (isOld x) o) ∙ key-current key)) in let q : _≡_ {A = ℕ} 0 1 = cc in absurd (omega arith))
+          (λ o. current-key x (T-false (isOld x) o));
       from-image = λ s c.
           let (ps, q, R) = of-cabinet s c in (
             ps,

@@ -359,6 +359,7 @@ module _ (z : Bytes) (fs : List Bytes) (p : Permitted REQ fs) where
       fit = right-fit;
       both = tt;
       attributes = tt;
+      signs = tt;
       short = le→leb (length (recordOf REQ right)) 1024 (le-trans (record-short IsIdentity identity-tame REQ right tt right-fit) (lit≤ tt));
     };
     built = refl;
@@ -396,6 +397,7 @@ module _ (z : Bytes) (fs : List Bytes) (p : Permitted REQ fs) where
       fit = response-fit;
       both = tt;
       attributes = tt;
+      signs = tt;
       short = le→leb (length (recordOf RESP its-response)) 1024 (le-trans (record-short IsIdentity identity-tame RESP its-response tt response-fit) (lit≤ tt));
     };
     built = refl;

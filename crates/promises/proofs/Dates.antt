@@ -22,8 +22,9 @@ use Rattle.text.proofs.Seconds.{parts, sub-more, start-zero, moment-valid, mome
 use Rattle.text.proofs.Later.{later-seconds, seconds-inj, later-by-seconds, later-by-bytes, later-by-parts}
 use Rattle.format.specs.Kinds.{pubkeyKinds}
 use Rattle.format.specs.Read.{refused, readOf}
-use Rattle.subjects.specs.Keys.{Key}
-use Rattle.expiry.specs.Expiry.{expiry, expiryOf}
+use Rattle.format.specs.declared.Rules.the-variants.{UpToE10}
+use Rattle.subjects.specs.Keys.{KeyUnder}
+use Rattle.expiry.specs.Expiry.{expiry, expiryUnder, expiryOf}
 use Rattle.expiry.proofs.Expiries.{expiry-stamp, expiry-accepted}
 use Rattle.shelf.specs.Cabinet.{tvpAt}
 use Rattle.shelf.proofs.Readings.{fitting, reads-accepted}
@@ -79,10 +80,10 @@ module _ (s t : Bytes) (hs : T (isTimestamp s)) (ht : T (isTimestamp t)) where
 -- ---- public keys
 
 refused-so : (s : Bytes) (n i : ℕ) → readOf pubkeyKinds s ≡ refused n i → expiryOf s ≡ record { no = n; field = i; seconds = pos 0 }
-unfolding expiryOf
+unfolding expiryUnder
 refused-so s n i e = rw e
 
-key-short : {r : Bytes} → Key r → length r < 1000
+key-short : {r : Bytes} → KeyUnder UpToE10 r → length r < 1000
 unfolding tvpAt
 key-short {r} k = fitting r _ _ (reads-accepted r k) .long
 

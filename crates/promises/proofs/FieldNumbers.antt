@@ -8,7 +8,9 @@ use lib.ListN.{length}
 use denote.Ref.{now}
 use Rattle.text.specs.Text.{Bytes, oneOf}
 use Rattle.format.specs.Kinds.{Kind, REQ, RESP, identityKinds, recordKinds, pubkeyKinds, keyKinds}
-use Rattle.format.specs.Read.{place, nobody, readIdentity, readOf, readRecord}
+use Rattle.format.specs.Read.{place, nobody, readIdentity, readUnder, readOf, readRecord}
+use Rattle.format.specs.declared.Rules.{Rules}
+use Rattle.format.specs.declared.Rules.the-variants.{Today}
 use Rattle.format.proofs.Refusals.{naming, Names, judged-names, over-names}
 use Rattle.table.specs.Table.{kindsFrom}
 use Rattle.fields.specs.Attributes.{attributeNo}
@@ -22,11 +24,14 @@ use Rattle.promises.proofs.Answered.{answered, wanted-answered, attribu
 
 identity-names : (s : Bytes) → Names (readIdentity s)
 unfolding readIdentity
-identity-names s = over-names nobody identityKinds s
+identity-names s = over-names Today nobody identityKinds s
+
+under-names : (rules : Rules) (ks : List Kind) (s : Bytes) → Names (readUnder rules ks s)
+unfolding readUnder
+under-names rules ks s = over-names rules readIdentity ks s
 
 read-names : (ks : List Kind) (s : Bytes) → Names (readOf ks s)
-unfolding readOf
-read-names ks s = over-names readIdentity ks s
+read-names = under-names Today
 
 record-names : (s : Bytes) → Names (readRecord s)
 unfolding readRecord
@@ -47,8 +52,9 @@ unfolding sharedInfo moduleText centreText checkFingerprint writeFingerprint con
 field-numbers = record {
   read-identity = λ κs a r s p. rw p (answered NamesAt refl (readIdentity (now (a .0))) (identity-names (now (a .0))));
   read-record = λ κs a r s p. rw p (answered NamesAt refl (readRecord (now (a .0))) (record-names (now (a .0))));
+  read-under = λ κs a r s p. rw p (answered NamesAt refl (readUnder (a .0) (kindsFrom (a .1 .0) (a .1 .1 .0)) (now (a .1 .1 .1 .0))) (under-names (a .0) (kindsFrom (a .1 .0) (a .1 .1 .0)) (now (a .1 .1 .1 .0))));
   read-of = λ κs a r s p. rw p (answered NamesAt refl (readOf (kindsFrom (a .0) (a .1 .0)) (now (a .1 .1 .0))) (read-names (kindsFrom (a .0) (a .1 .0)) (now (a .1 .1 .0))));
-  judge = λ κs a r s p. rw p (judge-answered NamesAt refl (judged-names readIdentity) refl (a .0) (now (a .1 .0)) (now (a .1 .1 .0)) (now (a .1 .1 .1 .0)));
+  judge = λ κs a r s p. rw p (judge-answered NamesAt refl (judged-names Today readIdentity) refl (a .0) (now (a .1 .0)) (now (a .1 .1 .0)) (now (a .1 .1 .1 .0)));
   identity-place = λ κs a r s p. rw (p .said) (wanted-answered NamesAt refl (readIdentity (now (a .0))) (a .1 .0) (identity-names (now (a .0))) refl);
   record-place = λ κs a r s p. rw (p .said) (wanted-answered NamesAt refl (readRecord (now (a .0))) (a .1 .0) (record-names (now (a .0))) refl);
   identity-field = λ κs a r s p. rw (p .its-no, p .its-field) (wanted-answered NamesAt refl (readIdentity (now (a .0))) (a .1 .0) (identity-names (now (a .0))) refl);
@@ -57,7 +63,7 @@ field-numbers = record {
   attribute-named-place = λ κs a r s p. rw (p .said) (attribute-names (now (a .0)) _);
   attribute = λ κs a r s p. rw (p .its-no, p .its-field) (attribute-names (now (a .0)) (a .1 .0));
   attribute-named = λ κs a r s p. rw (p .its-no, p .its-field) (attribute-names (now (a .0)) _);
-  build = λ κs a r s p. rw (p .said) (build-answered NamesAt refl (judged-names readIdentity) refl refl refl refl (now (a .0)) (now (a .1 .0)) (now (a .1 .1 .0)) (length (now (a .1 .1 .1 .0))));
+  build = λ κs a r s p. rw (p .said) (build-answered NamesAt refl (judged-names Today readIdentity) refl refl refl refl (now (a .0)) (now (a .1 .0)) (now (a .1 .1 .0)) (length (now (a .1 .1 .1 .0))));
   shared-info = λ κs a r s p. rw (p .said) (given-answered NamesAt refl _ (length (now (a .1 .0))) (readOf (REQ ∷ []) (now (a .0))) (read-names (REQ ∷ []) (now (a .0))) refl);
   module-text = λ κs a r s p. rw (p .said) (given-answered NamesAt refl _ (length (now (a .1 .0))) (readOf (REQ ∷ []) (now (a .0))) (read-names (REQ ∷ []) (now (a .0))) refl);
   centre-text = λ κs a r s p. rw (p .said) (given-answered NamesAt refl _ (length (now (a .1 .0))) (readOf (REQ ∷ []) (now (a .0))) (read-names (REQ ∷ []) (now (a .0))) refl);
@@ -78,7 +84,8 @@ field-numbers = record {
   find-key = λ κs a r s p. rw (p .its-no, p .its-field) (find-answered NamesAt refl refl identity-names refl (now (a .0)) (now (a .1 .0)));
   newer-of = λ κs a r s p. rw p (newer-answered NamesAt refl refl identity-names (read-names pubkeyKinds) (now (a .0)) (now (a .1 .0)));
   newer = λ κs a r s p. rw (p .number-so, p .field-so) (newer-answered NamesAt refl refl identity-names (read-names pubkeyKinds) (now (a .0)) (now (a .1 .0)));
-  expiry-of = λ κs a r s p. rw p (expiry-answered NamesAt refl (read-names pubkeyKinds) (now (a .0)));
+  expiry-under = λ κs a r s p. rw p (expiry-answered NamesAt refl (a .0) (under-names (a .0) pubkeyKinds) (now (a .1 .0)));
+  expiry-of = λ κs a r s p. rw p (expiry-answered NamesAt refl Today (read-names pubkeyKinds) (now (a .0)));
   check-fingerprint = λ κs a r s p. rw p (check-answered NamesAt refl (readOf pubkeyKinds (now (a .0))) (read-names pubkeyKinds (now (a .0))) refl);
   write-fingerprint = λ κs a r s p. rw (p .said) (given-answered NamesAt refl _ (length (now (a .1 .0))) (readOf pubkeyKinds (now (a .0))) (read-names pubkeyKinds (now (a .0))) refl);
   confirm-request = λ κs a r s p. rw (p .said) (request-answered NamesAt refl (now (a .0)) (length (now (a .1 .1 .0))) (length (now (a .1 .1 .1 .0))) (readOf (REQ ∷ []) (now (a .1 .0))) (read-names (REQ ∷ []) (now (a .1 .0))) refl refl refl);

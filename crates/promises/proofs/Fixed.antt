@@ -13,7 +13,7 @@ use Rattle.hashing.specs.Blocks.{block, hashed}
 use Rattle.sha384.specs.Sha384.{K, padding, padded, H₀, word, words, schedule, rounds, compress, left384, sha384}
 use Rattle.format.specs.Attributes.{isCard, areAttributes}
 use Rattle.format.specs.Build.{withCheck, recordOf}
-use Rattle.format.specs.Read.{checkNo, identityAnswer, fieldAnswer, wholeAnswer, judged, readAs, readOver, readIdentity, readOf, readRecord}
+use Rattle.format.specs.Read.{checkNo, identityAnswer, fieldAnswer, wholeAnswer, judged, readAs, readOver, readIdentity, readUnder, readOf, readRecord}
 use Rattle.format.specs.Files.{lineOfOver, lineAtOver}
 use Rattle.building.specs.Building.{buildAs, buildOf, build}
 use Rattle.agreement.specs.Texts.{sharedInfo, moduleText, centreText}
@@ -27,11 +27,11 @@ use Rattle.confirm.specs.Confirm.{confirmRequest, confirmResponse}
 use Rattle.sha1.specs.Sha1 as short
 use Rattle.trailed.specs.Trailed.{trailer, trailed, readTrailed, writeTrailed}
 use Rattle.mail.specs.Mail as mail
-use Rattle.expiry.specs.Expiry.{expiryOf}
+use Rattle.expiry.specs.Expiry.{expiryUnder, expiryOf}
 use Rattle.shelf.specs.Cabinet as cabinet
 use Rattle.promises.specs.Values.{Value, AllCome, admittedFrom}
-use Rattle.promises.specs.Worked.{manufacturerIdFields, manufacturerId, moduleIdFields, moduleId, centreIdFields, centreId, manufacturerKeyFields, manufacturerKey, moduleKeyFields, moduleKey, centreKeyFields, centreKey, requestFields, request, responseFields, response, keyAttributes, keyFields, key, longAttributes}
-use Rattle.promises.specs.Fixed.{rows, alphabets, limits, labels, checks, numbers, building, texts, others, lists, keys, longKeys, days, dates, hashes, agreeing, differing, fingerprints, tags, confirming, shortHashes, printed, lines, fixed, posted, letters, instants, placed, admissions}
+use Rattle.promises.specs.Worked.{manufacturerIdFields, manufacturerId, moduleIdFields, moduleId, centreIdFields, centreId, manufacturerKeyFields, manufacturerKey, moduleKeyFields, moduleKey, centreKeyFields, centreKey, requestFields, request, responseFields, response, keyAttributes, keyFields, key, longAttributes, unsignedKeyFields, unsignedModuleFields, unsignedModuleKey}
+use Rattle.promises.specs.Fixed.{rows, alphabets, limits, labels, checks, numbers, building, texts, others, lists, keys, longKeys, days, dates, hashes, agreeing, differing, fingerprints, tags, confirming, shortHashes, printed, lines, fixed, posted, letters, instants, placed, admissions, unsignedKeys, olds}
 
 -- two sets of values are one; a record, so that the checker finds which two
 record Come (vs : List Value) : Type 0 where
@@ -54,7 +54,7 @@ unfolding alphabets admittedFrom isIdent isTimestamp looks numberFrom isHex isPr
 all-alphabets = record { come = (refl, (refl, (refl, (refl, (refl, (refl, (refl, (refl, (refl, (refl, (refl, (refl, (refl, (refl, (refl, (refl, (refl, (refl, tt)))))))))))))))))) }
 
 all-limits : Come limits
-unfolding limits isIdent isTimestamp looks numberFrom isHex isPoint isProtected readRecord readOf readIdentity readOver
+unfolding limits isIdent isTimestamp looks numberFrom isHex isPoint isProtected readRecord readUnder readIdentity readOver
 all-limits = record { come = (refl, (refl, (refl, (refl, (refl, (refl, (refl, (refl, (refl, (refl, (refl, (refl, (refl, (refl, (refl, (refl, (refl, (refl, (refl, (refl, (refl, (refl, (refl, (refl, tt)))))))))))))))))))))))) }
 
 all-labels : Come labels
@@ -66,19 +66,19 @@ unfolding checks keyAttributes keyFields key manufacturerIdFields manufacturerId
 all-checks = record { come = (refl, (refl, (refl, (refl, (refl, (refl, (refl, (refl, (refl, tt))))))))) }
 
 all-numbers : Come numbers
-unfolding numbers manufacturerIdFields manufacturerId moduleIdFields moduleId centreIdFields centreId manufacturerKeyFields centreKeyFields centreKey recordOf withCheck checkText hexDigit crcOf addAll add bitSteps bitStep isIdent isTimestamp looks numberFrom isHex isPoint checkNo identityAnswer fieldAnswer wholeAnswer judged readAs readOver readIdentity readOf readRecord
+unfolding numbers manufacturerIdFields manufacturerId moduleIdFields moduleId centreIdFields centreId manufacturerKeyFields centreKeyFields centreKey recordOf withCheck checkText hexDigit crcOf addAll add bitSteps bitStep isIdent isTimestamp looks numberFrom isHex isPoint checkNo identityAnswer fieldAnswer wholeAnswer judged readAs readOver readIdentity readUnder readRecord
 all-numbers = record { come = (refl, (refl, (refl, (refl, (refl, (refl, (refl, (refl, (refl, (refl, (refl, (refl, (refl, (refl, tt)))))))))))))) }
 
 all-building : Come building
-unfolding building build buildOf buildAs manufacturerIdFields manufacturerId moduleIdFields moduleId centreIdFields centreId manufacturerKeyFields moduleKeyFields moduleKey centreKeyFields centreKey requestFields request responseFields response recordOf withCheck checkText hexDigit crcOf addAll add bitSteps bitStep isIdent isTimestamp looks numberFrom isHex isPoint checkNo identityAnswer fieldAnswer wholeAnswer judged readAs readOver readIdentity readOf readRecord
+unfolding building build buildOf buildAs manufacturerIdFields manufacturerId moduleIdFields moduleId centreIdFields centreId manufacturerKeyFields moduleKeyFields moduleKey centreKeyFields centreKey requestFields request responseFields response recordOf withCheck checkText hexDigit crcOf addAll add bitSteps bitStep isIdent isTimestamp looks numberFrom isHex isPoint checkNo identityAnswer fieldAnswer wholeAnswer judged readAs readOver readIdentity readUnder readRecord
 all-building = record { come = (refl, (refl, (refl, (refl, (refl, (refl, (refl, (refl, tt)))))))) }
 
 all-texts : Come texts
-unfolding texts sharedInfo moduleText centreText manufacturerIdFields manufacturerId moduleIdFields moduleId centreIdFields centreId manufacturerKeyFields moduleKeyFields moduleKey centreKeyFields centreKey requestFields request responseFields response recordOf withCheck checkText hexDigit crcOf addAll add bitSteps bitStep isIdent isTimestamp looks numberFrom isHex isPoint checkNo identityAnswer fieldAnswer wholeAnswer judged readAs readOver readIdentity readOf readRecord
+unfolding texts sharedInfo moduleText centreText manufacturerIdFields manufacturerId moduleIdFields moduleId centreIdFields centreId manufacturerKeyFields moduleKeyFields moduleKey centreKeyFields centreKey requestFields request responseFields response recordOf withCheck checkText hexDigit crcOf addAll add bitSteps bitStep isIdent isTimestamp looks numberFrom isHex isPoint checkNo identityAnswer fieldAnswer wholeAnswer judged readAs readOver readIdentity readUnder readRecord
 all-texts = record { come = (refl, (refl, (refl, (refl, tt)))) }
 
 all-others : Come others
-unfolding others wantedNo lineAtOver lineOfOver newer alike manufacturerIdFields manufacturerId moduleIdFields moduleId centreIdFields centreId manufacturerKeyFields moduleKeyFields moduleKey centreKeyFields centreKey requestFields request responseFields response recordOf withCheck checkText hexDigit crcOf addAll add bitSteps bitStep isIdent isTimestamp looks numberFrom isHex isPoint checkNo identityAnswer fieldAnswer wholeAnswer judged readAs readOver readIdentity readOf readRecord
+unfolding others wantedNo lineAtOver lineOfOver newer alike manufacturerIdFields manufacturerId moduleIdFields moduleId centreIdFields centreId manufacturerKeyFields moduleKeyFields moduleKey centreKeyFields centreKey requestFields request responseFields response recordOf withCheck checkText hexDigit crcOf addAll add bitSteps bitStep isIdent isTimestamp looks numberFrom isHex isPoint checkNo identityAnswer fieldAnswer wholeAnswer judged readAs readOver readIdentity readUnder readRecord
 all-others = record { come = (refl, (refl, (refl, (refl, (refl, (refl, (refl, (refl, tt)))))))) }
 
 all-lists : Come lists
@@ -86,11 +86,11 @@ unfolding lists keyAttributes isTimestamp looks numberFrom isDigits isAlphanumer
 all-lists = record { come = (refl, (refl, (refl, (refl, (refl, (refl, (refl, (refl, (refl, (refl, (refl, (refl, (refl, (refl, (refl, (refl, (refl, (refl, (refl, (refl, (refl, (refl, (refl, (refl, (refl, (refl, (refl, (refl, (refl, (refl, (refl, (refl, (refl, tt))))))))))))))))))))))))))))))))) }
 
 all-keys : Come keys
-unfolding keys newer alike sharedInfo listSaid attributeNo numberNamed manufacturerIdFields manufacturerId moduleIdFields moduleId centreIdFields centreId manufacturerKeyFields moduleKeyFields moduleKey centreKeyFields centreKey requestFields request responseFields response keyAttributes keyFields key recordOf withCheck checkText hexDigit crcOf addAll add bitSteps bitStep isIdent isTimestamp looks numberFrom isDigits isAlphanumeric isHex isPoint isPrintable isProtected isOctet isCard areAttributes checkNo identityAnswer fieldAnswer wholeAnswer judged readAs readOver readIdentity readOf readRecord
+unfolding keys newer alike sharedInfo listSaid attributeNo numberNamed manufacturerIdFields manufacturerId moduleIdFields moduleId centreIdFields centreId manufacturerKeyFields moduleKeyFields moduleKey centreKeyFields centreKey requestFields request responseFields response keyAttributes keyFields key recordOf withCheck checkText hexDigit crcOf addAll add bitSteps bitStep isIdent isTimestamp looks numberFrom isDigits isAlphanumeric isHex isPoint isPrintable isProtected isOctet isCard areAttributes checkNo identityAnswer fieldAnswer wholeAnswer judged readAs readOver readIdentity readUnder readRecord
 all-keys = record { come = (refl, (refl, (refl, (refl, (refl, (refl, (refl, (refl, (refl, (refl, (refl, (refl, (refl, (refl, (refl, tt))))))))))))))) }
 
 all-long-keys : Come longKeys
-unfolding longKeys longAttributes build buildOf buildAs manufacturerIdFields manufacturerId moduleIdFields moduleId centreIdFields centreId manufacturerKeyFields moduleKeyFields moduleKey centreKeyFields centreKey requestFields request responseFields response keyAttributes keyFields key recordOf withCheck checkText hexDigit crcOf addAll add bitSteps bitStep isIdent isTimestamp looks numberFrom isDigits isAlphanumeric isHex isPoint isPrintable isProtected isOctet isCard areAttributes checkNo identityAnswer fieldAnswer wholeAnswer judged readAs readOver readIdentity readOf readRecord
+unfolding longKeys longAttributes build buildOf buildAs manufacturerIdFields manufacturerId moduleIdFields moduleId centreIdFields centreId manufacturerKeyFields moduleKeyFields moduleKey centreKeyFields centreKey requestFields request responseFields response keyAttributes keyFields key recordOf withCheck checkText hexDigit crcOf addAll add bitSteps bitStep isIdent isTimestamp looks numberFrom isDigits isAlphanumeric isHex isPoint isPrintable isProtected isOctet isCard areAttributes checkNo identityAnswer fieldAnswer wholeAnswer judged readAs readOver readIdentity readUnder readRecord
 all-long-keys = record { come = (refl, (refl, (refl, (refl, (refl, (refl, tt)))))) }
 
 all-days : Come days
@@ -98,7 +98,7 @@ unfolding days isTimestamp looks numberFrom
 all-days = record { come = (refl, (refl, (refl, (refl, (refl, (refl, (refl, (refl, (refl, (refl, (refl, (refl, (refl, (refl, (refl, (refl, (refl, (refl, (refl, (refl, (refl, (refl, (refl, (refl, (refl, (refl, (refl, (refl, (refl, (refl, tt)))))))))))))))))))))))))))))) }
 
 all-dates : Come dates
-unfolding dates build buildOf buildAs moduleIdFields moduleId centreIdFields centreId centreKeyFields requestFields responseFields keyFields recordOf withCheck checkText hexDigit crcOf addAll add bitSteps bitStep isIdent isTimestamp looks numberFrom isDigits isAlphanumeric isHex isPoint isPrintable isProtected isOctet isCard areAttributes checkNo identityAnswer fieldAnswer wholeAnswer judged readAs readOver readIdentity readOf readRecord
+unfolding dates build buildOf buildAs moduleIdFields moduleId centreIdFields centreId centreKeyFields requestFields responseFields keyFields recordOf withCheck checkText hexDigit crcOf addAll add bitSteps bitStep isIdent isTimestamp looks numberFrom isDigits isAlphanumeric isHex isPoint isPrintable isProtected isOctet isCard areAttributes checkNo identityAnswer fieldAnswer wholeAnswer judged readAs readOver readIdentity readUnder readRecord
 all-dates = record { come = (refl, (refl, (refl, (refl, (refl, (refl, (refl, (refl, (refl, (refl, (refl, (refl, (refl, (refl, (refl, tt))))))))))))))) }
 
 all-hashes : Come hashes
@@ -106,23 +106,23 @@ unfolding hashes hexDigit turns grown block hashed K padding padded H₀ word wo
 all-hashes = record { come = (refl, (refl, (refl, tt))) }
 
 all-agreeing : Come agreeing
-unfolding agreeing checkFingerprint centreKey isPoint readOf manufacturerIdFields manufacturerId moduleIdFields moduleId centreIdFields centreId manufacturerKeyFields moduleKeyFields centreKeyFields recordOf withCheck checkText hexDigit crcOf addAll add bitSteps bitStep isIdent isTimestamp looks numberFrom isHex checkNo identityAnswer fieldAnswer wholeAnswer judged readAs readOver readIdentity turns grown block hashed K padding padded H₀ word words schedule rounds compress left384 sha384
+unfolding agreeing checkFingerprint centreKey isPoint readUnder manufacturerIdFields manufacturerId moduleIdFields moduleId centreIdFields centreId manufacturerKeyFields moduleKeyFields centreKeyFields recordOf withCheck checkText hexDigit crcOf addAll add bitSteps bitStep isIdent isTimestamp looks numberFrom isHex checkNo identityAnswer fieldAnswer wholeAnswer judged readAs readOver readIdentity turns grown block hashed K padding padded H₀ word words schedule rounds compress left384 sha384
 all-agreeing = record { come = (refl, tt) }
 
 all-differing : Come differing
-unfolding differing checkFingerprint centreKey isPoint readOf manufacturerIdFields manufacturerId moduleIdFields moduleId centreIdFields centreId manufacturerKeyFields moduleKeyFields centreKeyFields recordOf withCheck checkText hexDigit crcOf addAll add bitSteps bitStep isIdent isTimestamp looks numberFrom isHex checkNo identityAnswer fieldAnswer wholeAnswer judged readAs readOver readIdentity turns grown block hashed K padding padded H₀ word words schedule rounds compress left384 sha384
+unfolding differing checkFingerprint centreKey isPoint readUnder manufacturerIdFields manufacturerId moduleIdFields moduleId centreIdFields centreId manufacturerKeyFields moduleKeyFields centreKeyFields recordOf withCheck checkText hexDigit crcOf addAll add bitSteps bitStep isIdent isTimestamp looks numberFrom isHex checkNo identityAnswer fieldAnswer wholeAnswer judged readAs readOver readIdentity turns grown block hashed K padding padded H₀ word words schedule rounds compress left384 sha384
 all-differing = record { come = (refl, tt) }
 
 all-fingerprints : Come fingerprints
-unfolding fingerprints checkFingerprint writeFingerprint centreKey isPoint readOf readRecord manufacturerIdFields manufacturerId moduleIdFields moduleId centreIdFields centreId manufacturerKeyFields moduleKeyFields centreKeyFields recordOf withCheck checkText hexDigit crcOf addAll add bitSteps bitStep isIdent isTimestamp looks numberFrom isHex checkNo identityAnswer fieldAnswer wholeAnswer judged readAs readOver readIdentity turns grown block hashed K padding padded H₀ word words schedule rounds compress left384 sha384
-all-fingerprints = record { come = (refl, (refl, (refl, (refl, (refl, (refl, tt)))))) }
+unfolding fingerprints checkFingerprint writeFingerprint centreKey isPoint readUnder readRecord manufacturerIdFields manufacturerId moduleIdFields moduleId centreIdFields centreId manufacturerKeyFields moduleKeyFields centreKeyFields recordOf withCheck checkText hexDigit crcOf addAll add bitSteps bitStep isIdent isTimestamp looks numberFrom isHex checkNo identityAnswer fieldAnswer wholeAnswer judged readAs readOver readIdentity turns grown block hashed K padding padded H₀ word words schedule rounds compress left384 sha384 unsignedModuleFields unsignedModuleKey
+all-fingerprints = record { come = (refl, (refl, (refl, (refl, (refl, (refl, (refl, tt))))))) }
 
 all-tags : Come tags
 unfolding tags K₀ mixed mac hmac hexDigit turns grown block hashed K padding padded H₀ word words schedule rounds compress left384 sha384
 all-tags = record { come = (refl, tt) }
 
 all-confirming : Come confirming
-unfolding confirming confirmRequest confirmResponse requestFields responseFields isPoint readOf moduleIdFields moduleId centreIdFields centreId recordOf withCheck checkText hexDigit crcOf addAll add bitSteps bitStep isIdent isTimestamp looks numberFrom isHex checkNo identityAnswer fieldAnswer wholeAnswer judged readAs readOver readIdentity
+unfolding confirming confirmRequest confirmResponse requestFields responseFields isPoint readUnder moduleIdFields moduleId centreIdFields centreId recordOf withCheck checkText hexDigit crcOf addAll add bitSteps bitStep isIdent isTimestamp looks numberFrom isHex checkNo identityAnswer fieldAnswer wholeAnswer judged readAs readOver readIdentity
 all-confirming = record { come = (refl, (refl, (refl, (refl, (refl, (refl, (refl, (refl, (refl, tt))))))))) }
 
 all-short-hashes : Come shortHashes
@@ -134,29 +134,37 @@ unfolding printed trailer moduleKey moduleKeyFields moduleIdFields moduleId manu
 all-printed = record { come = (refl, tt) }
 
 all-lines : Come lines
-unfolding lines readTrailed writeTrailed trailed trailer lineAtOver lineOfOver responseFields response moduleIdFields moduleId centreIdFields centreId recordOf withCheck checkText hexDigit crcOf addAll add bitSteps bitStep isIdent isTimestamp looks numberFrom isHex checkNo identityAnswer fieldAnswer wholeAnswer judged readAs readOver readIdentity readOf readRecord turns grown block hashed short.byTwenty short.padding short.padded short.H₀ short.word short.words short.schedule short.rounds short.compress short.joined short.sha1
+unfolding lines readTrailed writeTrailed trailed trailer lineAtOver lineOfOver responseFields response moduleIdFields moduleId centreIdFields centreId recordOf withCheck checkText hexDigit crcOf addAll add bitSteps bitStep isIdent isTimestamp looks numberFrom isHex checkNo identityAnswer fieldAnswer wholeAnswer judged readAs readOver readIdentity readUnder readRecord turns grown block hashed short.byTwenty short.padding short.padded short.H₀ short.word short.words short.schedule short.rounds short.compress short.joined short.sha1
 all-lines = record { come = (refl, (refl, (refl, (refl, (refl, (refl, (refl, (refl, (refl, (refl, (refl, (refl, (refl, (refl, (refl, (refl, (refl, tt))))))))))))))))) }
 
 all-posted : Come posted
-unfolding posted mail.writeMail mail.blockOf mail.rows requestFields request moduleIdFields moduleId centreIdFields centreId recordOf withCheck checkText hexDigit crcOf addAll add bitSteps bitStep isIdent isTimestamp looks numberFrom isHex isPoint checkNo identityAnswer fieldAnswer wholeAnswer judged readAs readOver readIdentity readOf readRecord
+unfolding posted mail.writeMail mail.blockOf mail.rows requestFields request moduleIdFields moduleId centreIdFields centreId recordOf withCheck checkText hexDigit crcOf addAll add bitSteps bitStep isIdent isTimestamp looks numberFrom isHex isPoint checkNo identityAnswer fieldAnswer wholeAnswer judged readAs readOver readIdentity readUnder readRecord
 all-posted = record { come = (refl, tt) }
 
 all-letters : Come letters
-unfolding letters mail.writeMail mail.readMail mail.blockOf mail.rows mail.isBegins responseFields response moduleIdFields moduleId centreIdFields centreId recordOf withCheck checkText hexDigit crcOf addAll add bitSteps bitStep isIdent isTimestamp looks numberFrom isHex isPoint checkNo identityAnswer fieldAnswer wholeAnswer judged readAs readOver readIdentity readOf readRecord
+unfolding letters mail.writeMail mail.readMail mail.blockOf mail.rows mail.isBegins responseFields response moduleIdFields moduleId centreIdFields centreId recordOf withCheck checkText hexDigit crcOf addAll add bitSteps bitStep isIdent isTimestamp looks numberFrom isHex isPoint checkNo identityAnswer fieldAnswer wholeAnswer judged readAs readOver readIdentity readUnder readRecord
 all-letters = record { come = (refl, (refl, (refl, (refl, (refl, (refl, (refl, (refl, (refl, (refl, (refl, (refl, (refl, (refl, (refl, (refl, (refl, (refl, (refl, (refl, (refl, (refl, (refl, (refl, (refl, (refl, (refl, tt))))))))))))))))))))))))))) }
 
 all-instants : Come instants
-unfolding instants expiryOf momentOf seconds sinceYearOne daysBefore sumTo secondsBytes centreKeyFields centreKey requestFields request moduleIdFields moduleId centreIdFields centreId recordOf withCheck checkText hexDigit crcOf addAll add bitSteps bitStep isIdent isTimestamp looks numberFrom isHex isPoint checkNo identityAnswer fieldAnswer wholeAnswer judged readAs readOver readIdentity readOf
+unfolding instants expiryUnder momentOf seconds sinceYearOne daysBefore sumTo secondsBytes centreKeyFields centreKey requestFields request moduleIdFields moduleId centreIdFields centreId recordOf withCheck checkText hexDigit crcOf addAll add bitSteps bitStep isIdent isTimestamp looks numberFrom isHex isPoint checkNo identityAnswer fieldAnswer wholeAnswer judged readAs readOver readIdentity readUnder
 all-instants = record { come = (refl, (refl, (refl, (refl, (refl, (refl, (refl, (refl, (refl, (refl, (refl, (refl, (refl, (refl, (refl, (refl, (refl, (refl, (refl, (refl, (refl, (refl, (refl, (refl, (refl, (refl, tt)))))))))))))))))))))))))) }
 
 all-placed : Come placed
-unfolding placed cabinet.asks cabinet.reads cabinet.width cabinet.tvpAt cabinet.numberAt cabinet.numberOf cabinet.encode cabinet.isTvp cabinet.decode centreKeyFields centreKey requestFields request moduleIdFields moduleId centreIdFields centreId recordOf withCheck checkText hexDigit crcOf addAll add bitSteps bitStep isIdent isTimestamp looks numberFrom isHex isPoint checkNo identityAnswer fieldAnswer wholeAnswer judged readAs readOver readIdentity readOf expiryOf momentOf seconds sinceYearOne daysBefore sumTo secondsBytes later
+unfolding placed cabinet.asks cabinet.readsUnder cabinet.width cabinet.tvpAt cabinet.numberAt cabinet.numberOf cabinet.encode cabinet.isTvp cabinet.decode centreKeyFields centreKey requestFields request moduleIdFields moduleId centreIdFields centreId recordOf withCheck checkText hexDigit crcOf addAll add bitSteps bitStep isIdent isTimestamp looks numberFrom isHex isPoint checkNo identityAnswer fieldAnswer wholeAnswer judged readAs readOver readIdentity readUnder expiryUnder momentOf seconds sinceYearOne daysBefore sumTo secondsBytes later
 all-placed = record { come = (refl, (refl, (refl, (refl, (refl, (refl, (refl, (refl, (refl, (refl, (refl, (refl, (refl, tt))))))))))))) }
 
 all-admissions : Come admissions
-unfolding admissions cabinet.requests responseFields response cabinet.asks cabinet.reads cabinet.width cabinet.tvpAt cabinet.numberAt cabinet.numberOf cabinet.encode cabinet.isTvp cabinet.decode centreKeyFields centreKey requestFields request moduleIdFields moduleId centreIdFields centreId recordOf withCheck checkText hexDigit crcOf addAll add bitSteps bitStep isIdent isTimestamp looks numberFrom isHex isPoint checkNo identityAnswer fieldAnswer wholeAnswer judged readAs readOver readIdentity readOf expiryOf momentOf seconds sinceYearOne daysBefore sumTo secondsBytes later
+unfolding admissions cabinet.requests responseFields response cabinet.asks cabinet.readsUnder cabinet.width cabinet.tvpAt cabinet.numberAt cabinet.numberOf cabinet.encode cabinet.isTvp cabinet.decode centreKeyFields centreKey requestFields request moduleIdFields moduleId centreIdFields centreId recordOf withCheck checkText hexDigit crcOf addAll add bitSteps bitStep isIdent isTimestamp looks numberFrom isHex isPoint checkNo identityAnswer fieldAnswer wholeAnswer judged readAs readOver readIdentity readUnder expiryUnder momentOf seconds sinceYearOne daysBefore sumTo secondsBytes later
 all-admissions = record { come = (refl, (refl, (refl, (refl, (refl, (refl, (refl, (refl, (refl, (refl, (refl, (refl, (refl, tt))))))))))))) }
+
+all-unsigned-keys : Come unsignedKeys
+unfolding unsignedKeys build buildOf buildAs unsignedKeyFields manufacturerIdFields manufacturerId moduleIdFields moduleId centreIdFields centreId manufacturerKeyFields moduleKeyFields moduleKey centreKeyFields centreKey unsignedModuleFields unsignedModuleKey recordOf withCheck checkText hexDigit crcOf addAll add bitSteps bitStep isIdent isTimestamp looks numberFrom isHex isPoint checkNo identityAnswer fieldAnswer wholeAnswer judged readAs readOver readIdentity readUnder readRecord
+all-unsigned-keys = record { come = (refl, (refl, (refl, (refl, (refl, (refl, (refl, (refl, (refl, tt))))))))) }
+
+all-olds : Come olds
+unfolding olds newer alike cabinet.asks cabinet.readsUnder cabinet.width cabinet.tvpAt cabinet.numberAt cabinet.numberOf cabinet.encode cabinet.isTvp cabinet.decode cabinet.isOld manufacturerIdFields manufacturerId moduleIdFields moduleId centreIdFields centreId manufacturerKeyFields moduleKeyFields moduleKey centreKeyFields centreKey unsignedModuleFields unsignedModuleKey recordOf withCheck checkText hexDigit crcOf addAll add bitSteps bitStep isIdent isTimestamp looks numberFrom isHex isPoint checkNo identityAnswer fieldAnswer wholeAnswer judged readAs readOver readIdentity readUnder expiryUnder momentOf seconds sinceYearOne daysBefore sumTo secondsBytes later
+all-olds = record { come = (refl, (refl, (refl, (refl, (refl, (refl, (refl, (refl, (refl, tt))))))))) }
 
 pub all-fixed : AllCome fixed
 unfolding fixed
-all-fixed = (all-rows and all-alphabets and all-limits and all-labels and all-checks and all-numbers and all-building and all-texts and all-others and all-lists and all-keys and all-long-keys and all-days and all-dates and all-hashes and all-agreeing and all-differing and all-fingerprints and all-tags and all-confirming and all-short-hashes and all-printed and all-lines and all-posted and all-letters and all-instants and all-placed and all-admissions) .come
+all-fixed = (all-rows and all-alphabets and all-limits and all-labels and all-checks and all-numbers and all-building and all-texts and all-others and all-lists and all-keys and all-long-keys and all-days and all-dates and all-hashes and all-agreeing and all-differing and all-fingerprints and all-tags and all-confirming and all-short-hashes and all-printed and all-lines and all-posted and all-letters and all-instants and all-placed and all-admissions and all-unsigned-keys and all-olds) .come

@@ -5,6 +5,7 @@ pub mod TextTypes
 pub mod Conversion
 pub mod Calendar
 pub mod Reading
+pub mod Rulings
 pub mod Attributes
 pub mod Building
 pub mod Agreement

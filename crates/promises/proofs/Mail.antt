@@ -17,7 +17,7 @@ use Rattle.text.proofs.Tests.{by-test, T-true, true-T, same→eq, same-true, sa
 use Rattle.numbers.specs.Numbers.{tooLong, unknownKind, missingBegins, missingEnds}
 use Rattle.format.specs.Kinds.{Kind, KEY, name, recordKinds, keyKinds, among}
 use Rattle.format.specs.Build.{WithoutAll, longestRecord, Built}
-use Rattle.format.specs.Read.{Outcome, accepted, refused, title, readOver, readOf, readRecord}
+use Rattle.format.specs.Read.{Outcome, accepted, refused, title, readOver, readUnder, readOf, readRecord}
 use Rattle.format.specs.Files.{lineFeed}
 use Rattle.format.proofs.Table.{All, among-one}
 use Rattle.format.proofs.Outcomes.{never, Numbered, honest-map}
@@ -189,7 +189,7 @@ accepted-named t s k fs e =
     absurd (never (sym (other-read t s (λ q. T-not (same t (title s)) n (true-T _ (same-true t (title s) q))) short) ∙ e)))
 
 long-read : (ks : List Kind) (s : Bytes) → longestRecord < length s → readOf ks s ≡ refused tooLong 0
-unfolding readOf readOver
+unfolding readUnder readOver
 long-read ks s h = rw (lt-leb (length s) longestRecord h)
 
 module _ (text out out′ : Bytes) (r : Written) (w : Writes (readMail text (length out)) out out′ r) where

@@ -11,7 +11,9 @@ use Rattle.text.specs.Text.{Bytes, every, oneOf}
 use Rattle.text.proofs.Tests.{or-right, one-of}
 use Rattle.numbers.specs.Numbers.{shortOutput}
 use Rattle.format.specs.Kinds.{Kind, REQ, RESP, identityKinds, recordKinds, pubkeyKinds, keyKinds}
-use Rattle.format.specs.Read.{Outcome, answer, judged, nobody, readIdentity, readOf, readRecord}
+use Rattle.format.specs.Read.{Outcome, answer, judged, nobody, readIdentity, readUnder, readOf, readRecord}
+use Rattle.format.specs.declared.Rules.{Rules}
+use Rattle.format.specs.declared.Rules.the-variants.{UpToE10, Today}
 use Rattle.format.proofs.Table.{All, every-kind}
 use Rattle.format.proofs.Refusals.{Gives, covers, check-given, judged-given, over-given}
 use Rattle.table.specs.Table.{kindsFrom}
@@ -43,35 +45,50 @@ all-of P h (k ∷ ks) = (h k, all-of P h ks)
 
 identity-given : (s : Bytes) → Gives ofIdentities (readIdentity s)
 unfolding readIdentity
-identity-given s = over-given ofIdentities tt nobody (tt, tt, tt, tt, tt) identityKinds (tt, (tt, (tt, tt))) s
+identity-given s = over-given ofIdentities tt nobody Today (tt, tt, tt, tt, tt) identityKinds (tt, (tt, (tt, tt))) s
+
+-- whatever the rules
+records-covered : (rules : Rules) (k : Kind) → T (covers rules ofRecords k)
+records-covered UpToE10 = every-kind (covers UpToE10 ofRecords) tt
+records-covered Today = every-kind (covers Today ofRecords) tt
+
+keys-covered : (rules : Rules) → All (λ k. T (covers rules ofPubkeys k)) pubkeyKinds
+keys-covered UpToE10 = (tt, (tt, tt))
+keys-covered Today = (tt, (tt, tt))
+
+under-given : (rules : Rules) (ks : List Kind) (s : Bytes) → Gives ofRecords (readUnder rules ks s)
+unfolding readUnder
+under-given rules ks s = over-given ofRecords tt readIdentity rules (tt, tt, tt, tt, tt) ks (all-of (λ k. T (covers rules ofRecords k)) (records-covered rules) ks) s
 
 pub read-given : (ks : List Kind) (s : Bytes) → Gives ofRecords (readOf ks s)
-unfolding readOf
-read-given ks s = over-given ofRecords tt readIdentity (tt, tt, tt, tt, tt) ks (all-of (λ k. T (covers ofRecords k)) (every-kind (covers ofRecords) tt) ks) s
+read-given = under-given Today
 
 pub record-given : (s : Bytes) → Gives ofRecords (readRecord s)
 unfolding readRecord
 record-given s = read-given recordKinds s
 
 request-given : (s : Bytes) → Gives ofTexts (readOf (REQ ∷ []) s)
-unfolding readOf
-request-given s = over-given ofTexts tt readIdentity (tt, tt, tt, tt, tt) (REQ ∷ []) (tt, tt) s
+unfolding readUnder
+request-given s = over-given ofTexts tt readIdentity Today (tt, tt, tt, tt, tt) (REQ ∷ []) (tt, tt) s
 
 pub load-given : (s : Bytes) (more : List ℕ) → T (every (oneOf more) ofLoads) → Gives more (readOf (REQ ∷ []) s) × Gives more (readOf (RESP ∷ []) s)
-unfolding readOf
+unfolding readUnder
 load-given s more t =
     let among = one-of (oneOf more) ofLoads t in (
-      among (answer (readOf (REQ ∷ []) s)) (over-given ofLoads tt readIdentity (tt, tt, tt, tt, tt) (REQ ∷ []) (tt, tt) s),
-      among (answer (readOf (RESP ∷ []) s)) (over-given ofLoads tt readIdentity (tt, tt, tt, tt, tt) (RESP ∷ []) (tt, tt) s),
+      among (answer (readOf (REQ ∷ []) s)) (over-given ofLoads tt readIdentity Today (tt, tt, tt, tt, tt) (REQ ∷ []) (tt, tt) s),
+      among (answer (readOf (RESP ∷ []) s)) (over-given ofLoads tt readIdentity Today (tt, tt, tt, tt, tt) (RESP ∷ []) (tt, tt) s),
     )
 
 wrapped-given : (s : Bytes) → Gives ofKeys (readOf keyKinds s)
-unfolding readOf
-wrapped-given s = over-given ofKeys tt readIdentity (tt, tt, tt, tt, tt) keyKinds (tt, tt) s
+unfolding readUnder
+wrapped-given s = over-given ofKeys tt readIdentity Today (tt, tt, tt, tt, tt) keyKinds (tt, tt) s
+
+any-key-given : (rules : Rules) (s : Bytes) → Gives ofPubkeys (readUnder rules pubkeyKinds s)
+unfolding readUnder
+any-key-given rules s = over-given ofPubkeys tt readIdentity rules (tt, tt, tt, tt, tt) pubkeyKinds (keys-covered rules) s
 
 pub pubkey-given : (s : Bytes) → Gives ofPubkeys (readOf pubkeyKinds s)
-unfolding readOf
-pubkey-given s = over-given ofPubkeys tt readIdentity (tt, tt, tt, tt, tt) pubkeyKinds (tt, (tt, tt)) s
+pubkey-given = any-key-given Today
 
 -- a number more may be given
 pub further : (m : ℕ) (ns : List ℕ) (o : Outcome) → Gives ns o → Gives (m ∷ ns) o
@@ -80,16 +97,16 @@ further m ns o h = or-right (eqb (answer o) m) (oneOf ns (answer o)) h
 -- ---- the fields alone, and building
 
 abbrev ofFields : List ℕ
-ofFields = 0 ∷ 2 ∷ 6 ∷ 7 ∷ 8 ∷ 9 ∷ 14 ∷ []
+ofFields = 0 ∷ 2 ∷ 6 ∷ 7 ∷ 8 ∷ 9 ∷ 14 ∷ 28 ∷ []
 
 abbrev ofBuilding : List ℕ
-ofBuilding = 0 ∷ 1 ∷ 2 ∷ 5 ∷ 6 ∷ 7 ∷ 8 ∷ 9 ∷ 10 ∷ 14 ∷ []
+ofBuilding = 0 ∷ 1 ∷ 2 ∷ 5 ∷ 6 ∷ 7 ∷ 8 ∷ 9 ∷ 10 ∷ 14 ∷ 28 ∷ []
 
-fields-given : (k : Kind) (fs : List Bytes) (o : Outcome) → Gives ofFields o → Gives ofFields (judged readIdentity k fs o)
-fields-given k fs o h = judged-given ofFields tt readIdentity k fs o (every-kind (covers ofFields) tt k) h
+fields-given : (k : Kind) (fs : List Bytes) (o : Outcome) → Gives ofFields o → Gives ofFields (judged Today readIdentity k fs o)
+fields-given k fs o h = judged-given ofFields tt readIdentity Today k fs o (every-kind (covers Today ofFields) tt k) h
 
-building-given : (k : Kind) (fs : List Bytes) (o : Outcome) → Gives ofBuilding o → Gives ofBuilding (judged readIdentity k fs o)
-building-given k fs o h = judged-given ofBuilding tt readIdentity k fs o (every-kind (covers ofBuilding) tt k) h
+building-given : (k : Kind) (fs : List Bytes) (o : Outcome) → Gives ofBuilding o → Gives ofBuilding (judged Today readIdentity k fs o)
+building-given k fs o h = judged-given ofBuilding tt readIdentity Today k fs o (every-kind (covers Today ofBuilding) tt k) h
 
 -- ---- items, lines, lists and keys
 
@@ -145,6 +162,7 @@ refusals = record {
   check-no = λ κs a r s p. rw p (check-given (0 ∷ 3 ∷ 4 ∷ []) tt (a .0) (now (a .1 .0)) tt tt);
   read-identity = λ κs a r s p. rw p (answered (In ofIdentities) tt (readIdentity (now (a .0))) (identity-given (now (a .0))));
   read-record = λ κs a r s p. rw p (answered (In ofRecords) tt (readRecord (now (a .0))) (record-given (now (a .0))));
+  read-under = λ κs a r s p. rw p (answered (In ofRecords) tt (readUnder (a .0) (kindsFrom (a .1 .0) (a .1 .1 .0)) (now (a .1 .1 .1 .0))) (under-given (a .0) (kindsFrom (a .1 .0) (a .1 .1 .0)) (now (a .1 .1 .1 .0))));
   read-of = λ κs a r s p. rw p (answered (In ofRecords) tt (readOf (kindsFrom (a .0) (a .1 .0)) (now (a .1 .1 .0))) (read-given (kindsFrom (a .0) (a .1 .0)) (now (a .1 .1 .0))));
   judge = λ κs a r s p. rw p (judge-answered (In ofFields) tt fields-given tt (a .0) (now (a .1 .0)) (now (a .1 .1 .0)) (now (a .1 .1 .1 .0)));
   identity-place = λ κs a r s p. rw (p .said) (wanted-answered (In (12 ∷ ofIdentities)) tt (readIdentity (now (a .0))) (a .1 .0) (further 12 ofIdentities (readIdentity (now (a .0))) (identity-given (now (a .0)))) tt);
@@ -180,7 +198,8 @@ refusals = record {
   find-key = λ κs a r s p. rw (p .its-no) (find-answered (In (23 ∷ 26 ∷ ofIdentities)) tt tt asked-given tt (now (a .0)) (now (a .1 .0)));
   newer-of = λ κs a r s p. rw p (newer-answered (In (13 ∷ ofPubkeys)) tt tt subject-given key-given (now (a .0)) (now (a .1 .0)));
   newer = λ κs a r s p. rw (p .number-so) (newer-answered (In (13 ∷ ofPubkeys)) tt tt subject-given key-given (now (a .0)) (now (a .1 .0)));
-  expiry-of = λ κs a r s p. rw p (expiry-answered (In ofPubkeys) tt pubkey-given (now (a .0)));
+  expiry-under = λ κs a r s p. rw p (expiry-answered (In ofPubkeys) tt (a .0) (any-key-given (a .0)) (now (a .1 .0)));
+  expiry-of = λ κs a r s p. rw p (expiry-answered (In ofPubkeys) tt Today pubkey-given (now (a .0)));
   check-fingerprint = λ κs a r s p. rw p (check-answered (In (15 ∷ ofPubkeys)) tt (readOf pubkeyKinds (now (a .0))) (checked-given (now (a .0))) tt);
   write-fingerprint = λ κs a r s p. rw (p .said) (given-answered (In (10 ∷ ofPubkeys)) tt _ (length (now (a .1 .0))) (readOf pubkeyKinds (now (a .0))) (print-given (now (a .0))) tt);
   confirm-request = λ κs a r s p.

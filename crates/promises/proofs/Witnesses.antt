@@ -4,6 +4,7 @@ use Prim.Native.Nat.{ℕ, zero, suc, _+_, _≤_, _<_}
 use Prim.Native.Char.{code}
 use mathlib.Core.Path.{_≡_, refl, sym, ap, _∙_}
 use mathlib.Core.Logic.{inl, inr}
+use mathlib.Core.Bool.{true}
 use mathlib.Core.List.{List, [], _∷_, _++_, List·Memᴰ·eq-of-singleton}
 use native.Mathlib.Omega.{arith}
 use lib.ListN.{length, drop, getD, replicate, length-drop, length-replicate}
@@ -18,8 +19,10 @@ use Rattle.text.specs.Seconds.{momentOf, seconds, sinceYearOne}
 use Rattle.format.specs.Kinds.{Kind, SMID, KMCID, ECDH, REQ, KEY, among, identityKinds, recordKinds, pubkeyKinds, keyKinds}
 use Rattle.format.specs.Attributes.{cardsIn}
 use Rattle.format.specs.Build.{recordOf, IsIdentity, Permitted}
-use Rattle.format.specs.Read.{Outcome, accepted, place, readIdentity, readRecord}
-use Rattle.format.proofs.Exactly.{identity-exact, read-exact, record-exact}
+use Rattle.format.specs.Read.{Outcome, accepted, refused, place, readIdentity, readOf, readRecord}
+use Rattle.format.specs.declared.Rules.the-variants.{UpToE10}
+use Rattle.format.proofs.Exactly.{identity-exact, under-exact, read-exact, record-exact}
+use Rattle.format.proofs.Earlier.{no-more-accepts, unsigned-is}
 use Rattle.format.specs.Files.{lineFeed, lineAtOver, lineAt}
 use Rattle.subjects.specs.Subjects.{alike}
 use Rattle.files.specs.declared.Line.{Line}
@@ -28,9 +31,12 @@ use Rattle.files.specs.Walk.{lineSaid, nextOf}
 use Rattle.files.specs.Steps as steps
 use Rattle.files.specs.Steps.{Steps}
 use Rattle.text.specs.Later.{later}
-use Rattle.numbers.specs.Numbers.{tvpNotLater}
+use Rattle.text.proofs.Later.{later-itself}
+use Rattle.numbers.specs.Numbers.{notLater, notThere, tvpNotLater, moduleUnsigned}
+use Rattle.subjects.specs.Keys.{KeyUnder}
 use Rattle.subjects.specs.Requests.{Request}
-use Rattle.shelf.specs.Cabinet.{putKey, admit}
+use Rattle.shelf.specs.Cabinet.{isOld, putKey, removeKey, admit, findKey, countKeys}
+use Rattle.shelf.proofs.Readings.{asks-accepted, requests-accepted}
 use Rattle.newer.specs.Newer.{theFirst, theSecond, newer}
 use Rattle.newer.specs.Keys.{Key, Agreed}
 use Rattle.newer.proofs.Choosing.{newer-keys}
@@ -43,11 +49,12 @@ use Rattle.promises.specs.Dates.{Follows}
 use Rattle.promises.specs.Files.{PlainSays}
 use Rattle.promises.specs.Trailed.{TrailedSays}
 use Rattle.promises.specs.Demand3.{Called, none, more}
-use Rattle.promises.proofs.Cabinet.{empty-cabinet, first-done, again, admitted-once, refused-then}
-use Rattle.promises.specs.Worked.{moduleIdFields, moduleId, moduleKeyFields, moduleKey, centreIdFields, centreId, centreKeyFields, centreKey, requestFields, request, keyAttributes, keyFields, key, fieldsOfWorked, laterIdFields, laterKeyFields, laterKey}
+use Rattle.promises.proofs.Cabinet.{empty-cabinet, first-done, again, admitted-once, refused-then, oldImage, old-cabinet, old-counted, old-missed, old-unknown, old-not-later, old-own, old-removed}
+use Rattle.promises.specs.Cabinet.{IsCabinet}
+use Rattle.promises.specs.Worked.{moduleIdFields, moduleId, moduleKeyFields, moduleKey, centreIdFields, centreId, centreKeyFields, centreKey, requestFields, request, keyAttributes, keyFields, key, fieldsOfWorked, laterIdFields, laterKeyFields, laterKey, unsignedModuleFields, unsignedModuleKey}
 use Rattle.promises.specs.Attributes.{Wrapped}
 use Rattle.promises.proofs.Attributes.{wrapped}
-use Rattle.promises.proofs.Permitted.{names-permitted, permitted, unsigned, later-permitted, built-of}
+use Rattle.promises.proofs.Permitted.{names-permitted, is-sm, permitted, unsigned, unsigned-module, later-permitted, built-of}
 use Rattle.promises.proofs.DamagedFile.{damaged, caught, damaged-trailed, caught-trailed}
 use Rattle.promises.specs.Witnesses.{Witnesses}
 
@@ -105,6 +112,42 @@ module-request = record {
   names = moduleIdFields;
   known = known-as SMID moduleIdFields tt (names-permitted IsIdentity .1);
 }
+
+-- ---- the same key before it was signed, which is old
+
+old-key : KeyUnder UpToE10 unsignedModuleKey
+unfolding unsignedModuleKey unsignedModuleFields moduleKeyFields moduleId
+old-key = record {
+  kind = ECDH;
+  fields = unsignedModuleFields;
+  is = under-exact UpToE10 pubkeyKinds (recordOf ECDH unsignedModuleFields) ECDH unsignedModuleFields .1 (record { of-kind = tt; permitted = unsigned-module; built = refl });
+  who = SMID;
+  names = moduleIdFields;
+  known = known-as SMID moduleIdFields tt (names-permitted IsIdentity .1);
+}
+
+ended : readOf pubkeyKinds unsignedModuleKey ≡ refused moduleUnsigned 0
+unfolding unsignedModuleFields moduleKeyFields old-key
+ended = no-more-accepts pubkeyKinds unsignedModuleKey ECDH unsignedModuleFields (old-key .is) (unsigned-is ECDH unsignedModuleFields unsigned-module .1 (refl, is-sm, refl))
+
+is-old : isOld unsignedModuleKey ≡ true
+unfolding isOld
+is-old = rw ended
+
+old-one : (s : Bytes) × IsCabinet s × (countKeys s ≡ record { no = 0; count = 1 }) × (findKey s moduleId .no ≡ notThere) × (admit s request .no ≡ notThere)
+    × (putKey s moduleKey .no ≡ notLater) × (putKey s unsignedModuleKey .no ≡ moduleUnsigned) × (removeKey s moduleId .no ≡ 0)
+unfolding old-key module-key key-of module-request moduleId
+old-one =
+    let asks-it = asks-accepted moduleId (old-key .known) in (
+      oldImage unsignedModuleKey old-key is-old,
+      old-cabinet unsignedModuleKey old-key is-old,
+      old-counted unsignedModuleKey old-key is-old,
+      old-missed unsignedModuleKey old-key is-old moduleId _ asks-it,
+      old-unknown unsignedModuleKey old-key is-old request _ (requests-accepted request module-request),
+      old-not-later unsignedModuleKey old-key is-old moduleKey module-key refl (later-itself _),
+      old-own unsignedModuleKey old-key is-old unsignedModuleKey moduleUnsigned 0 ended,
+      old-removed unsignedModuleKey old-key is-old moduleId _ asks-it,
+    )
 
 admitted-first : (admit (putKey (replicate 65536 0) moduleKey .bytes) request .no ≡ 0) × (admit (admit (putKey (replicate 65536 0) moduleKey .bytes) request .bytes) request .no ≡ tvpNotLater)
 unfolding module-key key-of module-request requestFields later momentOf seconds sinceYearOne daysBefore sumTo isTimestamp looks numberFrom
@@ -241,4 +284,5 @@ witnesses = record {
   filled = first-done centreKey centre;
   equal-gnt = again centreKey centre;
   admitted-once = λ s e. rw e admitted-first;
+  old-one = old-one;
 }

@@ -1,4 +1,4 @@
--- The centre's key cabinet: document 02, E8, E9 and E10. What a cabinet is, what each call answers and leaves, and what holds after any list of calls.
+-- The centre's key cabinet: document 02, E8 to E11. What a cabinet is, what each call answers and leaves, and what holds after any list of calls.
 -- Assumes nothing.
 use Prim.Native.Nat.{ℕ, zero, suc, _+_, _-_, _*_, _<_}
 use mathlib.Core.Path.{_≡_}
@@ -17,14 +17,16 @@ use Rattle.numbers.specs.Numbers.{notCabinet, notLater, noPlace, notThere, tvpN
 use Rattle.format.specs.Kinds.{Kind, SMID, REQ, pubkeyKinds}
 use Rattle.format.specs.Requests as load-request
 use Rattle.format.specs.Read.{accepted, refused, readIdentity, readOf}
+use Rattle.format.specs.declared.Rules.{Rules}
+use Rattle.format.specs.declared.Rules.the-variants.{UpToE10}
 use Rattle.subjects.specs.Subjects.{manufacturer, mid}
-use Rattle.subjects.specs.Keys.{Key, gntOf}
+use Rattle.subjects.specs.Keys.{KeyUnder, Key, gntOf}
 use Rattle.subjects.specs.Requests.{Request}
 use Rattle.expiry.specs.Expiry.{expiry}
 use Rattle.shelf.specs.Places as shelf-places
 use Rattle.shelf.specs.Places.{Names, Held, occupied}
 use Rattle.shelf.specs.Cabinet.{about, asks, reads, requests, shelf}
-use Rattle.shelf.specs.History.{Event, nowhere, heldIn, lastPut, firstPuts, removals, lastTvp, admittedOf, Moment, putEvent, removeEvent, admitEvent, onto}
+use Rattle.shelf.specs.History.{Event, nowhere, heldIn, textOf, lastPut, firstPuts, removals, lastTvp, admittedOf, Moment, putEvent, removeEvent, admitEvent, onto}
 use Rattle.cabinet.specs.declared.Filed.{Filed}
 use Rattle.cabinet.proofs.make_cabinet.Reads as make-cabinet
 use Rattle.cabinet.proofs.check_cabinet.Reads as check-cabinet
@@ -51,24 +53,28 @@ pub record IsTvp (t : Bytes) : Type 0 where
   pub stamp : T (isTimestamp t)
   pub from-start : later firstTvp t ≡ false
 
--- the bytes of a place for an accepted public key: its text, zeros, from byte 1000 on the last TVP accepted for its module, and from byte 1016 on the number of its Expiry
-abbrev pub placeOf : {text : Bytes} → Key text → Bytes → Bytes
-placeOf {text} k tvp = ((text ++ replicate (1000 - length text) 0) ++ tvp) ++ secondsBytes (seconds (expiry (k .fields)))
+-- the bytes of a place for a public key that some rules accept: its text, zeros, from byte 1000 on the last TVP accepted for its module, and from byte 1016 on the number of its Expiry
+abbrev pub placeOf : {rules : Rules} {text : Bytes} → KeyUnder rules text → Bytes → Bytes
+placeOf {rules} {text} k tvp = ((text ++ replicate (1000 - length text) 0) ++ tvp) ++ secondsBytes (seconds (expiry (k .fields)))
 
--- the bytes b of a place are so
+-- the bytes b of a place are so: what lay in a cabinet stays, so the rules up to E10 say what may stand there
 pub record Filled (b : Bytes) : Type 0 where
   pub text : Bytes
-  pub key : Key text
+  pub key : KeyUnder UpToE10 text
   pub tvp : Bytes
   pub is-tvp : IsTvp tvp
   pub so : b ≡ placeOf key tvp
+
+-- the record of a place is old (E11): today's rules do not accept it
+abbrev pub Old : Bytes → Type 0
+Old text = Key text → ⊥
 
 -- two identities have one kind, Manufacturer and MID
 abbrev pub Share : Kind → List Bytes → Kind → List Bytes → Type 0
 Share j fs k gs = (j ≡ k) × (manufacturer fs ≡ manufacturer gs) × (mid fs ≡ mid gs)
 
 -- and two public keys share those three
-abbrev pub Shared : {a b : Bytes} → Key a → Key b → Type 0
+abbrev pub Shared : {rules others : Rules} {a b : Bytes} → KeyUnder rules a → KeyUnder others b → Type 0
 Shared p q = Share (p .who) (p .names) (q .who) (q .names)
 
 pub record IsCabinet (s : Bytes) : Type 0 where
@@ -95,12 +101,12 @@ pub record PutSaid (s r after : Bytes) (x : Filed) : Type 0 where
   pub refuses : Refuses s after (x .no)
   -- the record's own numbers before 24 and 25
   pub own : IsCabinet s → (n i : ℕ) → readOf pubkeyKinds r ≡ refused n i → x ≡ record { no = n; field = i }
-  -- 24 exactly where a record that shares the three is there, and the GNT is not later: earlier or equal
+  -- 24 exactly where a record that shares the three is there, old or not, and the GNT is not later: earlier or equal
   pub not-later : IsCabinet s
       → (x .no ≡ notLater) ↔ ((p : Key r) × (j : ℕ) × (j < 64) × (q : Filled (placeIn s j)) × Shared p (q .key) × (later (gntOf p) (gntOf (q .key)) ≡ false))
   -- 25 exactly where 64 records of other subjects are there
   pub no-place : IsCabinet s → (x .no ≡ noPlace) ↔ ((p : Key r) × ((j : ℕ) → j < 64 → (q : Filled (placeIn s j)) × (Shared p (q .key) → ⊥)))
-  -- a replacement stays in its place and keeps the TVP
+  -- a replacement, of an old record too, stays in its place and keeps the TVP
   pub replaces : IsCabinet s → (p : Key r) (j : ℕ) → j < 64 → (q : Filled (placeIn s j)) → Shared p (q .key) → later (gntOf p) (gntOf (q .key)) ≡ true
       → (x .no ≡ 0) × (after ≡ withPlace s j (placeOf p (q .tvp)))
   -- a first put takes the lowest free place, and its TVP is the first one
@@ -118,7 +124,7 @@ pub record RemoveSaid (s i after : Bytes) (x : Filed) : Type 0 where
   -- 26 exactly where nothing of its names is there
   pub not-there : IsCabinet s
       → (x .no ≡ notThere) ↔ ((who : Kind) × (fs : List Bytes) × (readIdentity i ≡ accepted who fs) × ((j : ℕ) → There s who fs j → ⊥))
-  -- and else the place is all zeros, the TVP too
+  -- and else the place is all zeros, the TVP too, whether the record was old or not
   pub removes : IsCabinet s → (who : Kind) (fs : List Bytes) → readIdentity i ≡ accepted who fs → (j : ℕ) → There s who fs j
       → (x .no ≡ 0) × (after ≡ withPlace s j (replicate 1024 0))
 
@@ -133,20 +139,21 @@ pub record AdmitSaid (s q after : Bytes) (x : Filed) : Type 0 where
   pub refuses : Refuses s after (x .no)
   -- the request's own numbers before 26 and 27
   pub own : IsCabinet s → (n i : ℕ) → readOf (REQ ∷ []) q ≡ refused n i → x ≡ record { no = n; field = i }
-  -- 26 exactly where its module is not there
-  pub not-there : IsCabinet s → (x .no ≡ notThere) ↔ ((r : Request q) × ((j : ℕ) → Module s r j → ⊥))
-  -- 27 exactly where it is there, and the TVP is not later than the stored one: earlier or equal
-  pub not-later : IsCabinet s → (x .no ≡ tvpNotLater) ↔ ((r : Request q) × (j : ℕ) × (m : Module s r j) × (later (tvpOf r) (m .1 .tvp) ≡ false))
+  -- 26 exactly where its module is not there, or its record is old
+  pub not-there : IsCabinet s → (x .no ≡ notThere) ↔ ((r : Request q) × ((j : ℕ) (m : Module s r j) → Old (m .1 .text)))
+  -- 27 exactly where it is there and not old, and the TVP is not later than the stored one: earlier or equal
+  pub not-later : IsCabinet s → (x .no ≡ tvpNotLater) ↔ ((r : Request q) × (j : ℕ) × (m : Module s r j) × Key (m .1 .text) × (later (tvpOf r) (m .1 .tvp) ≡ false))
   -- and else the TVP is stored, and nothing else changes
-  pub admits : IsCabinet s → (r : Request q) (j : ℕ) (m : Module s r j) → later (tvpOf r) (m .1 .tvp) ≡ true → (x .no ≡ 0) × (after ≡ withTvp s j (tvpOf r))
+  pub admits : IsCabinet s → (r : Request q) (j : ℕ) (m : Module s r j) → Key (m .1 .text) → later (tvpOf r) (m .1 .tvp) ≡ true → (x .no ≡ 0) × (after ≡ withTvp s j (tvpOf r))
 
 pub record FindSaid (s i : Bytes) (no field start : ℕ) (text : Bytes) : Type 0 where
   pub no-cabinet : (no ≡ notCabinet) ↔ (IsCabinet s → ⊥)
   pub own : IsCabinet s → (n j : ℕ) → readIdentity i ≡ refused n j → (no ≡ n) × (field ≡ j)
+  -- 26 exactly where nothing of its names is there, or an old record
   pub not-there : IsCabinet s
-      → (no ≡ notThere) ↔ ((who : Kind) × (fs : List Bytes) × (readIdentity i ≡ accepted who fs) × ((j : ℕ) → There s who fs j → ⊥))
-  -- the record in its place
-  pub found : IsCabinet s → (who : Kind) (fs : List Bytes) → readIdentity i ≡ accepted who fs → (j : ℕ) (t : There s who fs j)
+      → (no ≡ notThere) ↔ ((who : Kind) × (fs : List Bytes) × (readIdentity i ≡ accepted who fs) × ((j : ℕ) (t : There s who fs j) → Old (t .1 .text)))
+  -- the record in its place, where it is not old
+  pub found : IsCabinet s → (who : Kind) (fs : List Bytes) → readIdentity i ≡ accepted who fs → (j : ℕ) (t : There s who fs j) → Key (t .1 .text)
       → (no ≡ 0) × (start ≡ j * 1024) × (text ≡ t .1 .text)
   -- demand 1
   pub nothing : no ≢ 0 → (start ≡ 0) × (text ≡ [])
@@ -172,14 +179,20 @@ abbrev pub Ran : ℕ → Moment → Moment → Type 0
 Ran zero m n = n ≡ m
 Ran (suc k) m n = (l : Moment) × Step m l × Ran k l n
 
+-- what find gives for the record t that is there, or for nothing
 abbrev pub Gives : Option Bytes → Bytes → ℕ → Type 0
 Gives none part number = number ≡ notThere
-Gives (some t) part number = (number ≡ 0) × (part ≡ t)
+Gives (some t) part number = (Key t → (number ≡ 0) × (part ≡ t)) × (Old t → number ≡ notThere)
 
 -- what is answered to a request with the TVP t, whose module has this last TVP, or is not there
 abbrev pub answerTo : Option Bytes → Bytes → ℕ
 answerTo none t = notThere
 answerTo (some u) t = cond (later t u) 0 tvpNotLater
+
+-- the same, where the module's record may be old
+abbrev pub Answers : Option Bytes → Option Bytes → Bytes → ℕ → Type 0
+Answers none u t number = number ≡ notThere
+Answers (some r) u t number = (Key r → number ≡ answerTo u t) × (Old r → number ≡ notThere)
 
 -- of TVPs, the last one first: of two of them the one that was admitted later is later
 abbrev pub Rise : List Bytes → Type 0
@@ -196,12 +209,14 @@ AmongThem t ts = (i : ℕ) × (i < length ts) × (t ≡ getD ts i [])
 pub record Remembers (before : Names → Option Held) (many : ℕ) (m : Moment) : Type 0 where
   -- the occupied places number what was there and the accepted first puts, less the accepted removals
   pub number : Holds count-keys.Post (λ κs a r s. now (a .0) ≡ m .bytes → (r .no ≡ 0) × (r .count + removals (m .events) ≡ many + firstPuts before (m .events)))
-  -- find gives the last accepted put that was not removed: the very bytes that were put
+  -- find gives the last accepted put that was not removed: the very bytes that were put; an old record is missing
   pub finds : Holds find-key.Post
       (λ κs a r s. now (a .0) ≡ m .bytes → (k : Names) (g : Bytes) → asks (now (a .1 .0)) ≡ about k g → Gives (lastPut before k (m .events)) (now r) (now (s .1 .1 .0)))
-  -- a request is admitted exactly if its module is there and its TVP is later than the last one accepted for it
+  -- an old record was there before the calls: none puts one in
+  pub olds : (k : Names) (r : Bytes) → lastPut before k (m .events) ≡ some r → Old r → textOf (before k) ≡ some r
+  -- a request is admitted exactly if its module is there, with a record that is not old, and its TVP is later than the last one accepted for it
   pub admits : Holds admit.Post
-      (λ κs a r s. now (a .0) ≡ m .bytes → (k : Names) (t : Bytes) → requests (now (a .1 .0)) ≡ about k t → r .no ≡ answerTo (lastTvp before k (m .events)) t)
+      (λ κs a r s. now (a .0) ≡ m .bytes → (k : Names) (t : Bytes) → requests (now (a .1 .0)) ≡ about k t → Answers (lastPut before k (m .events)) (lastTvp before k (m .events)) t (r .no))
   -- two requests of a module admitted since its latest first put never share a TVP; their TVPs rise
   pub unshared : (k : Names) → Unshared (admittedOf before k (m .events))
   pub rise : (k : Names) → Rise (admittedOf before k (m .events))
@@ -228,5 +243,7 @@ pub record Cabinet : Type 0 where
       (λ κs a r s. (start : ℕ) × Part (a .0) start (now r) r × FindSaid (now (a .0)) (now (a .1 .0)) (now (s .1 .1 .0)) (now (s .1 .1 .1 .0)) start (now r))
   -- the history, since it was made empty
   pub history : Holds make-cabinet.Post (λ κs a r s. r .no ≡ 0 → (n : ℕ) (m : Moment) → Ran n (begun (now (s .0))) m → Remembers nowhere 0 m)
+  -- of which nothing is old, so that find gives every accepted put that was not removed
+  pub none-old : Holds make-cabinet.Post (λ κs a r s. r .no ≡ 0 → (n : ℕ) (m : Moment) → Ran n (begun (now (s .0))) m → (k : Names) (t : Bytes) → lastPut nowhere k (m .events) ≡ some t → Key t)
   -- and from any image that is a cabinet
   pub from-image : (s : Bytes) → IsCabinet s → (ps : List shelf-places.Place) × (shelf s ≡ some ps) × ((n : ℕ) (m : Moment) → Ran n (begun s) m → Remembers (heldIn ps) (occupied ps) m)

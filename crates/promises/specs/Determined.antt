@@ -28,6 +28,7 @@ use Rattle.text.proofs.is_protected.Reads as is-protected
 use Rattle.text.proofs.hex_digit.Reads as hex-digit
 use Rattle.text.proofs.hex_value.Reads as hex-value
 use Rattle.text.proofs.check_text.Reads as check-text
+use Rattle.table.proofs.is_called.Reads as is-called
 use Rattle.table.proofs.mark_of.Reads as mark-of
 use Rattle.table.proofs.count_of.Reads as count-of
 use Rattle.table.proofs.type_of.Reads as type-of
@@ -52,6 +53,7 @@ use Rattle.cards.proofs.are_attributes.Reads as are-attributes
 use Rattle.reading.proofs.refuse.Reads as refuse-reading
 use Rattle.reading.proofs.read_identity.Reads as read-identity
 use Rattle.reading.proofs.judge.Reads as judge
+use Rattle.reading.proofs.read_under.Reads as read-under
 use Rattle.reading.proofs.read_of.Reads as read-of
 use Rattle.reading.proofs.read_record.Reads as read-record
 use Rattle.fields.proofs.identity_place.Reads as identity-place
@@ -112,6 +114,7 @@ use Rattle.fingerprint.proofs.write_fingerprint.Reads as write-fingerprint
 use Rattle.confirm.proofs.confirm_request.Reads as confirm-request
 use Rattle.confirm.proofs.confirm_response.Reads as confirm-response
 use Rattle.newer.proofs.newer_of.Reads as newer-of
+use Rattle.expiry.proofs.expiry_under.Reads as expiry-under
 use Rattle.expiry.proofs.expiry_of.Reads as expiry-of
 use Rattle.newer.proofs.newer.Reads as newer
 
@@ -159,6 +162,7 @@ pub record Determined : Type 0 where
   pub hex-value : OneAnswer hex-value.Post
   pub check-text : OneAnswer check-text.Post
   -- table
+  pub is-called : OneAnswer is-called.Post
   pub mark-of : OneAnswer mark-of.Post
   pub count-of : OneAnswer count-of.Post
   pub type-of : OneAnswer type-of.Post
@@ -187,6 +191,7 @@ pub record Determined : Type 0 where
   pub refuse-reading : OneAnswer refuse-reading.Post
   pub read-identity : OneAnswer read-identity.Post
   pub judge : OneAnswer judge.Post
+  pub read-under : OneAnswer read-under.Post
   pub read-of : OneAnswer read-of.Post
   pub read-record : OneAnswer read-record.Post
   -- fields
@@ -296,6 +301,7 @@ pub record Determined : Type 0 where
   -- newer
   pub newer-of : OneAnswer newer-of.Post
   -- expiry
+  pub expiry-under : OneAnswer expiry-under.Post
   pub expiry-of : OneAnswer expiry-of.Post
   pub newer-part : OnePart newer.Post
   pub newer-no : OneLeft newer.Post (λ κs s. now (s .1 .1 .0))

@@ -10,6 +10,7 @@ use Rattle.text.specs.Text.{oneOf}
 use Rattle.files.specs.Walk.{numberOf, fieldOf}
 use Rattle.reading.proofs.read_identity.Reads as read-identity
 use Rattle.reading.proofs.read_record.Reads as read-record
+use Rattle.reading.proofs.read_under.Reads as read-under
 use Rattle.reading.proofs.read_of.Reads as read-of
 use Rattle.reading.proofs.judge.Reads as judge
 use Rattle.fields.proofs.identity_place.Reads as identity-place
@@ -40,6 +41,7 @@ use Rattle.cabinet.proofs.admit.Reads as admit
 use Rattle.cabinet.proofs.key_place.Reads as key-place
 use Rattle.cabinet.proofs.find_key.Reads as find-key
 use Rattle.newer.proofs.newer_of.Reads as newer-of
+use Rattle.expiry.proofs.expiry_under.Reads as expiry-under
 use Rattle.expiry.proofs.expiry_of.Reads as expiry-of
 use Rattle.newer.proofs.newer.Reads as newer
 use Rattle.fingerprint.proofs.check_fingerprint.Reads as check-fingerprint
@@ -55,6 +57,7 @@ NamesField {K} {A} {R} {S} Q number field =
 pub record FieldNumbers : Type 0 where
   pub read-identity : NamesField read-identity.Post (λ κs r s. r .no) (λ κs r s. r .field)
   pub read-record : NamesField read-record.Post (λ κs r s. r .no) (λ κs r s. r .field)
+  pub read-under : NamesField read-under.Post (λ κs r s. r .no) (λ κs r s. r .field)
   pub read-of : NamesField read-of.Post (λ κs r s. r .no) (λ κs r s. r .field)
   pub judge : NamesField judge.Post (λ κs r s. r .no) (λ κs r s. r .field)
   pub identity-place : NamesField identity-place.Post (λ κs r s. r .no) (λ κs r s. r .field)
@@ -86,6 +89,7 @@ pub record FieldNumbers : Type 0 where
   pub find-key : NamesField find-key.Post (λ κs r s. now (s .1 .1 .0)) (λ κs r s. now (s .1 .1 .1 .0))
   pub newer-of : NamesField newer-of.Post (λ κs r s. r .no) (λ κs r s. r .field)
   pub newer : NamesField newer.Post (λ κs r s. now (s .1 .1 .0)) (λ κs r s. now (s .1 .1 .1 .0))
+  pub expiry-under : NamesField expiry-under.Post (λ κs r s. r .no) (λ κs r s. r .field)
   pub expiry-of : NamesField expiry-of.Post (λ κs r s. r .no) (λ κs r s. r .field)
   pub check-fingerprint : NamesField check-fingerprint.Post (λ κs r s. r .no) (λ κs r s. r .field)
   pub write-fingerprint : NamesField write-fingerprint.Post (λ κs r s. r .no) (λ κs r s. r .field)

@@ -8,15 +8,16 @@ use mathlib.Core.Option.{Option, none, some}
 use mathlib.Core.List.{List, [], _∷_, _++_}
 use lib.ListN.{take, drop, replicate, set}
 use lib.IntN.{ℤ, pos, negsuc}
-use Rattle.numbers.specs.Numbers.{tooLong, unknownKind, missingCheck, wrongCheck, wrongCount, wrongText, wrongIdentity, unpaired, wrongKind, shortOutput, unfinished, missingItem, notAlike, wrongAttributes, wrongFingerprint, wrongZ, otherRequest, wrongTag, missingTrailer, wrongHash, missingBegins, missingEnds, notCabinet, notLater, noPlace, notThere, tvpNotLater}
+use Rattle.numbers.specs.Numbers.{tooLong, unknownKind, missingCheck, wrongCheck, wrongCount, wrongText, wrongIdentity, unpaired, wrongKind, shortOutput, unfinished, missingItem, notAlike, wrongAttributes, wrongFingerprint, wrongZ, otherRequest, wrongTag, missingTrailer, wrongHash, missingBegins, missingEnds, notCabinet, notLater, noPlace, notThere, tvpNotLater, moduleUnsigned}
 use Rattle.text.specs.Text.{Bytes, ascii, isIdent, isTimestamp, isHex, isPrintable, Ident, Timestamp, Point, Sig, Mac, Print, Protected, Hex, isOf}
 use Rattle.text.specs.Base16.{base16}
 use Rattle.text.specs.Seconds.{momentOf, secondsBytes}
 use Rattle.sha384.specs.Sha384.{sha384}
-use Rattle.format.specs.Kinds.{Kind, SMMAN, SMID, KMCID, ECDSA, ECDH, REQ, RESP, KEY, Field, Text, Printable, Identity, OrEmpty, name, mark, fieldsOf, keyKinds}
+use Rattle.format.specs.Kinds.{Kind, SMMAN, SMID, KMCID, ECDSA, ECDH, REQ, RESP, KEY, Field, Text, Printable, Identity, OrEmpty, name, mark, fieldsOf, pubkeyKinds, keyKinds}
 use Rattle.format.specs.Attributes.{areAttributes}
 use Rattle.format.specs.Build.{joined, recordOf}
-use Rattle.format.specs.Read.{Outcome, answer, place, check, readIdentity, readOf, readRecord}
+use Rattle.format.specs.Read.{Outcome, answer, place, check, readIdentity, readUnder, readOf, readRecord}
+use Rattle.format.specs.declared.Rules.the-variants.{UpToE10}
 use Rattle.table.specs.Table.{rowOf, missingRow}
 use Rattle.items.specs.Items.{lvConcat}
 use Rattle.agreement.specs.Texts.{sharedItems, moduleItems, centreItems, sharedInfo, moduleText, centreText}
@@ -39,9 +40,9 @@ use Rattle.mail.specs.Mail.{guarded, writeMail, readMail}
 use Rattle.expiry.specs.Expiry.{expiryOf}
 use Rattle.shelf.specs.Places as shelf
 use Rattle.shelf.specs.Places.{named}
-use Rattle.shelf.specs.Cabinet.{Reading, about, declined, asks, reads, requests, isTvp, decode}
+use Rattle.shelf.specs.Cabinet.{Reading, about, declined, asks, stands, reads, requests, isTvp, decode, isOld}
 use Rattle.promises.specs.Values.{Value, number, signed, bytes, test, types, admitted}
-use Rattle.promises.specs.Worked.{manufacturerId, moduleIdFields, moduleId, centreId, manufacturerKeyFields, manufacturerKey, moduleKeyFields, moduleKey, centreKeyFields, centreKey, requestFields, request, responseFields, response, keyAttributes, keyFields, key, longAttributes}
+use Rattle.promises.specs.Worked.{manufacturerId, moduleIdFields, moduleId, centreIdFields, centreId, manufacturerKeyFields, manufacturerKey, moduleKeyFields, moduleKey, centreKeyFields, centreKey, requestFields, request, responseFields, response, keyAttributes, keyFields, key, unsignedKeyFields, unsignedModuleFields, unsignedModuleKey, longAttributes}
 
 -- ---- "Seven kinds of record": names, marks and field types, row by row
 
@@ -160,8 +161,8 @@ said o = answer o ∷ place o ∷ []
 
 unfoldable pub numbers : List Value
 numbers =
-    bytes (tooLong ∷ unknownKind ∷ missingCheck ∷ wrongCheck ∷ wrongCount ∷ wrongText ∷ wrongIdentity ∷ unpaired ∷ wrongKind ∷ shortOutput ∷ unfinished ∷ missingItem ∷ notAlike ∷ wrongAttributes ∷ wrongFingerprint ∷ wrongZ ∷ otherRequest ∷ wrongTag ∷ missingTrailer ∷ wrongHash ∷ missingBegins ∷ missingEnds ∷ notCabinet ∷ notLater ∷ noPlace ∷ notThere ∷ tvpNotLater ∷ [])
-    (1 ∷ 2 ∷ 3 ∷ 4 ∷ 5 ∷ 6 ∷ 7 ∷ 8 ∷ 9 ∷ 10 ∷ 11 ∷ 12 ∷ 13 ∷ 14 ∷ 15 ∷ 16 ∷ 17 ∷ 18 ∷ 19 ∷ 20 ∷ 21 ∷ 22 ∷ 23 ∷ 24 ∷ 25 ∷ 26 ∷ 27 ∷ [])
+    bytes (tooLong ∷ unknownKind ∷ missingCheck ∷ wrongCheck ∷ wrongCount ∷ wrongText ∷ wrongIdentity ∷ unpaired ∷ wrongKind ∷ shortOutput ∷ unfinished ∷ missingItem ∷ notAlike ∷ wrongAttributes ∷ wrongFingerprint ∷ wrongZ ∷ otherRequest ∷ wrongTag ∷ missingTrailer ∷ wrongHash ∷ missingBegins ∷ missingEnds ∷ notCabinet ∷ notLater ∷ noPlace ∷ notThere ∷ tvpNotLater ∷ moduleUnsigned ∷ [])
+    (1 ∷ 2 ∷ 3 ∷ 4 ∷ 5 ∷ 6 ∷ 7 ∷ 8 ∷ 9 ∷ 10 ∷ 11 ∷ 12 ∷ 13 ∷ 14 ∷ 15 ∷ 16 ∷ 17 ∷ 18 ∷ 19 ∷ 20 ∷ 21 ∷ 22 ∷ 23 ∷ 24 ∷ 25 ∷ 26 ∷ 27 ∷ 28 ∷ [])
     ∷ bytes (said (readRecord (ascii "PK.ECDH.1"))) (2 ∷ 0 ∷ [])
     ∷ bytes (said (readRecord (ascii "PK.ECDH.1:x"))) (2 ∷ 0 ∷ [])
     ∷ bytes (said (readRecord moduleId)) (2 ∷ 0 ∷ [])
@@ -394,18 +395,15 @@ hashes =
     (ascii "09330C33F71147E83D192FC782CD1B4753111B173B3B05D22FA08086E3B0F712FCC7C71A557E2DB966C3E9FA91746039")
     ∷ []
 
--- 003's key of the module, unsigned, and the same with another Fingerprint in its Subject
-abbrev pub unsignedKey : List Bytes
-unsignedKey = take 3 moduleKeyFields ++ [] ∷ [] ∷ []
-
+-- 003's key of the centre with another Fingerprint in its Subject
 abbrev pub otherPrint : List Bytes
-otherPrint = set unsignedKey 0 (recordOf SMID (set moduleIdFields 3 (ascii "320C265FDC769D3F")))
+otherPrint = set centreKeyFields 0 (recordOf KMCID (set centreIdFields 3 (ascii "4712CFF444570C8B")))
 
 abbrev pub saidBy : Checked → Bytes
 saidBy c = c .no ∷ c .field ∷ []
 
 unfoldable pub agreeing : List Value
-agreeing = bytes (saidBy (checkFingerprint (recordOf ECDH unsignedKey))) (0 ∷ 0 ∷ []) ∷ []
+agreeing = bytes (saidBy (checkFingerprint centreKey)) (0 ∷ 0 ∷ []) ∷ []
 
 unfoldable pub differing : List Value
 differing = bytes (saidBy (checkFingerprint (recordOf ECDH otherPrint))) (15 ∷ 0 ∷ []) ∷ []
@@ -415,6 +413,7 @@ unfoldable pub fingerprints : List Value
 fingerprints =
     bytes (said (readRecord (recordOf ECDH otherPrint))) (0 ∷ 0 ∷ [])
     ∷ bytes (saidBy (checkFingerprint (recordOf ECDH (set otherPrint 3 manufacturerId)))) (8 ∷ 0 ∷ [])
+    ∷ bytes (saidBy (checkFingerprint unsignedModuleKey)) (28 ∷ 0 ∷ [])
     ∷ bytes (saidBy (checkFingerprint (ascii "PK.ECDH.1|0000"))) (4 ∷ 0 ∷ [])
     ∷ bytes (saidBy (checkFingerprint (ascii "KEY.1|0000"))) (2 ∷ 0 ∷ [])
     ∷ bytes (saidOf (writeFingerprint (ascii "PK.ECDH.1|0000") 0)) (4 ∷ 0 ∷ [])
@@ -668,5 +667,39 @@ admissions =
     ∷ test (isPlace (decode (stamped centreKey (replicate 16 0) centreNumber))) false
     ∷ []
 
+-- ---- document 02, E11: the unsigned key of a module
+
+-- 28 in reading and building, after 8 and before 10; signed, or a centre's or a manufacturer's: 0
+unfoldable pub unsignedKeys : List Value
+unsignedKeys =
+    bytes (said (readRecord unsignedModuleKey)) (28 ∷ 0 ∷ [])
+    ∷ bytes (said (readRecord moduleKey)) (0 ∷ 0 ∷ [])
+    ∷ bytes (said (readRecord centreKey)) (0 ∷ 0 ∷ [])
+    ∷ bytes (said (readRecord (recordOf ECDSA unsignedKeyFields))) (0 ∷ 0 ∷ [])
+    ∷ bytes (said (readRecord (recordOf ECDH (take 4 moduleKeyFields ++ [] ∷ [])))) (8 ∷ 0 ∷ [])
+    ∷ bytes (said (readRecord (recordOf ECDH (set unsignedModuleFields 2 [])))) (6 ∷ 3 ∷ [])
+    ∷ bytes (said (readUnder UpToE10 pubkeyKinds unsignedModuleKey)) (0 ∷ 0 ∷ [])
+    ∷ bytes (saidOf (build (name ECDH) (run unsignedModuleFields) (lengths unsignedModuleFields) 0)) (28 ∷ 0 ∷ [])
+    ∷ bytes (saidOf (build (name ECDH) (run moduleKeyFields) (lengths moduleKeyFields) 0)) (10 ∷ 0 ∷ [])
+    ∷ []
+
+-- the number of 99991231T115959Z
+abbrev pub moduleNumber : Bytes
+moduleNumber = 0 ∷ 0 ∷ 0 ∷ 0x3A ∷ 0xD4 ∷ 0xB0 ∷ 0x0F ∷ 0x3F ∷ []
+
+-- it is not put, and stays where it lay
+unfoldable pub olds : List Value
+olds =
+    bytes (readingSaid (reads unsignedModuleKey)) (28 ∷ 0 ∷ [])
+    ∷ bytes (readingSaid (stands unsignedModuleKey)) (ascii "SMID.1:Prism:06000001:20180120T090000Z:")
+    ∷ test (isPlace (decode (numbered unsignedModuleKey moduleNumber))) true
+    ∷ test (isPlace (decode (padded unsignedModuleKey))) false
+    ∷ test (isOld unsignedModuleKey) true
+    ∷ test (isOld moduleKey) false
+    ∷ test (isOld centreKey) false
+    ∷ number (choiceNo (newer unsignedModuleKey moduleKey)) 28
+    ∷ number (expiryOf unsignedModuleKey .no) 28
+    ∷ []
+
 unfoldable pub fixed : List Value
-fixed = rows ++ alphabets ++ limits ++ labels ++ checks ++ numbers ++ building ++ texts ++ others ++ lists ++ keys ++ longKeys ++ days ++ dates ++ hashes ++ agreeing ++ differing ++ fingerprints ++ tags ++ confirming ++ shortHashes ++ printed ++ lines ++ posted ++ letters ++ instants ++ placed ++ admissions
+fixed = rows ++ alphabets ++ limits ++ labels ++ checks ++ numbers ++ building ++ texts ++ others ++ lists ++ keys ++ longKeys ++ days ++ dates ++ hashes ++ agreeing ++ differing ++ fingerprints ++ tags ++ confirming ++ shortHashes ++ printed ++ lines ++ posted ++ letters ++ instants ++ placed ++ admissions ++ unsignedKeys ++ olds

@@ -11,6 +11,7 @@ use Rattle.files.specs.Walk.{numberOf}
 use Rattle.frame.proofs.check_no.Reads as check-no
 use Rattle.reading.proofs.read_identity.Reads as read-identity
 use Rattle.reading.proofs.read_record.Reads as read-record
+use Rattle.reading.proofs.read_under.Reads as read-under
 use Rattle.reading.proofs.read_of.Reads as read-of
 use Rattle.reading.proofs.judge.Reads as judge
 use Rattle.fields.proofs.identity_place.Reads as identity-place
@@ -45,6 +46,7 @@ use Rattle.cabinet.proofs.key_place.Reads as key-place
 use Rattle.cabinet.proofs.find_key.Reads as find-key
 use Rattle.list_text.proofs.write_list.Reads as write-list
 use Rattle.newer.proofs.newer_of.Reads as newer-of
+use Rattle.expiry.proofs.expiry_under.Reads as expiry-under
 use Rattle.expiry.proofs.expiry_of.Reads as expiry-of
 use Rattle.newer.proofs.newer.Reads as newer
 use Rattle.fingerprint.proofs.check_fingerprint.Reads as check-fingerprint
@@ -61,11 +63,11 @@ abbrev pub ofIdentities : List ℕ
 ofIdentities = 0 ∷ 1 ∷ 2 ∷ 3 ∷ 4 ∷ 5 ∷ 6 ∷ []
 
 abbrev pub ofRecords : List ℕ
-ofRecords = 0 ∷ 1 ∷ 2 ∷ 3 ∷ 4 ∷ 5 ∷ 6 ∷ 7 ∷ 8 ∷ 9 ∷ 14 ∷ []
+ofRecords = 0 ∷ 1 ∷ 2 ∷ 3 ∷ 4 ∷ 5 ∷ 6 ∷ 7 ∷ 8 ∷ 9 ∷ 14 ∷ 28 ∷ []
 
 -- a public key has no attributes
 abbrev pub ofPubkeys : List ℕ
-ofPubkeys = 0 ∷ 1 ∷ 2 ∷ 3 ∷ 4 ∷ 5 ∷ 6 ∷ 7 ∷ 8 ∷ 9 ∷ []
+ofPubkeys = 0 ∷ 1 ∷ 2 ∷ 3 ∷ 4 ∷ 5 ∷ 6 ∷ 7 ∷ 8 ∷ 9 ∷ 28 ∷ []
 
 -- a wrapped key has no identity in it, and no Issuer and Signature
 abbrev pub ofKeys : List ℕ
@@ -83,8 +85,9 @@ pub record Refusals : Type 0 where
   -- reading
   pub read-identity : GivesOnly read-identity.Post (λ κs r s. r .no) ofIdentities
   pub read-record : GivesOnly read-record.Post (λ κs r s. r .no) ofRecords
+  pub read-under : GivesOnly read-under.Post (λ κs r s. r .no) ofRecords
   pub read-of : GivesOnly read-of.Post (λ κs r s. r .no) ofRecords
-  pub judge : GivesOnly judge.Post (λ κs r s. r .no) (0 ∷ 2 ∷ 6 ∷ 7 ∷ 8 ∷ 9 ∷ 14 ∷ [])
+  pub judge : GivesOnly judge.Post (λ κs r s. r .no) (0 ∷ 2 ∷ 6 ∷ 7 ∷ 8 ∷ 9 ∷ 14 ∷ 28 ∷ [])
   -- one field
   pub identity-place : GivesOnly identity-place.Post (λ κs r s. r .no) (12 ∷ ofIdentities)
   pub record-place : GivesOnly record-place.Post (λ κs r s. r .no) (12 ∷ ofRecords)
@@ -96,7 +99,7 @@ pub record Refusals : Type 0 where
   pub attribute : GivesOnly attribute.Post (λ κs r s. now (s .1 .1 .0)) (12 ∷ ofKeys)
   pub attribute-named : GivesOnly attribute-named.Post (λ κs r s. now (s .1 .1 .0)) (12 ∷ ofKeys)
   -- building
-  pub build : GivesOnly build.Post (λ κs r s. r .no) (0 ∷ 1 ∷ 2 ∷ 5 ∷ 6 ∷ 7 ∷ 8 ∷ 9 ∷ 10 ∷ 14 ∷ [])
+  pub build : GivesOnly build.Post (λ κs r s. r .no) (0 ∷ 1 ∷ 2 ∷ 5 ∷ 6 ∷ 7 ∷ 8 ∷ 9 ∷ 10 ∷ 14 ∷ 28 ∷ [])
   -- texts and their items
   pub shared-info : GivesOnly shared-info.Post (λ κs r s. r .no) ofTexts
   pub module-text : GivesOnly module-text.Post (λ κs r s. r .no) ofTexts
@@ -127,6 +130,7 @@ pub record Refusals : Type 0 where
   -- the newer key
   pub newer-of : GivesOnly newer-of.Post (λ κs r s. r .no) (13 ∷ ofPubkeys)
   pub newer : GivesOnly newer.Post (λ κs r s. now (s .1 .1 .0)) (13 ∷ ofPubkeys)
+  pub expiry-under : GivesOnly expiry-under.Post (λ κs r s. r .no) ofPubkeys
   pub expiry-of : GivesOnly expiry-of.Post (λ κs r s. r .no) ofPubkeys
   -- the Fingerprint of a public key: no other call gives 15
   pub check-fingerprint : GivesOnly check-fingerprint.Post (λ κs r s. r .no) (15 ∷ ofPubkeys)

@@ -25,6 +25,7 @@ use Rattle.text.proofs.is_protected.Reads as is-protected
 use Rattle.text.proofs.hex_digit.Reads as hex-digit
 use Rattle.text.proofs.hex_value.Reads as hex-value
 use Rattle.text.proofs.check_text.Reads as check-text
+use Rattle.table.proofs.is_called.Reads as is-called
 use Rattle.table.proofs.mark_of.Reads as mark-of
 use Rattle.table.proofs.count_of.Reads as count-of
 use Rattle.table.proofs.type_of.Reads as type-of
@@ -49,6 +50,7 @@ use Rattle.cards.proofs.are_attributes.Reads as are-attributes
 use Rattle.reading.proofs.refuse.Reads as refuse-reading
 use Rattle.reading.proofs.read_identity.Reads as read-identity
 use Rattle.reading.proofs.judge.Reads as judge
+use Rattle.reading.proofs.read_under.Reads as read-under
 use Rattle.reading.proofs.read_of.Reads as read-of
 use Rattle.reading.proofs.read_record.Reads as read-record
 use Rattle.fields.proofs.identity_place.Reads as identity-place
@@ -109,6 +111,7 @@ use Rattle.fingerprint.proofs.write_fingerprint.Reads as write-fingerprint
 use Rattle.confirm.proofs.confirm_request.Reads as confirm-request
 use Rattle.confirm.proofs.confirm_response.Reads as confirm-response
 use Rattle.newer.proofs.newer_of.Reads as newer-of
+use Rattle.expiry.proofs.expiry_under.Reads as expiry-under
 use Rattle.expiry.proofs.expiry_of.Reads as expiry-of
 use Rattle.newer.proofs.newer.Reads as newer
 use Rattle.exports.proofs.check.obscurlane_crc_begin.Reads as c-crc-begin
@@ -198,6 +201,7 @@ pub record Total : Type 0 where
   pub hex-value : Takes hex-value.Pre
   pub check-text : Takes check-text.Pre
   -- table
+  pub is-called : Takes is-called.Pre
   pub mark-of : Takes mark-of.Pre
   pub count-of : Takes count-of.Pre
   pub type-of : Takes type-of.Pre
@@ -226,6 +230,7 @@ pub record Total : Type 0 where
   pub refuse-reading : Takes refuse-reading.Pre
   pub read-identity : Takes read-identity.Pre
   pub judge : Takes judge.Pre
+  pub read-under : Takes read-under.Pre
   pub read-of : Takes read-of.Pre
   pub read-record : Takes read-record.Pre
   -- fields
@@ -305,6 +310,7 @@ pub record Total : Type 0 where
   -- newer
   pub newer-of : Takes newer-of.Pre
   -- expiry
+  pub expiry-under : Takes expiry-under.Pre
   pub expiry-of : Takes expiry-of.Pre
   pub newer : Takes newer.Pre
   -- the C interface

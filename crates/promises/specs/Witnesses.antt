@@ -9,7 +9,7 @@ use lib.ListN.{length, replicate}
 use lib.Dec.{T}
 use denote.Ref.{RefT, now}
 use Rattle.text.specs.Text.{Bytes, ascii, TextType, isOf}
-use Rattle.numbers.specs.Numbers.{notLater, tvpNotLater}
+use Rattle.numbers.specs.Numbers.{notLater, notThere, tvpNotLater, moduleUnsigned}
 use Rattle.format.specs.Kinds.{Kind, ECDSA, ECDH, REQ, name, identityKinds, recordKinds, among}
 use Rattle.format.specs.Build.{recordOf, Permitted, Built}
 use Rattle.format.specs.Read.{accepted, readIdentity, readRecord}
@@ -27,14 +27,14 @@ use Rattle.newer.specs.Newer.{theFirst, theSecond, newer}
 use Rattle.promises.specs.Attributes.{Wrapped}
 use Rattle.trailed.specs.Trailed.{readTrailed}
 use Rattle.mail.specs.Mail.{PassedOver}
-use Rattle.shelf.specs.Cabinet.{putKey, admit}
+use Rattle.shelf.specs.Cabinet.{putKey, removeKey, admit, findKey, countKeys}
 use Rattle.promises.specs.Cabinet.{IsCabinet}
 use Rattle.promises.specs.Dates.{Follows}
 use Rattle.promises.specs.Files.{PlainSays}
 use Rattle.promises.specs.Trailed.{TrailedSays}
 use Rattle.promises.specs.Demand3.{Called}
 use Rattle.promises.specs.Rebuilding.{Asked, IdentityField, RecordField}
-use Rattle.promises.specs.Worked.{fieldsOfWorked, unsignedKeyFields, centreKeyFields, centreKey, moduleKey, laterKey, requestFields, request, keyAttributes, keyFields, key, soundFile, damagedFile, trailedFile, damagedTrailedFile}
+use Rattle.promises.specs.Worked.{fieldsOfWorked, unsignedKeyFields, moduleId, unsignedModuleKey, centreKeyFields, centreKey, moduleKey, laterKey, requestFields, request, keyAttributes, keyFields, key, soundFile, damagedFile, trailedFile, damagedTrailedFile}
 
 pub record Witnesses : Type 0 where
   -- every text type has a text
@@ -82,3 +82,7 @@ pub record Witnesses : Type 0 where
   pub equal-gnt : (s : Bytes) → s ≡ putKey (replicate 65536 0) centreKey .bytes → IsCabinet s × (putKey s centreKey .no ≡ notLater)
   -- where 003's key of the module is there, 003's request is admitted, and the second time it is not later
   pub admitted-once : (s : Bytes) → s ≡ putKey (replicate 65536 0) moduleKey .bytes → (admit s request .no ≡ 0) × (admit (admit s request .bytes) request .no ≡ tvpNotLater)
+  -- a cabinet whose one record is 003's unsigned key of the module, which is old: it is counted, is not found, and has no request admitted; 003's signed key has the same GNT, so it
+  -- is not later; and it is removed
+  pub old-one : (s : Bytes) × IsCabinet s × (countKeys s ≡ record { no = 0; count = 1 }) × (findKey s moduleId .no ≡ notThere) × (admit s request .no ≡ notThere)
+      × (putKey s moduleKey .no ≡ notLater) × (putKey s unsignedModuleKey .no ≡ moduleUnsigned) × (removeKey s moduleId .no ≡ 0)

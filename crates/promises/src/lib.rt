@@ -10,6 +10,7 @@ ghost use Rattle.promises.specs.TextTypes.{TextTypes};
 ghost use Rattle.promises.specs.Conversion.{Conversion};
 ghost use Rattle.promises.specs.Calendar.{Calendar};
 ghost use Rattle.promises.specs.Reading.{Reading};
+ghost use Rattle.promises.specs.Rulings.{Rulings};
 ghost use Rattle.promises.specs.Attributes.{Attributes};
 ghost use Rattle.promises.specs.Building.{Building};
 ghost use Rattle.promises.specs.Rebuilding.{Rebuilding};
@@ -32,5 +33,5 @@ ghost use Rattle.promises.specs.Starred.{starred};
 ghost use Rattle.promises.specs.Fixed.{fixed};
 
 fn promised()
-    ensures { λ _. ⌜ Total × Determined × Interface × Refusals × FieldNumbers × Check × TextTypes × Conversion × Calendar × Reading × Attributes × Building × Rebuilding × Agreement × Files × Trailed × Mail × Cabinet × Dates × Listing × Demand3 × Newer × Hash × Fingerprints × Confirmations × Witnesses × Forms × AllCome starred × AllCome fixed ⌝ }
+    ensures { λ _. ⌜ Total × Determined × Interface × Refusals × FieldNumbers × Check × TextTypes × Conversion × Calendar × Reading × Rulings × Attributes × Building × Rebuilding × Agreement × Files × Trailed × Mail × Cabinet × Dates × Listing × Demand3 × Newer × Hash × Fingerprints × Confirmations × Witnesses × Forms × AllCome starred × AllCome fixed ⌝ }
 {}

@@ -9,6 +9,7 @@ use native.Mathlib.Omega.{arith}
 use Rattle.text.specs.Text.{Bytes}
 use Rattle.format.specs.Kinds.{Kind, Field, fieldsOf}
 use Rattle.format.specs.Read.{Outcome, accepted, refused, answer, place, passing, each, fieldAnswer, wholeAnswer, judged, readIdentity}
+use Rattle.format.specs.declared.Rules.{Rules}
 use Rattle.format.proofs.Outcomes.{Honest}
 use Rattle.table.specs.Table.{rowOf}
 use Rattle.places.specs.Places.{startsOf, lensOf}
@@ -63,12 +64,12 @@ each-either ask i [] fs f e = e
 each-either ask i (t ∷ ts) [] f e = e
 each-either ask i (t ∷ ts) (b ∷ fs) f e = passing-either (fieldAnswer ask t b) i (λ o. each ask (suc i) ts fs (f o)) (each-either ask (suc i) ts fs f e)
 
-module _ (k : Kind) (fs : List Bytes) (j : Judged) (q : j ≡ judgedSaid (judged readIdentity k fs (accepted k fs))) where
-  either : Either (judged readIdentity k fs)
+module _ (rules : Rules) (k : Kind) (fs : List Bytes) (j : Judged) (q : j ≡ judgedSaid (judged rules readIdentity k fs (accepted k fs))) where
+  either : Either (judged rules readIdentity k fs)
   unfolding judged
-  either = each-either readIdentity 1 (fieldsOf k) fs (passing (wholeAnswer k fs) 0) (passing-either (wholeAnswer k fs) 0 (λ o. o) (inl (λ o. refl)))
+  either = each-either readIdentity 1 (fieldsOf k) fs (passing (wholeAnswer rules k fs) 0) (passing-either (wholeAnswer rules k fs) 0 (λ o. o) (inl (λ o. refl)))
 
-  its-number : {o : Outcome} → judged readIdentity k fs (accepted k fs) ≡ o → j .no ≡ answer o
+  its-number : {o : Outcome} → judged rules readIdentity k fs (accepted k fs) ≡ o → j .no ≡ answer o
   its-number {o} e = ap (λ (x : Judged). x .no) (q ∙ ap judgedSaid e) ∙ go o
     where
       go : (p : Outcome) → judgedSaid p .no ≡ answer p
@@ -76,18 +77,18 @@ module _ (k : Kind) (fs : List Bytes) (j : Judged) (q : j ≡ judgedSaid (judged
       go (refused n i) = refl
 
   -- with another number than 0 they are refused
-  pub denied : (j .no ≡ 0 → ⊥) → (o : Outcome) → judged readIdentity k fs o ≡ refused (j .no) (j .field)
+  pub denied : (j .no ≡ 0 → ⊥) → (o : Outcome) → judged rules readIdentity k fs o ≡ refused (j .no) (j .field)
   denied z o = go either
     where
-      go : Either (judged readIdentity k fs) → judged readIdentity k fs o ≡ refused (j .no) (j .field)
+      go : Either (judged rules readIdentity k fs) → judged rules readIdentity k fs o ≡ refused (j .no) (j .field)
       go (inl f) = absurd (z (its-number (f (accepted k fs))))
       go (inr (n, i, f)) = f o ∙ sym (ap₂ {C = Outcome} refused (its-number (f (accepted k fs))) (ap (λ (x : Judged). x .field) (q ∙ ap judgedSaid (f (accepted k fs)))))
 
   -- with 0 they pass
-  pub agreed : j .no ≡ 0 → (o : Outcome) → judged readIdentity k fs o ≡ o
+  pub agreed : j .no ≡ 0 → (o : Outcome) → judged rules readIdentity k fs o ≡ o
   agreed z o = go either
     where
-      go : Either (judged readIdentity k fs) → judged readIdentity k fs o ≡ o
+      go : Either (judged rules readIdentity k fs) → judged rules readIdentity k fs o ≡ o
       go (inl f) = f o
       go (inr (n, i, f)) = absurd (omega (arith, its-number (f (accepted k fs))))
 

@@ -9,7 +9,9 @@ use lib.Dec.{T, lit<}
 use borrow.Author.Tests.{eq-eqb, ne-eqb}
 use Rattle.text.specs.Text.{Bytes}
 use Rattle.format.specs.Kinds.{Kind, name, mark, fieldsOf, identityKinds, recordKinds, among}
-use Rattle.format.specs.Read.{Outcome, accepted, refused, passing, title, markAfter, kindIn, ofKind, body, cut, fieldsIn, wholeAnswer, judged, readOver, nobody, readIdentity, readOf, readRecord}
+use Rattle.format.specs.Read.{Outcome, accepted, refused, passing, title, markAfter, kindIn, ofKind, body, cut, fieldsIn, wholeAnswer, judged, readOver, nobody, readIdentity, readUnder, readOf, readRecord}
+use Rattle.format.specs.declared.Rules.{Rules}
+use Rattle.format.specs.declared.Rules.the-variants.{Today}
 use Rattle.format.proofs.Table.{all-among, kindIn-some}
 use Rattle.table.specs.Table.{rowOf, rowFor, markOf, countOf}
 use Rattle.table.proofs.Rows.{Found, found, of-kind}
@@ -38,11 +40,11 @@ pub begun : (ks : List Kind) (s : Bytes) (row no : ℕ) (t : Bytes) (m : ℕ) �
 begun ks s row n t m l et em e f = record { short = l; row-is = rw (← et, ← em) e; no-is = f }
 
 module _ (ask : Bytes → Outcome) {ks : List Kind} {s : Bytes} {row no : ℕ} (b : Begun ks s row no) where
-  to-form : readOver ask ks s ≡ passing no 0 (ofKind (kindIn ks (title s) (markAfter s)) (fromCount ask s))
-  to-form = over-kind ask ks s (b .short) ∙ of-form ask s (kindIn ks (title s) (markAfter s)) row (b .row-is) ∙ passing-as 0 _ (sym (b .no-is))
+  to-form : (rules : Rules) → readOver rules ask ks s ≡ passing no 0 (ofKind (kindIn ks (title s) (markAfter s)) (fromCount rules ask s))
+  to-form rules = over-kind rules ask ks s (b .short) ∙ of-form rules ask s (kindIn ks (title s) (markAfter s)) row (b .row-is) ∙ passing-as 0 _ (sym (b .no-is))
 
-  pub call-form : (no ≡ 0 → ⊥) → readOver ask ks s ≡ refused no 0
-  call-form n = to-form ∙ passing-stop no 0 _ n
+  pub call-form : (rules : Rules) → (no ≡ 0 → ⊥) → readOver rules ask ks s ≡ refused no 0
+  call-form rules n = to-form rules ∙ passing-stop no 0 _ n
 
   -- ---- past number 4: the kind, and what the fields are answered
 
@@ -56,8 +58,8 @@ module _ (ask : Bytes → Outcome) {ks : List Kind} {s : Bytes} {row no : ℕ} (
     abbrev pub call-parts : List Bytes
     call-parts = fieldsIn (call-kind .kind) s
 
-    to-count : readOver ask ks s ≡ fromCount ask s (call-kind .kind)
-    to-count = to-form ∙ passing-on no 0 _ z ∙ ap (λ o. ofKind o (fromCount ask s)) (call-kind .is)
+    to-count : (rules : Rules) → readOver rules ask ks s ≡ fromCount rules ask s (call-kind .kind)
+    to-count rules = to-form rules ∙ passing-on no 0 _ z ∙ ap (λ o. ofKind o (fromCount rules ask s)) (call-kind .is)
 
     -- d, m and p are the body, the mark and the places as the code has them
     module _ (d : Bytes) (ed : d ≡ body s) (m : ℕ) (em : m ≡ markOf row) (p : Places) (ep : p ≡ placesOf m d) where
@@ -75,9 +77,9 @@ module _ (ask : Bytes → Outcome) {ks : List Kind} {s : Bytes} {row no : ℕ} (
       found-count = ap (λ (x : Places). x .count) ep ∙ ap (λ (fs : List Bytes). length (take 8 fs)) all-fields
 
       -- n is the count that the code asks for
-      pub call-many : (n : ℕ) → n ≡ countOf row → (p .count ≡ n → ⊥) → readOver ask ks s ≡ refused 5 0
-      call-many n en h =
-          to-count
+      pub call-many : (rules : Rules) → (n : ℕ) → n ≡ countOf row → (p .count ≡ n → ⊥) → readOver rules ask ks s ≡ refused 5 0
+      call-many rules n en h =
+          to-count rules
           ∙ rw (ne-eqb (length call-parts) (length (fieldsOf (call-kind .kind))) (λ e. h (omega (arith, found-count, en, its-count, count-few row, length-take 8 call-parts))))
 
       pub call-starts : cut (mark (call-kind .kind)) (body s) ≡ name (call-kind .kind) ∷ call-parts → p .starts ≡ startsOf (call-kind .kind) call-parts
@@ -92,31 +94,31 @@ module _ (ask : Bytes → Outcome) {ks : List Kind} {s : Bytes} {row no : ℕ} (
         as-many : length call-parts ≡ countOf row
         as-many = omega (arith, found-count, en, e, count-few row, length-take 8 call-parts)
 
-        pub to-fields : readOver ask ks s ≡ fromFields ask s (call-kind .kind)
-        to-fields = to-count ∙ rw (eq-eqb (length call-parts) (length (fieldsOf (call-kind .kind))) (as-many ∙ its-count))
+        pub to-fields : (rules : Rules) → readOver rules ask ks s ≡ fromFields rules ask s (call-kind .kind)
+        to-fields rules = to-count rules ∙ rw (eq-eqb (length call-parts) (length (fieldsOf (call-kind .kind))) (as-many ∙ its-count))
 
         pub call-places : partsBy row d (p .starts) (p .lens) ≡ call-parts
         call-places = rw ep (parts-all d (placesOf m d .starts) (placesOf m d .lens) (drop 1 (cut m d)) (countOf row) (ap length all-fields ∙ as-many) (body-part m d (omega (arith, ap length all-fields, as-many, count-few row)))) ∙ all-fields
 
         module _ {v place : ℕ} (c : FirstRefused ask row (partsBy row d (p .starts) (p .lens)) v place) where
-          past-fields : readOver ask ks s ≡ passing v place (passing (wholeAnswer (call-kind .kind) call-parts) 0 (accepted (call-kind .kind) call-parts))
-          past-fields = to-fields ∙ judged-first ask (call-kind .kind) row call-parts v place (call-kind .at) (rw call-places at c) _
+          past-fields : (rules : Rules) → readOver rules ask ks s ≡ passing v place (passing (wholeAnswer rules (call-kind .kind) call-parts) 0 (accepted (call-kind .kind) call-parts))
+          past-fields rules = to-fields rules ∙ judged-first rules ask (call-kind .kind) row call-parts v place (call-kind .at) (rw call-places at c) _
 
-          pub call-field : (v ≡ 0 → ⊥) → readOver ask ks s ≡ refused v place
-          call-field u = past-fields ∙ passing-stop v place _ u
+          pub call-field : (rules : Rules) → (v ≡ 0 → ⊥) → readOver rules ask ks s ≡ refused v place
+          call-field rules u = past-fields rules ∙ passing-stop v place _ u
 
-          pub call-accepted : v ≡ 0 → wholeAnswer (call-kind .kind) call-parts ≡ 0 → readOver ask ks s ≡ accepted (call-kind .kind) call-parts
-          call-accepted u w = past-fields ∙ passing-on v place _ u ∙ passing-on _ 0 _ w
+          pub call-accepted : (rules : Rules) → v ≡ 0 → wholeAnswer rules (call-kind .kind) call-parts ≡ 0 → readOver rules ask ks s ≡ accepted (call-kind .kind) call-parts
+          call-accepted rules u w = past-fields rules ∙ passing-on v place _ u ∙ passing-on _ 0 _ w
 
 -- ---- the calls by name
 
-pub identity-is : (s : Bytes) → readIdentity s ≡ readOver nobody identityKinds s
+pub identity-is : (s : Bytes) → readIdentity s ≡ readOver Today nobody identityKinds s
 unfolding readIdentity
 identity-is s = refl
 
-pub of-is : (ks : List Kind) (s : Bytes) → readOf ks s ≡ readOver readIdentity ks s
-unfolding readOf
-of-is ks s = refl
+pub under-is : (rules : Rules) (ks : List Kind) (s : Bytes) → readUnder rules ks s ≡ readOver rules readIdentity ks s
+unfolding readUnder
+under-is rules ks s = refl
 
 pub record-is : (s : Bytes) → readRecord s ≡ readOf recordKinds s
 unfolding readRecord
@@ -128,9 +130,9 @@ module _ {s : Bytes} {row no : ℕ} (b : Begun identityKinds s row no) (z : no �
   pub identity-below : row < 3
   identity-below = rw (call-kind nobody b z .at) (all-among (λ k. rowOf k < 3) identityKinds (lit< tt, (lit< tt, (lit< tt, tt))) (call-kind nobody b z .kind) (call-among nobody b z))
 
-  pub identity-plain : wholeAnswer (call-kind nobody b z .kind) (call-parts nobody b z) ≡ 0
+  pub identity-plain : wholeAnswer Today (call-kind nobody b z .kind) (call-parts nobody b z) ≡ 0
   unfolding wholeAnswer
-  identity-plain = all-among (λ k. wholeAnswer k (call-parts nobody b z) ≡ 0) identityKinds (refl, (refl, (refl, tt))) (call-kind nobody b z .kind) (call-among nobody b z)
+  identity-plain = all-among (λ k. wholeAnswer Today k (call-parts nobody b z) ≡ 0) identityKinds (refl, (refl, (refl, tt))) (call-kind nobody b z .kind) (call-among nobody b z)
 
   pub identity-kinds : noKinds ≡ kindsOf (call-kind nobody b z .kind) (call-parts nobody b z)
   unfolding kindsOf kindWithin
@@ -138,24 +140,24 @@ module _ {s : Bytes} {row no : ℕ} (b : Begun identityKinds s row no) (z : no �
 
 -- ---- the fields of a record as `judge` has them: j is what it says of the parts ps of the body
 
-module _ {ks : List Kind} {s : Bytes} {row no : ℕ} (b : Begun ks s row no) (z : no ≡ 0) (to : readOver readIdentity ks s ≡ fromFields readIdentity s (call-kind readIdentity b z .kind)) (ps : List Bytes) (ep : ps ≡ call-parts readIdentity b z) (j : Judged) (ej : j ≡ judgedSaid (judgedBy row ps)) where
+module _ (rules : Rules) {ks : List Kind} {s : Bytes} {row no : ℕ} (b : Begun ks s row no) (z : no ≡ 0) (to : readOver rules readIdentity ks s ≡ fromFields rules readIdentity s (call-kind readIdentity b z .kind)) (ps : List Bytes) (ep : ps ≡ call-parts readIdentity b z) (j : Judged) (ej : j ≡ judgedSaid (judgedBy rules row ps)) where
   abbrev kind : Kind
   kind = call-kind readIdentity b z .kind
 
   abbrev parts : List Bytes
   parts = call-parts readIdentity b z
 
-  said : j ≡ judgedSaid (judged readIdentity kind parts (accepted kind parts))
-  said = ej ∙ ap (λ (x : List Bytes). judgedSaid (judgedBy row x)) ep ∙ ap judgedSaid (judged-kind kind row parts (call-kind readIdentity b z .at))
+  said : j ≡ judgedSaid (judged rules readIdentity kind parts (accepted kind parts))
+  said = ej ∙ ap (λ (x : List Bytes). judgedSaid (judgedBy rules row x)) ep ∙ ap judgedSaid (judged-kind rules kind row parts (call-kind readIdentity b z .at))
 
-  read : readOf ks s ≡ judged readIdentity kind parts (accepted kind parts)
-  read = of-is ks s ∙ to
+  read : readUnder rules ks s ≡ judged rules readIdentity kind parts (accepted kind parts)
+  read = under-is rules ks s ∙ to
 
-  pub record-refused : (j .no ≡ 0 → ⊥) → readOf ks s ≡ refused (j .no) (j .field)
-  record-refused u = read ∙ denied kind parts j said u (accepted kind parts)
+  pub record-refused : (j .no ≡ 0 → ⊥) → readUnder rules ks s ≡ refused (j .no) (j .field)
+  record-refused u = read ∙ denied rules kind parts j said u (accepted kind parts)
 
-  pub record-accepted : j .no ≡ 0 → readOf ks s ≡ accepted kind parts
-  record-accepted u = read ∙ agreed kind parts j said u (accepted kind parts)
+  pub record-accepted : j .no ≡ 0 → readUnder rules ks s ≡ accepted kind parts
+  record-accepted u = read ∙ agreed rules kind parts j said u (accepted kind parts)
 
   pub record-kinds : j .no ≡ 0 → j .kinds ≡ kindsOf kind parts
-  record-kinds u = agreed-kinds kind parts j said u
+  record-kinds u = agreed-kinds rules kind parts j said u

@@ -10,6 +10,7 @@ use lib.Seq.{drop-cons, drop-drop}
 use Rattle.text.specs.Text.{Bytes, Ident}
 use Rattle.format.specs.Kinds.{Kind, Text, fieldsOf}
 use Rattle.format.specs.Read.{Outcome, refused, passing, each, fieldAnswer, wholeAnswer, judged}
+use Rattle.format.specs.declared.Rules.{Rules}
 use Rattle.table.specs.Table.{rowOf, countOf, fieldsAt, fieldType, TypeOf}
 use Rattle.table.proofs.Rows.{of-kind}
 use Rattle.table.proofs.Arrays.{count-fields}
@@ -46,7 +47,7 @@ module _ (ask : Bytes → Outcome) (row : ℕ) (fs : List Bytes) where
     passed-on z = record { left = λ o. rw (add-one j) (sym (passing-on n (suc j) _ z) ∙ sym (one o) ∙ p .left o) }
 
 -- the fields each, and then together
-pub judged-first : (ask : Bytes → Outcome) (k : Kind) (row : ℕ) (fs : List Bytes) (n place : ℕ) → row ≡ rowOf k → FirstRefused ask row fs n place → (o : Outcome) → judged ask k fs o ≡ passing n place (passing (wholeAnswer k fs) 0 o)
+pub judged-first : (rules : Rules) (ask : Bytes → Outcome) (k : Kind) (row : ℕ) (fs : List Bytes) (n place : ℕ) → row ≡ rowOf k → FirstRefused ask row fs n place → (o : Outcome) → judged rules ask k fs o ≡ passing n place (passing (wholeAnswer rules k fs) 0 o)
 unfolding judged
-judged-first ask k row fs n place e c o =
-    rw (← of-kind fieldsOf [] k, ← e) (c .first (passing (wholeAnswer k fs) 0 o))
+judged-first rules ask k row fs n place e c o =
+    rw (← of-kind fieldsOf [] k, ← e) (c .first (passing (wholeAnswer rules k fs) 0 o))

@@ -1,5 +1,5 @@
--- What the reading calls answer: document 01, "Numbers given back", and document 02, E1. `readIdentity`, `readOf` and `readRecord` of format say the
--- outcome; here it is put into the words of an answer.
+-- What the reading calls answer: document 01, "Numbers given back", and document 02, E1 and E11. `readIdentity`, `readUnder`, `readOf` and `readRecord` of
+-- format say the outcome; here it is put into the words of an answer.
 -- Assumes nothing.
 use Prim.Native.Nat.{ℕ, suc}
 use mathlib.Core.List.{List, [], _∷_}
@@ -7,6 +7,8 @@ use lib.ListN.{getD}
 use Rattle.text.specs.Text.{Bytes}
 use Rattle.format.specs.Kinds.{Kind, Field, Text, Printable, Identity, OrEmpty, fieldsOf}
 use Rattle.format.specs.Read.{Outcome, accepted, refused, ofKind, judged, readIdentity}
+use Rattle.format.specs.declared.Rules.{Rules}
+use Rattle.format.specs.declared.Rules.the-variants.{Today}
 use Rattle.table.specs.Table.{rowOf, missingRow, kindOf, countOf}
 use Rattle.places.specs.Places.{seven, startsOf, lensOf, partsFrom}
 use Rattle.reading.specs.declared.Answer.{Answer}
@@ -48,13 +50,17 @@ answerOf (refused n i) = record { no = n; field = i; kind = missingRow; starts =
 -- ---- the fields of a record, without its form
 
 -- the fields fs of the kind in a row: each of them, and then all together
-unfoldable pub judgedBy : ℕ → List Bytes → Outcome
-judgedBy row fs = ofKind (kindOf row) (λ k. judged readIdentity k fs (accepted k fs))
+unfoldable pub judgedBy : Rules → ℕ → List Bytes → Outcome
+judgedBy rules row fs = ofKind (kindOf row) (λ k. judged rules readIdentity k fs (accepted k fs))
 
 abbrev pub judgedSaid : Outcome → Judged
 judgedSaid (accepted k fs) = record { no = 0; field = 0; kinds = kindsOf k fs }
 judgedSaid (refused n i) = record { no = n; field = i; kinds = noKinds }
 
 -- as many parts of s as the kind has fields
+abbrev pub judgeUnder : Rules → ℕ → Bytes → List ℕ → List ℕ → Judged
+judgeUnder rules row s starts lens = judgedSaid (judgedBy rules row (partsFrom s starts lens 0 (countOf row)))
+
+-- today
 abbrev pub judge : ℕ → Bytes → List ℕ → List ℕ → Judged
-judge row s starts lens = judgedSaid (judgedBy row (partsFrom s starts lens 0 (countOf row)))
+judge = judgeUnder Today

@@ -2,14 +2,17 @@
 -- Assumes nothing.
 use Prim.Native.Nat.{ℕ}
 use mathlib.Core.Path.{_≡_}
-use mathlib.Core.Bool.{Bool, cond}
+use mathlib.Core.Bool.{Bool, cond, _&&_, Bool·beq}
 use mathlib.Core.List.{List}
 use lib.Dec.{eqb}
-use Rattle.text.specs.Text.{Bytes, isOf, isIdent, isPrintable}
-use Rattle.numbers.specs.Numbers.{unknownKind}
-use Rattle.format.specs.Kinds.{Field, Text, Printable, Identity, OrEmpty}
+use Rattle.text.specs.Text.{Bytes, same, isOf, isIdent, isPrintable}
+use Rattle.numbers.specs.Numbers.{unknownKind, unpaired, moduleUnsigned}
+use Rattle.format.specs.Kinds.{SMID, ECDH, Field, Text, Printable, Identity, OrEmpty, name, title}
+use Rattle.format.specs.Build.{empty}
 use Rattle.format.specs.Read.{Outcome, passing, checkNo, each, fieldAnswer, wholeAnswer, readIdentity}
-use Rattle.table.specs.Table.{missingRow, ofRow, markOf, countOf, fieldsAt}
+use Rattle.format.specs.declared.Rules.{Rules}
+use Rattle.format.specs.declared.Rules.the-variants.{UpToE10, Today}
+use Rattle.table.specs.Table.{rowOf, missingRow, ofRow, markOf, countOf, fieldsAt}
 use Rattle.places.specs.Places.{seven, partsFrom}
 use Rattle.reading.specs.Reading.{kindWithin, kindsWithin}
 use Rattle.reading.specs.declared.FieldSaid.{FieldSaid}
@@ -43,5 +46,16 @@ pub record Walked (row : ℕ) (fs : List Bytes) (no place : ℕ) (kinds : List �
   pub all-kinds : no ≡ 0 → kinds ≡ seven missingRow (kindsWithin 0 (fieldsAt row) fs)
 
 -- the number of the fields together, by the row of their kind
-unfoldable pub wholeNo : ℕ → List Bytes → ℕ
-wholeNo row fs = ofRow (λ k. wholeAnswer k fs) 0 row
+unfoldable pub wholeNo : Rules → ℕ → List Bytes → ℕ
+wholeNo rules row fs = ofRow (λ k. wholeAnswer rules k fs) 0 row
+
+-- and what its parts answer: the rules to the unsigned key of a module, then a key by its Subject and its Signature, then a public key of a row
+abbrev pub unsignedNo : Rules → ℕ
+unsignedNo UpToE10 = 0
+unsignedNo Today = moduleUnsigned
+
+unfoldable pub moduleNo : Rules → Bytes → Bytes → ℕ
+moduleNo rules subject signature = cond (same (title subject) (name SMID) && empty signature) (unsignedNo rules) 0
+
+unfoldable pub pubkeyNo : Rules → ℕ → Bytes → Bytes → Bytes → ℕ
+pubkeyNo rules row subject issuer signature = cond (Bool·beq (empty issuer) (empty signature)) (cond (eqb row (rowOf ECDH)) (moduleNo rules subject signature) 0) unpaired

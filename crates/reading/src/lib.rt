@@ -1,18 +1,19 @@
-// The reading calls: document 01, "Numbers given back", and document 02, E1. Each takes any bytes; no public one has a
-// `requires`. The order is 1, 2, 3, 4, 5, then the fields from left to right (6, or 7 before 9), then 8, then 14: `form_no`
+// The reading calls: document 01, "Numbers given back", and document 02, E1 and E11. Each takes any bytes; no public one has a
+// `requires`. The order is 1, 2, 3, 4, 5, then the fields from left to right (6, or 7 before 9), then 8, then 14, then 28: `form_no`
 // has 2 to 4, `judge` the fields.
 // A record is walked over once for its fields' places: every test of a field, and every later use of one, goes by them.
+mod together;
+
 ghost use mathlib.Core.Path.{_≡_};
-ghost use mathlib.Core.Bool.{cond, _&&_, _||_, Bool·beq};
+ghost use mathlib.Core.Bool.{cond, _&&_, _||_};
 ghost use Prim.Native.Nat.{_<_};
 ghost use lib.Dec.{eqb, ltb};
-ghost use Rattle.numbers.specs.Numbers.{wrongText, unpaired, wrongAttributes};
-ghost use Rattle.format.specs.Attributes.{areAttributes};
+ghost use Rattle.numbers.specs.Numbers.{wrongText};
 ghost use Rattle.format.specs.Build.{empty};
-ghost use Rattle.format.specs.Read.{refused, identityAnswer, nobody, readIdentity, readOf, readRecord};
+ghost use Rattle.format.specs.Read.{refused, identityAnswer, nobody, readIdentity, readUnder, readOf, readRecord};
 ghost use Rattle.table.specs.Table.{fieldType, isIdentity, mayBeEmpty, permitted, kindsFrom};
-ghost use Rattle.reading.specs.Reading.{kindSaid, answerOf, judgedSaid, judge};
-ghost use Rattle.reading.specs.Steps.{formNo, isText, fieldSaid, partsBy, FirstRefused, Walked, wholeNo};
+ghost use Rattle.reading.specs.Reading.{kindSaid, answerOf, judgedSaid, judgeUnder, judge};
+ghost use Rattle.reading.specs.Steps.{formNo, isText, fieldSaid, partsBy, FirstRefused, Walked};
 
 // No record that is read or built is longer.
 pub const LONGEST: usize = 1024;
@@ -268,40 +269,7 @@ fn record_fields(row: usize, s: &[u8], starts: &[usize; 7], lens: &[usize; 7]) -
     }
 }
 
-// ---- the fields together, after each of them: numbers 8 and 14
-
-fn pair_no(issuer: &[u8], signature: &[u8]) -> u8
-    ensures { λ r. ⌜ r ≡ cond (Bool·beq (empty (now (issuer .entry))) (empty (now (signature .entry)))) 0 unpaired ⌝ }
-{
-    if (issuer.len() == 0) == (signature.len() == 0) {
-        return numbers::ACCEPTED;
-    }
-    numbers::UNPAIRED
-}
-
-fn attributes_no(attributes: &[u8]) -> u8
-    ensures { λ r. ⌜ r ≡ cond (areAttributes (now (attributes .entry))) 0 wrongAttributes ⌝ }
-{
-    if cards::are_attributes(attributes) {
-        return numbers::ACCEPTED;
-    }
-    numbers::WRONG_ATTRIBUTES
-}
-
-// 8 for a public key with only one of Issuer and Signature, 14 for a wrapped key whose attribute list is not permitted, or 0.
-fn whole_no(row: usize, s: &[u8], starts: &[usize; 7], lens: &[usize; 7]) -> u8
-    ensures { λ r. ⌜ r ≡ wholeNo row (partsBy row (now (s .entry)) (now (starts .entry)) (now (lens .entry))) ⌝ }
-{
-    if table::is_pubkey(row) {
-        let issuer = places::field_at(s, starts, lens, table::PUBKEY_ISSUER);
-        let signature = places::field_at(s, starts, lens, table::PUBKEY_SIGNATURE);
-        return pair_no(issuer, signature);
-    }
-    if row == table::KEY {
-        return attributes_no(places::field_at(s, starts, lens, table::KEY_ATTRIBUTES));
-    }
-    numbers::ACCEPTED
-}
+// ---- the fields, each and together
 
 // The answer that refuses a record's fields.
 fn deny(no: u8, field: u8) -> Judged
@@ -315,9 +283,15 @@ fn deny(no: u8, field: u8) -> Judged
 }
 
 // The fields of the kind in this row that stand in s at these places: each of them, then all together. A row that is none
-// answers 2. Reader and builder both ask here, each with the places of its own bytes.
-pub fn judge(row: usize, s: &[u8], starts: &[usize; 7], lens: &[usize; 7]) -> Judged
-    ensures { λ r. ⌜ r ≡ judge row (now (s .entry)) (now (starts .entry)) (now (lens .entry)) ⌝ }
+// answers 2.
+fn judge_under(
+    rules: format::Rules,
+    row: usize,
+    s: &[u8],
+    starts: &[usize; 7],
+    lens: &[usize; 7],
+) -> Judged
+    ensures { λ r. ⌜ r ≡ judgeUnder rules row (now (s .entry)) (now (starts .entry)) (now (lens .entry)) ⌝ }
 {
     if table::ROWS <= row {
         return deny(numbers::UNKNOWN_KIND, 0);
@@ -326,7 +300,7 @@ pub fn judge(row: usize, s: &[u8], starts: &[usize; 7], lens: &[usize; 7]) -> Ju
     if first.no != numbers::ACCEPTED {
         return deny(first.no, first.field);
     }
-    let no = whole_no(row, s, starts, lens);
+    let no = together::whole_no(rules, row, s, starts, lens);
     if no != numbers::ACCEPTED {
         return deny(no, 0);
     }
@@ -338,12 +312,19 @@ pub fn judge(row: usize, s: &[u8], starts: &[usize; 7], lens: &[usize; 7]) -> Ju
     }
 }
 
+// The same under today's rules. Reader and builder both ask, each with the places of its own bytes.
+pub fn judge(row: usize, s: &[u8], starts: &[usize; 7], lens: &[usize; 7]) -> Judged
+    ensures { λ r. ⌜ r ≡ judge row (now (s .entry)) (now (starts .entry)) (now (lens .entry)) ⌝ }
+{
+    judge_under(format::Rules::Today, row, s, starts, lens)
+}
+
 // ---- the record calls
 
-// Reads a record of the kinds in the table's rows from `from` to before `to`. Every other kind answers 2 in its place,
-// and so does an identity, whatever the rows.
-pub fn read_of(from: usize, to: usize, record: &[u8]) -> Answer
-    ensures { λ r. ⌜ r ≡ answerOf (readOf (kindsFrom from to) (now («record» .entry))) ⌝ }
+// Reads a record of the kinds in the table's rows from `from` to before `to`, under these rules. Every other kind answers 2 in its
+// place, and so does an identity, whatever the rows.
+pub fn read_under(rules: format::Rules, from: usize, to: usize, record: &[u8]) -> Answer
+    ensures { λ r. ⌜ r ≡ answerOf (readUnder rules (kindsFrom from to) (now («record» .entry))) ⌝ }
 {
     if LONGEST < record.len() {
         return refuse(numbers::TOO_LONG, 0);
@@ -360,7 +341,7 @@ pub fn read_of(from: usize, to: usize, record: &[u8]) -> Answer
     }
     let starts = found.starts;
     let lens = found.lens;
-    let judged = judge(row, body, &starts, &lens);
+    let judged = judge_under(rules, row, body, &starts, &lens);
     if judged.no != numbers::ACCEPTED {
         return refuse(judged.no, judged.field);
     }
@@ -373,6 +354,13 @@ pub fn read_of(from: usize, to: usize, record: &[u8]) -> Answer
         lens,
         kinds,
     }
+}
+
+// The same under today's rules.
+pub fn read_of(from: usize, to: usize, record: &[u8]) -> Answer
+    ensures { λ r. ⌜ r ≡ answerOf (readOf (kindsFrom from to) (now («record» .entry))) ⌝ }
+{
+    read_under(format::Rules::Today, from, to, record)
 }
 
 // Reads a record of any of the five record kinds.

@@ -3,7 +3,7 @@
 use Prim.Native.Nat.{ℕ, zero, suc, _+_, _*_}
 use mathlib.Core.Path.{_≡_, refl, sym, ap, ap₂, _∙_, subst}
 use mathlib.Core.Logic.{_≢_}
-use mathlib.Core.Bool.{Bool, true, false, cond}
+use mathlib.Core.Bool.{Bool, true, false, cond, true≢false}
 use mathlib.Core.Option.{Option, none, some}
 use mathlib.Core.List.{List, [], _∷_, _++_}
 use native.Mathlib.Omega.{arith}
@@ -16,11 +16,11 @@ use Rattle.text.specs.Seconds.{start}
 use Rattle.text.specs.Later.{later}
 use Rattle.text.proofs.Tests.{T-true, T-false, by-test, cond-yes, cond-no}
 use Rattle.shelf.specs.Places.{Names, sameNames, Held, Place, free, held, isFree, holds, lookup, change, occupied, anyFree, distinct}
-use Rattle.shelf.specs.Cabinet.{places, width, Reading, about, declined, asks, reads, requests, zeros, encode, entry, shelf, image, Change, done, refuse, putAt, putRead, removeAt, removeRead, admitAt, admitRead, Result, told, onPlaces, makeCabinet, putKey, removeKey, admit}
+use Rattle.shelf.specs.Cabinet.{places, width, Reading, about, declined, asks, reads, requests, zeros, encode, entry, shelf, image, Change, done, refuse, putAt, putRead, removeAt, removeRead, isOld, unlessOld, admitAt, admitRead, Result, told, onPlaces, makeCabinet, putKey, removeKey, admit}
 use Rattle.shelf.specs.History.{Event, stored, removed, admitted, nowhere, heldIn, textOf, tvpOf, lastPut, isNothing, firstPuts, removals, orStart, lastTvp, unlessFirst, admittedOf, Call, putting, removing, finding, admitting, checking, counting, Moment, putEvent, removeEvent, admitEvent, noted, afterCall, run}
 use Rattle.shelf.proofs.Places.{names-eq, found-at, lookup-change, lookup-fill, distinct-change, distinct-fill, occupied-fill, occupied-replace, occupied-remove, length-change}
 use Rattle.shelf.proofs.Tvps.{start-tvp, later-tvp, Rising, Under, under-none, rising-more}
-use Rattle.shelf.proofs.Readings.{requested, requested-tvp, reads-own, asks-own, requests-own, not-own}
+use Rattle.shelf.proofs.Readings.{goes-in, reads-current, requested, requested-tvp, reads-own, asks-own, requests-own, not-own}
 use Rattle.shelf.proofs.Images.{Good, AllGood, Shelved, shelf-image, shelf-some, lookup-good}
 
 -- ---- one accepted call
@@ -35,13 +35,26 @@ good-change t q (p ∷ ps) g a =
     (λ u. rw (cond-yes (t p) (q ∷ ps) (p ∷ change t q ps) u) (g, a .1))
     (λ u. rw (cond-no (t p) (q ∷ ps) (p ∷ change t q ps) u) (a .0, good-change t q ps g (a .1)))
 
+-- what is not old is what is there
+pub not-old : (o : Option Held) (h : Held) → unlessOld o ≡ some h → (o ≡ some h) × (isOld (h .text) ≡ false)
+not-old none h e = let z : _≡_ {A = ℕ} 0 1 = cc in absurd (omega arith)
+not-old (some g) h e =
+    by-test (isOld (g .text))
+    (λ t.
+    let f : none ≡ some h = sym (cond-yes (isOld (g .text)) none (some g) t) ∙ e in
+    let z : _≡_ {A = ℕ} 0 1 = cc in absurd (omega arith))
+    (λ t.
+    let f : some g ≡ some h = sym (cond-no (isOld (g .text)) none (some g) t) ∙ e in
+    let same : g ≡ h = cc in
+    (f, ap (λ (x : Held). isOld (x .text)) (sym same) ∙ T-false (isOld (g .text)) t))
+
 of-cond : (f : Option Held → Option Bytes) (b : Bool) (x y : Option Held) → f (cond b x y) ≡ cond b (f x) (f y)
 of-cond f true x y = refl
 of-cond f false x y = refl
 
--- a request is admitted with a TVP that is later than the one which is there
+-- what is put is not old, and a request is admitted with a TVP that is later than the one which is there
 abbrev pub Allowed : List Place → Event → Type 0
-Allowed ps (stored k r) = Unit {0}
+Allowed ps (stored k r) = isOld r ≡ false
 Allowed ps (removed k) = Unit {0}
 Allowed ps (admitted k t) = (u : Bytes) × (tvpOf (heldIn ps k) ≡ some u) × (later t u ≡ true)
 
@@ -64,14 +77,14 @@ module _ (ps : List Place) (S : Shelved ps) where
       let h : Held = record { names = k; gnt = g; text = r; tvp = start } in
       record {
         shelved = record {
-          good = good-change isFree (held h) ps (a, start-tvp) (S .good);
+          good = good-change isFree (held h) ps (goes-in r k g a, start-tvp) (S .good);
           apart = distinct-fill h ps (S .apart) e f;
           number = length-change isFree (held h) ps ∙ S .number;
         };
         looks = λ l. ap textOf (lookup-fill h l ps e f) ∙ of-cond textOf (sameNames l k) (some h) (lookup l ps);
         tvps = λ l. ap tvpOf (lookup-fill h l ps e f) ∙ of-cond tvpOf (sameNames l k) (some h) (lookup l ps) ∙ rw e;
         counts = rw e (omega (arith, occupied-fill h ps f));
-        allowed = tt;
+        allowed = reads-current r k g a;
       }
 
   replacement : (k : Names) (g r : Bytes) (h : Held) → reads r ≡ about k g → lookup k ps ≡ some h → Moves ps (change (holds k) (entry k g r (h .tvp)) ps) (stored k r)
@@ -79,14 +92,14 @@ module _ (ps : List Place) (S : Shelved ps) where
       let q : Held = record { names = k; gnt = g; text = r; tvp = h .tvp } in
       record {
         shelved = record {
-          good = good-change (holds k) (held q) ps (a, lookup-good k ps h (S .good) e .1) (S .good);
+          good = good-change (holds k) (held q) ps (goes-in r k g a, lookup-good k ps h (S .good) e .1) (S .good);
           apart = distinct-change k (held q) refl ps (S .apart) (some-not-none e);
           number = length-change (holds k) (held q) ps ∙ S .number;
         };
         looks = λ l. ap textOf (lookup-change k (held q) refl l ps (S .apart) (some-not-none e)) ∙ of-cond textOf (sameNames l k) (some q) (lookup l ps);
         tvps = λ l. ap tvpOf (lookup-change k (held q) refl l ps (S .apart) (some-not-none e)) ∙ of-cond tvpOf (sameNames l k) (some q) (lookup l ps) ∙ rw e;
         counts = rw e (omega (arith, occupied-replace k q ps));
-        allowed = tt;
+        allowed = reads-current r k g a;
       }
 
   put-at : (k : Names) (g r : Bytes) → reads r ≡ about k g → (o : Option Held) → lookup k ps ≡ o → Does ps (some (stored k r)) (putAt k g r ps o)
@@ -152,23 +165,24 @@ module _ (ps : List Place) (S : Shelved ps) where
           (λ u. cond-yes (sameNames n k) (some (h .text)) (textOf (lookup n ps)) u ∙ sym (ap textOf (ap (λ (x : Names). lookup x ps) (names-eq n k u) ∙ e)))
           (λ u. cond-no (sameNames n k) (some (h .text)) (textOf (lookup n ps)) u)
 
-  admit-at : (q : Bytes) (k : Names) (t : Bytes) → requests q ≡ about k t → (o : Option Held) → lookup k ps ≡ o → Does ps (some (admitted k t)) (admitAt k t ps o)
+  admit-at : (q : Bytes) (k : Names) (t : Bytes) → requests q ≡ about k t → (o : Option Held) → unlessOld (lookup k ps) ≡ o → Does ps (some (admitted k t)) (admitAt k t ps o)
   unfolding admitAt
   admit-at q k t a none e = omega arith
   admit-at q k t a (some h) e =
       by-test (later t (h .tvp))
-      (λ u. rw (T-true (later t (h .tvp)) u) (admitted k t, refl, admission q k t h a e (T-true (later t (h .tvp)) u)))
+      (λ u. rw (T-true (later t (h .tvp)) u) (admitted k t, refl, admission q k t h a (not-old (lookup k ps) h e .0) (T-true (later t (h .tvp)) u)))
       (λ u. rw (T-false (later t (h .tvp)) u) (omega arith))
 
   pub admit-does : (q : Bytes) (x : Reading) → requests q ≡ x → Does ps (admitEvent x) (admitRead ps x)
   admit-does q (declined n i) a = not-own n 0 (requests-own q n i a .1) tt
-  admit-does q (about k t) a = admit-at q k t a (lookup k ps) refl
+  admit-does q (about k t) a = admit-at q k t a (unlessOld (lookup k ps)) refl
 
 -- ---- any list of calls
 
 -- `before` says what was there, of so many records
 module _ (before : Names → Option Held) (many : ℕ) where
-  -- the lent bytes are a cabinet, its look-ups are what the accepted calls say, and its number of records too; the TVPs that were admitted rise
+  -- the lent bytes are a cabinet, its look-ups are what the accepted calls say, and its number of records too; the TVPs that were admitted rise, and an old record was there
+  -- before
   pub record Kept (m : Moment) : Type 0 where
     pub its-places : List Place
     pub shelved : Shelved its-places
@@ -177,6 +191,7 @@ module _ (before : Names → Option Held) (many : ℕ) where
     pub tvps : (k : Names) → tvpOf (heldIn its-places k) ≡ lastTvp before k (m .events)
     pub counts : occupied its-places + removals (m .events) ≡ many + firstPuts before (m .events)
     pub rises : (k : Names) → Rising (admittedOf before k (m .events)) × Under (lastTvp before k (m .events)) (admittedOf before k (m .events))
+    pub olds : (k : Names) (r : Bytes) → lastPut before k (m .events) ≡ some r → isOld r ≡ true → textOf (before k) ≡ some r
 
   module _ (m : Moment) (H : Kept m) where
     abbrev es : List Event
@@ -218,6 +233,22 @@ module _ (before : Names → Option Held) (many : ℕ) where
         (λ u. rw (T-true (sameNames k l) u) (rising-more t v (lastTvp before l es) (admittedOf before l es) (sym (H .tvps l) ∙ e) h (H .rises l)))
         (λ u. rw (T-false (sameNames k l) u) (H .rises k))
 
+    -- no call puts an old record in
+    still-old : (e : Event) → Allowed ps e → (k : Names) (r : Bytes) → lastPut before k (e ∷ es) ≡ some r → isOld r ≡ true → textOf (before k) ≡ some r
+    still-old (stored l q) a k r f o =
+        by-test (sameNames k l)
+        (λ u.
+        let g : some q ≡ some r = sym (cond-yes (sameNames k l) (some q) (lastPut before k es) u) ∙ f in
+        let same : q ≡ r = cc in absurd (true≢false (sym o ∙ ap isOld (sym same) ∙ a)))
+        (λ u. H .olds k r (sym (cond-no (sameNames k l) (some q) (lastPut before k es) u) ∙ f) o)
+    still-old (removed l) a k r f o =
+        by-test (sameNames k l)
+        (λ u.
+        let g : none ≡ some r = sym (cond-yes (sameNames k l) none (lastPut before k es) u) ∙ f in
+        let z : _≡_ {A = ℕ} 0 1 = cc in absurd (omega arith))
+        (λ u. H .olds k r (sym (cond-no (sameNames k l) none (lastPut before k es) u) ∙ f) o)
+    still-old (admitted l t) a k r f o = H .olds k r f o
+
     kept-moves : (qs : List Place) (e : Event) → Moves ps qs e → Kept (record { bytes = image qs; events = e ∷ es })
     kept-moves qs e M =
         record {
@@ -228,6 +259,7 @@ module _ (before : Names → Option Held) (many : ℕ) where
           tvps = λ k. M .tvps k ∙ last-tvp e k;
           counts = counted e qs (M .counts);
           rises = go-on e (M .allowed);
+          olds = still-old e (M .allowed);
         }
 
   kept-call : (m : Moment) → Kept m → (v : Option Event) (f : List Place → Change) → ((ps : List Place) → Shelved ps → Does ps v (f ps))
@@ -269,7 +301,7 @@ distinct-empty : (n : ℕ) → T (distinct (replicate n free))
 distinct-empty zero = tt
 distinct-empty (suc n) = distinct-empty n
 
-good-empty : (n : ℕ) → AllGood (replicate n free)
+pub good-empty : (n : ℕ) → AllGood (replicate n free)
 good-empty zero = tt
 good-empty (suc n) = (tt, good-empty n)
 
@@ -304,6 +336,7 @@ since-made s e cs =
       tvps = λ k. ap tvpOf (lookup-empty places k);
       counts = omega (arith, occupied-empty places);
       rises = λ k. (tt, tt);
+      olds = λ k r f o. f;
     })
 
 -- ---- and from any image that is a cabinet
@@ -312,4 +345,13 @@ pub since-image : (s : Bytes) (ps : List Place) → shelf s ≡ some ps → (cs 
 since-image s ps e cs =
     let h = shelf-some s ps e in
     kept-run (heldIn ps) (occupied ps) cs _
-    (record { its-places = ps; shelved = h .1; bytes-are = sym (h .0); looks = λ k. refl; tvps = λ k. refl; counts = omega arith; rises = λ k. (tt, under-none (tvpOf (heldIn ps k))) })
+    (record {
+      its-places = ps;
+      shelved = h .1;
+      bytes-are = sym (h .0);
+      looks = λ k. refl;
+      tvps = λ k. refl;
+      counts = omega arith;
+      rises = λ k. (tt, under-none (tvpOf (heldIn ps k)));
+      olds = λ k r f o. f;
+    })

@@ -15,9 +15,10 @@ use Rattle.text.proofs.Tests.{by-test, cond-yes, cond-no, same→eq, same-refl}
 use Rattle.text.proofs.Seconds.{bytes-length}
 use Rattle.format.specs.Files.{upTo}
 use Rattle.format.proofs.Lines.{upTo-first}
-use Rattle.expiry.specs.Expiry.{expiryOf}
+use Rattle.format.specs.declared.Rules.the-variants.{UpToE10}
+use Rattle.expiry.specs.Expiry.{expiryUnder}
 use Rattle.shelf.specs.Places.{Names, Held, Place, free, held, holds, contents, lookup, distinct}
-use Rattle.shelf.specs.Cabinet.{places, width, tvpAt, numberAt, numberOf, Reading, about, declined, reads, zeros, encode, whole, entry, tvpIn, isTvp, decodeAs, decode, parts, both, decodeAll, provided, whereDistinct, shelf, image}
+use Rattle.shelf.specs.Cabinet.{places, width, tvpAt, numberAt, numberOf, Reading, about, declined, stands, zeros, encode, whole, entry, tvpIn, isTvp, decodeAs, decode, parts, both, decodeAll, provided, whereDistinct, shelf, image}
 use Rattle.shelf.proofs.Places.{lookup-here, lookup-there}
 use Rattle.shelf.proofs.Tvps.{tvp-length}
 use Rattle.shelf.proofs.Readings.{fitting}
@@ -43,7 +44,7 @@ upTo-text r t n l h = rw (append-assoc r (zeros n) t) (upTo-first 0 r (zeros n +
 
 pub number-length : (r : Bytes) → length (numberOf r) ≡ 8
 unfolding numberOf
-number-length r = bytes-length (expiryOf r .seconds)
+number-length r = bytes-length (expiryUnder UpToE10 r .seconds)
 
 -- ---- the tests of a cabinet, each by what it gives
 
@@ -75,7 +76,7 @@ distinct-some (some qs) ps e =
 -- a place that may stand in a cabinet
 abbrev pub Good : Place → Type 0
 Good free = Unit {0}
-Good (held h) = (reads (h .text) ≡ about (h .names) (h .gnt)) × T (isTvp (h .tvp))
+Good (held h) = (stands (h .text) ≡ about (h .names) (h .gnt)) × T (isTvp (h .tvp))
 
 abbrev pub AllGood : List Place → Type 0
 AllGood [] = Unit {0}
@@ -93,7 +94,7 @@ whole-some b p q e =
     let z : _≡_ {A = ℕ} 0 1 = cc in absurd (omega arith))
 
 -- what was decoded is good, and its bytes are those
-decodeAs-some : (b r : Bytes) (x : Reading) → reads r ≡ x → (p : Place) → decodeAs b r x ≡ some p → (encode p ≡ b) × Good p
+decodeAs-some : (b r : Bytes) (x : Reading) → stands r ≡ x → (p : Place) → decodeAs b r x ≡ some p → (encode p ≡ b) × Good p
 decodeAs-some b r (declined n i) s p e = let z : _≡_ {A = ℕ} 0 1 = cc in absurd (omega arith)
 decodeAs-some b r (about k g) s p e =
     by-test (isTvp (tvpIn b))
@@ -112,7 +113,7 @@ decode-some b p e =
     let f : some free ≡ some p = sym (cond-yes (same b (encode free)) (some free) _ t) ∙ e in
     let g : free ≡ p = cc in
     (ap encode (sym g) ∙ sym (same→eq b (encode free) t), subst Good g tt))
-    (λ t. decodeAs-some b (upTo 0 b) (reads (upTo 0 b)) refl p (sym (cond-no (same b (encode free)) (some free) _ t) ∙ e))
+    (λ t. decodeAs-some b (upTo 0 b) (stands (upTo 0 b)) refl p (sym (cond-no (same b (encode free)) (some free) _ t) ∙ e))
 
 -- the record, and zeros after it up to the TVP
 abbrev pub textZeros : Bytes → Bytes
@@ -166,7 +167,7 @@ module _ (h : Held) (g : Good (held h)) where
   decode-held =
       let b = encode (held h) in
       cond-no (same b (encode free)) (some free) _ held-not-free
-      ∙ ap (λ (x : Bytes). decodeAs b x (reads x)) text-back
+      ∙ ap (λ (x : Bytes). decodeAs b x (stands x)) text-back
       ∙ ap (decodeAs b (h .text)) (g .0)
       ∙ ap (λ (t : Bytes). cond (isTvp t) (whole b (entry (h .names) (h .gnt) (h .text) t)) none) tvp-back
       ∙ cond-yes (isTvp (h .tvp)) (whole b (held h)) none (g .1)

@@ -14,7 +14,7 @@ use Rattle.text.specs.Later.{later}
 use Rattle.text.proofs.Tests.{T-true, T-false, by-test, or-right}
 use Rattle.numbers.specs.Numbers.{notLater, noPlace, notThere, tvpNotLater}
 use Rattle.shelf.specs.Places.{Names, sameNames, Held, Place, free, held, isFree, holds, lookup, lowest, anyFree, others}
-use Rattle.shelf.specs.Cabinet.{places, Reading, about, declined, asks, reads, requests, shelf, Change, done, refuse, putAt, putRead, removeAt, removeRead, admitAt, admitRead, told, onPlaces, putKey, removeKey, admit, foundAt, findRead, findIn, findKey}
+use Rattle.shelf.specs.Cabinet.{places, Reading, about, declined, asks, reads, requests, shelf, Change, done, refuse, unlessOld, putAt, putRead, removeAt, removeRead, admitAt, admitRead, told, onPlaces, putKey, removeKey, admit, foundAt, findRead, findIn, findKey}
 use Rattle.shelf.proofs.Places.{clash, names-eq, eq-names, lookup-there, none-not-holds}
 use Rattle.shelf.proofs.Readings.{ownNumbers, reads-own, asks-own, requests-own, not-own}
 use Rattle.shelf.proofs.Images.{Shelved, shelf-some}
@@ -111,7 +111,7 @@ find-leaves s i n = go (shelf s) n
 
     read : (ps : List Place) (x : Reading) → findRead ps x .no ≢ 0 → (findRead ps x .start ≡ 0) × (findRead ps x .text ≡ [])
     read ps (declined a b) m = (refl, refl)
-    read ps (about k g) m = at (lowest (holds k) ps) (lookup k ps) m
+    read ps (about k g) m = at (lowest (holds k) ps) (unlessOld (lookup k ps)) m
 
     go : (o : Option (List Place)) → findIn i o .no ≢ 0 → (findIn i o .start ≡ 0) × (findIn i o .text ≡ [])
     go none m = (refl, refl)
@@ -199,18 +199,21 @@ module _ (s r : Bytes) (ps : List Place) (e : shelf s ≡ some ps) where
 
 -- ---- find and remove: 26, of the places ps
 
--- an accepted identity, where nothing of its names is there
+-- an accepted identity, where nothing of its names is there; and where nothing is there that is not old
 abbrev pub Missing : Bytes → List Place → Type 0
 Missing i ps = (k : Names) × (g : Bytes) × (asks i ≡ about k g) × (lookup k ps ≡ none)
 
+abbrev pub Unfound : Bytes → List Place → Type 0
+Unfound i ps = (k : Names) × (g : Bytes) × (asks i ≡ about k g) × (unlessOld (lookup k ps) ≡ none)
+
 module _ (i : Bytes) (ps : List Place) where
-  found-26 : (k : Names) (g : Bytes) (o : Option Held) (j : ℕ) → lookup k ps ≡ o → asks i ≡ about k g → foundAt j o .no ≡ notThere → Missing i ps
+  found-26 : (k : Names) (g : Bytes) (o : Option Held) (j : ℕ) → unlessOld (lookup k ps) ≡ o → asks i ≡ about k g → foundAt j o .no ≡ notThere → Unfound i ps
   found-26 k g none j e a n = (k, g, a, e)
   found-26 k g (some h) j e a n = absurd (omega arith)
 
-  find-26 : (x : Reading) → asks i ≡ x → findRead ps x .no ≡ notThere → Missing i ps
+  find-26 : (x : Reading) → asks i ≡ x → findRead ps x .no ≡ notThere → Unfound i ps
   find-26 (declined n j) a e = absurd (not-own n notThere (asks-own i n j a .1) tt e)
-  find-26 (about k g) a e = found-26 k g (lookup k ps) (lowest (holds k) ps) refl a e
+  find-26 (about k g) a e = found-26 k g (unlessOld (lookup k ps)) (lowest (holds k) ps) refl a e
 
   removed-26 : (k : Names) (g : Bytes) (o : Option Held) → lookup k ps ≡ o → asks i ≡ about k g → numberOf (removeAt k ps o) ≡ notThere → Missing i ps
   unfolding removeAt
@@ -226,11 +229,15 @@ unfolding removeAt
 find-listed i ps (declined n j) a =
     let t = or-right (eqb n 0) _ (or-right (eqb n notThere) _ (asks-own i n j a .1)) in
     (t, t)
-find-listed i ps (about k g) a = go (lookup k ps)
+find-listed i ps (about k g) a = (taken (lookup k ps), found (unlessOld (lookup k ps)))
   where
-    go : (o : Option Held) → T (oneOf findNumbers (numberOf (removeAt k ps o))) × T (oneOf findNumbers (foundAt (lowest (holds k) ps) o .no))
-    go none = (tt, tt)
-    go (some h) = (tt, tt)
+    taken : (o : Option Held) → T (oneOf findNumbers (numberOf (removeAt k ps o)))
+    taken none = tt
+    taken (some h) = tt
+
+    found : (o : Option Held) → T (oneOf findNumbers (foundAt (lowest (holds k) ps) o .no))
+    found none = tt
+    found (some h) = tt
 
 module _ (s i : Bytes) (ps : List Place) (e : shelf s ≡ some ps) where
   remove-number : removeKey s i .no ≡ numberOf (removeRead ps (asks i))
@@ -248,28 +255,28 @@ module _ (s i : Bytes) (ps : List Place) (e : shelf s ≡ some ps) where
   unfolding removeAt
   remove-exactly-26 = (λ n. remove-26 i ps (asks i) refl (sym remove-number ∙ n), λ (k, g, a, f). remove-number ∙ rw (a, f))
 
-  pub find-exactly-26 : (findKey s i .no ≡ notThere) ↔ Missing i ps
+  pub find-exactly-26 : (findKey s i .no ≡ notThere) ↔ Unfound i ps
   unfolding findKey
   find-exactly-26 = (λ n. find-26 i ps (asks i) refl (rw e at n), λ (k, g, a, f). rw (e, a, f))
 
 -- ---- admit: 26 and 27, of the places ps
 
--- an accepted request, whose module is not there
+-- an accepted request, whose module is not there, or whose record is old
 abbrev pub Unknown : Bytes → List Place → Type 0
-Unknown q ps = (k : Names) × (t : Bytes) × (requests q ≡ about k t) × (lookup k ps ≡ none)
+Unknown q ps = (k : Names) × (t : Bytes) × (requests q ≡ about k t) × (unlessOld (lookup k ps) ≡ none)
 
 -- an accepted request, whose module is there with a TVP that is not earlier
 abbrev pub Answered : Bytes → List Place → Type 0
-Answered q ps = (k : Names) × (t : Bytes) × (h : Held) × (requests q ≡ about k t) × (lookup k ps ≡ some h) × (later t (h .tvp) ≡ false)
+Answered q ps = (k : Names) × (t : Bytes) × (h : Held) × (requests q ≡ about k t) × (unlessOld (lookup k ps) ≡ some h) × (later t (h .tvp) ≡ false)
 
 module _ (q : Bytes) (ps : List Place) where
-  at-26 : (k : Names) (t : Bytes) (o : Option Held) → lookup k ps ≡ o → requests q ≡ about k t → numberOf (admitAt k t ps o) ≡ notThere → Unknown q ps
+  at-26 : (k : Names) (t : Bytes) (o : Option Held) → unlessOld (lookup k ps) ≡ o → requests q ≡ about k t → numberOf (admitAt k t ps o) ≡ notThere → Unknown q ps
   unfolding admitAt
   at-26 k t none e a n = (k, t, a, e)
   at-26 k t (some h) e a n =
       by-test (later t (h .tvp)) (λ u. absurd (omega (rw (T-true (later t (h .tvp)) u) at n, arith))) (λ u. absurd (omega (rw (T-false (later t (h .tvp)) u) at n, arith)))
 
-  at-27 : (k : Names) (t : Bytes) (o : Option Held) → lookup k ps ≡ o → requests q ≡ about k t → numberOf (admitAt k t ps o) ≡ tvpNotLater → Answered q ps
+  at-27 : (k : Names) (t : Bytes) (o : Option Held) → unlessOld (lookup k ps) ≡ o → requests q ≡ about k t → numberOf (admitAt k t ps o) ≡ tvpNotLater → Answered q ps
   unfolding admitAt
   at-27 k t none e a n = absurd (omega arith)
   at-27 k t (some h) e a n =
@@ -277,16 +284,16 @@ module _ (q : Bytes) (ps : List Place) where
 
   admit-26 : (x : Reading) → requests q ≡ x → numberOf (admitRead ps x) ≡ notThere → Unknown q ps
   admit-26 (declined n i) a e = absurd (not-own n notThere (requests-own q n i a .1) tt e)
-  admit-26 (about k t) a e = at-26 k t (lookup k ps) refl a e
+  admit-26 (about k t) a e = at-26 k t (unlessOld (lookup k ps)) refl a e
 
   admit-27 : (x : Reading) → requests q ≡ x → numberOf (admitRead ps x) ≡ tvpNotLater → Answered q ps
   admit-27 (declined n i) a e = absurd (not-own n tvpNotLater (requests-own q n i a .1) tt e)
-  admit-27 (about k t) a e = at-27 k t (lookup k ps) refl a e
+  admit-27 (about k t) a e = at-27 k t (unlessOld (lookup k ps)) refl a e
 
   admit-listed : (x : Reading) → requests q ≡ x → T (oneOf admitNumbers (numberOf (admitRead ps x)))
   unfolding admitAt
   admit-listed (declined n i) a = or-right (eqb n 0) _ (or-right (eqb n notThere) _ (or-right (eqb n tvpNotLater) _ (requests-own q n i a .1)))
-  admit-listed (about k t) a = go (lookup k ps)
+  admit-listed (about k t) a = go (unlessOld (lookup k ps))
     where
       go : (o : Option Held) → T (oneOf admitNumbers (numberOf (admitAt k t ps o)))
       go none = tt

@@ -15,7 +15,7 @@ use Rattle.text.specs.Later.{later}
 use Rattle.text.proofs.Tests.{T-true, T-false, by-test}
 use Rattle.numbers.specs.Numbers.{notCabinet, notLater, noPlace, notThere, tvpNotLater}
 use Rattle.shelf.specs.Places.{Names, Held, Place, free, held, isFree, holds, contents, lookup, change, lowest, anyFree}
-use Rattle.shelf.specs.Cabinet.{width, about, declined, asks, reads, requests, encode, entry, shelf, image, putAt, removeAt, admitAt, Result, leaving, told, putKey, removeKey, admit, nothing, findKey}
+use Rattle.shelf.specs.Cabinet.{width, about, declined, asks, reads, requests, encode, entry, shelf, image, putAt, removeAt, admitAt, isOld, unlessOld, Result, leaving, told, putKey, removeKey, admit, nothing, findKey}
 use Rattle.shelf.proofs.Places.{change-set, free-lowest, no-free-lowest, lookup-here, lookup-there}
 use Rattle.shelf.proofs.Images.{AllGood, length-encode, shelf-some}
 
@@ -127,18 +127,18 @@ module _ (s : Bytes) (ps : List Place) (e : shelf s ≡ some ps) where
   admit-own q n i a = rw (e, a)
 
   module _ (q : Bytes) (k : Names) (t : Bytes) (a : requests q ≡ about k t) where
-    pub admit-none : lookup k ps ≡ none → admit s q ≡ leaving s notThere 0
+    pub admit-none : unlessOld (lookup k ps) ≡ none → admit s q ≡ leaving s notThere 0
     unfolding admit admitAt
     admit-none f = rw (e, a, f)
 
-    pub admit-not-later : (h : Held) → lookup k ps ≡ some h → later t (h .tvp) ≡ false → admit s q ≡ leaving s tvpNotLater 0
+    pub admit-not-later : (h : Held) → lookup k ps ≡ some h → isOld (h .text) ≡ false → later t (h .tvp) ≡ false → admit s q ≡ leaving s tvpNotLater 0
     unfolding admit admitAt
-    admit-not-later h f l = rw (e, a, f, l)
+    admit-not-later h f o l = rw (e, a, f, o, l)
 
-    pub admit-later : (h : Held) → lookup k ps ≡ some h → later t (h .tvp) ≡ true → lowest (holds k) ps < length ps
+    pub admit-later : (h : Held) → lookup k ps ≡ some h → isOld (h .text) ≡ false → later t (h .tvp) ≡ true → lowest (holds k) ps < length ps
         → admit s q ≡ stored (storedAt s (lowest (holds k) ps) (entry (h .names) (h .gnt) (h .text) t))
     unfolding admit admitAt
-    admit-later h f l m = rw (e, a, f, l) (ap (λ (x : Bytes). stored x) (image-change (holds k) (entry (h .names) (h .gnt) (h .text) t) m))
+    admit-later h f o l m = rw (e, a, f, o, l) (ap (λ (x : Bytes). stored x) (image-change (holds k) (entry (h .names) (h .gnt) (h .text) t) m))
 
   module _ (i : Bytes) where
     pub remove-own : (n j : ℕ) → asks i ≡ declined n j → removeKey s i ≡ leaving s n j
@@ -158,11 +158,11 @@ module _ (s : Bytes) (ps : List Place) (e : shelf s ≡ some ps) where
       unfolding removeKey removeAt
       remove-none f = rw (e, a, f)
 
-      pub find-some : (h : Held) → lookup k ps ≡ some h
+      pub find-some : (h : Held) → lookup k ps ≡ some h → isOld (h .text) ≡ false
           → findKey s i ≡ record { no = 0; field = 0; start = lowest (holds k) ps * width; text = h .text }
       unfolding findKey
-      find-some h f = rw (e, a, f)
+      find-some h f o = rw (e, a, f, o)
 
-      pub find-none : lookup k ps ≡ none → findKey s i ≡ nothing notThere 0
+      pub find-none : unlessOld (lookup k ps) ≡ none → findKey s i ≡ nothing notThere 0
       unfolding findKey
       find-none f = rw (e, a, f)

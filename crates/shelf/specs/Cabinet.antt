@@ -1,6 +1,6 @@
--- The centre's key cabinet: document 02, E8, E9 and E10. 64 places of 1,024 bytes; each is all zeros, or an accepted public key, zeros after it, the last TVP accepted for
--- its module and in the last eight bytes the number of its Expiry, and no two records share Subject kind, Manufacturer and MID. All other memory is no cabinet: number 23,
--- before all.
+-- The centre's key cabinet: document 02, E8 to E11. 64 places of 1,024 bytes; each is all zeros, or a public key that the rules up to E10 accept, zeros after it, the last
+-- TVP accepted for its module and in the last eight bytes the number of its Expiry, and no two records share Subject kind, Manufacturer and MID. All other memory is no
+-- cabinet: number 23, before all.
 -- Assumes nothing.
 use Prim.Native.Nat.{ℕ, zero, suc, _-_, _*_}
 use mathlib.Core.Bool.{Bool, true, false, not, cond, _&&_}
@@ -14,11 +14,13 @@ use Rattle.text.specs.Later.{later}
 use Rattle.numbers.specs.Numbers.{notCabinet, notLater, noPlace, notThere, tvpNotLater}
 use Rattle.format.specs.Kinds.{name, REQ, pubkeyKinds}
 use Rattle.format.specs.Requests.{idSm, tvp}
-use Rattle.format.specs.Read.{Outcome, accepted, refused, readIdentity, readOf}
+use Rattle.format.specs.Read.{Outcome, accepted, refused, readIdentity, readUnder, readOf}
 use Rattle.format.specs.Files.{upTo}
+use Rattle.format.specs.declared.Rules.{Rules}
+use Rattle.format.specs.declared.Rules.the-variants.{UpToE10, Today}
 use Rattle.subjects.specs.Subjects.{manufacturer, mid, gnt}
 use Rattle.subjects.specs.Keys.{subject}
-use Rattle.expiry.specs.Expiry.{expiryOf}
+use Rattle.expiry.specs.Expiry.{expiryUnder}
 use Rattle.shelf.specs.Places.{Names, named, Held, Place, free, held, isFree, holds, lookup, change, lowest, occupied, anyFree, distinct}
 
 -- how many places there are, and the bytes of each
@@ -54,8 +56,15 @@ abbrev pub readBy : Outcome → Reading
 readBy (accepted k fs) = asks (subject fs)
 readBy (refused n i) = declined n i
 
-unfoldable pub reads : Bytes → Reading
-reads s = readBy (readOf pubkeyKinds s)
+-- the rules up to E10 for one that stands in a place, because "records already in a cabinet stay in their places" (E11), and today's for one that is put
+unfoldable pub readsUnder : Rules → Bytes → Reading
+readsUnder rules s = readBy (readUnder rules pubkeyKinds s)
+
+abbrev pub stands : Bytes → Reading
+stands = readsUnder UpToE10
+
+abbrev pub reads : Bytes → Reading
+reads = readsUnder Today
 
 -- of a load request: the names of its ID_SM, with its TVP (E10)
 abbrev pub dated : Bytes → Reading → Reading
@@ -76,7 +85,7 @@ zeros n = replicate n 0
 
 -- "that number, big-endian two's complement in the last eight bytes of an occupied place", and what the record's text says of it (E9)
 unfoldable pub numberOf : Bytes → Bytes
-numberOf r = secondsBytes (expiryOf r .seconds)
+numberOf r = secondsBytes (expiryUnder UpToE10 r .seconds)
 
 -- "in the 16 bytes before E9's number, the last TVP accepted for its module" (E10)
 unfoldable pub encode : Place → Bytes
@@ -103,7 +112,7 @@ decodeAs b r (declined n i) = none
 
 -- the record is what stands before the first zero byte
 unfoldable pub decode : Bytes → Option Place
-decode b = cond (same b (encode free)) (some free) (decodeAs b (upTo 0 b) (reads (upTo 0 b)))
+decode b = cond (same b (encode free)) (some free) (decodeAs b (upTo 0 b) (stands (upTo 0 b)))
 
 -- ---- the bytes of a cabinet, and its places
 
@@ -137,13 +146,27 @@ abbrev pub image : List Place → Bytes
 image [] = []
 image (p ∷ ps) = encode p ++ image ps
 
+-- ---- old records: what stands in a place and is refused today (E11)
+
+abbrev pub isRefused : Outcome → Bool
+isRefused (accepted k fs) = false
+isRefused (refused n i) = true
+
+unfoldable pub isOld : Bytes → Bool
+isOld r = isRefused (readOf pubkeyKinds r)
+
+-- "find and requests treat them as missing"
+abbrev pub unlessOld : Option Held → Option Held
+unlessOld none = none
+unlessOld (some h) = cond (isOld (h .text)) none (some h)
+
 -- ---- what a call does to the places: the places afterwards, or the numbers of the refusal and of the field
 
 pub data Change : Type 0 where
   done : List Place → Change
   refuse : ℕ → ℕ → Change
 
--- a replacement stays in its place and keeps the TVP: 24 where its GNT is not later; a first put takes the lowest free place, and its TVP starts at 19930101T000000Z: 25
+-- a replacement, of an old record too, stays in its place and keeps the TVP: 24 where its GNT is not later; a first put takes the lowest free place, and its TVP starts at 19930101T000000Z: 25
 -- where there is none
 unfoldable pub putAt : Names → Bytes → Bytes → List Place → Option Held → Change
 putAt k g r ps none = cond (anyFree ps) (done (change isFree (entry k g r start) ps)) (refuse noPlace 0)
@@ -170,7 +193,7 @@ admitAt k t ps (some h) = cond (later t (h .tvp)) (done (change (holds k) (entry
 
 -- the request's own numbers come before
 abbrev pub admitRead : List Place → Reading → Change
-admitRead ps (about k t) = admitAt k t ps (lookup k ps)
+admitRead ps (about k t) = admitAt k t ps (unlessOld (lookup k ps))
 admitRead ps (declined n i) = refuse n i
 
 -- ---- the calls on the lent bytes s: the numbers, and the bytes afterwards
@@ -222,7 +245,7 @@ foundAt j none = nothing notThere 0
 foundAt j (some h) = record { no = 0; field = 0; start = j * width; text = h .text }
 
 abbrev pub findRead : List Place → Reading → Finding
-findRead ps (about k g) = foundAt (lowest (holds k) ps) (lookup k ps)
+findRead ps (about k g) = foundAt (lowest (holds k) ps) (unlessOld (lookup k ps))
 findRead ps (declined n i) = nothing n i
 
 abbrev pub findIn : Bytes → Option (List Place) → Finding

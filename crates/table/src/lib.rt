@@ -217,6 +217,16 @@ fn is_named(row: usize, title: &[u8]) -> bool
     text::are_same(title, &NAMES[start..end])
 }
 
+// The row has this name; false for a row that is not there.
+pub fn is_called(row: usize, title: &[u8]) -> bool
+    ensures { λ r. ⌜ r ≡ ofRow (λ k. same (now (title .entry)) (name k)) false row ⌝ }
+{
+    if row < ROWS {
+        return is_named(row, title);
+    }
+    false
+}
+
 fn is_kind(row: usize, title: &[u8], mark: u8) -> bool
     requires { ⌜ row < rowCount ⌝ }
     ensures { λ r. ⌜ r ≡ ofRow (isKind (now (title .entry)) mark) false row ⌝ }

@@ -62,6 +62,13 @@ fn rebuild(known: &[u8], s: &[u8], read: reading::Answer) -> usize {
     )
 }
 
+// The same of a public key, with Issuer and Signature, its fourth and fifth field, left empty.
+fn rebuild_unsigned(known: &[u8], s: &[u8], mut read: reading::Answer) -> usize {
+    read.lens[3] = 0;
+    read.lens[4] = 0;
+    rebuild(known, s, read)
+}
+
 // ---- texts
 
 fn write_text(call: usize, request: &[u8], made: &mut [u8]) -> put::Written {
@@ -316,12 +323,14 @@ pub(crate) const READ_HEX: usize = 45;
 
 pub(crate) const ADMIT: usize = 46;
 
-const BUILD: usize = 47;
+const BUILD_UNSIGNED: usize = 47;
+
+const BUILD: usize = 48;
 
 // Which of the names a word is; BUILD where it is none of them. Those behind `cabinet` are the names of calls in such a step.
 pub(crate) fn call_of(name: &[u8]) -> usize {
     let names =
-        b"newer file shared_info module_text centre_text module_item read_identity read_record identity_field record_field attribute attribute_named attributes sha384 thousandfold fingerprint check_fingerprint hmac module_tag centre_tag mac_key kek confirm_request confirm_response sha1 sha1_file sha1_thousandfold read_trailed build_trailed write_trailed trailed_file write_mail read_mail moment_of expiry_of cabinet make_cabinet check_cabinet count_keys put_key remove_key key_place find_key write write_hex read_hex admit";
+        b"newer file shared_info module_text centre_text module_item read_identity read_record identity_field record_field attribute attribute_named attributes sha384 thousandfold fingerprint check_fingerprint hmac module_tag centre_tag mac_key kek confirm_request confirm_response sha1 sha1_file sha1_thousandfold read_trailed build_trailed write_trailed trailed_file write_mail read_mail moment_of expiry_of cabinet make_cabinet check_cabinet count_keys put_key remove_key key_place find_key write write_hex read_hex admit build_unsigned";
     let mut k: usize = 0;
     while k < BUILD {
         if text::are_same(name, frame::part(b' ', names, k)) {
@@ -369,6 +378,7 @@ pub(crate) fn run<'a>(
         MOMENT_OF => dates::moment(known, a),
         EXPIRY_OF => dates::expiry(known, a),
         CABINET => filing::go(known, n, step),
+        BUILD_UNSIGNED => rebuild_unsigned(known, a, read(a)),
         BUILD => rebuild(known, a, read(a)),
         _ => part(known, call, n, a, b),
     }

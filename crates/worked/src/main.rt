@@ -46,10 +46,10 @@ fn run_step(title: &[u8], step: &[u8], known: &[u8]) -> usize {
 
 // Room for the input, which has no more lines than it has bytes. The length is stated because a proof that looked at this
 // many zeros would be slow.
-const ROOM: usize = 524288;
+const ROOM: usize = 1048576;
 
 fn room() -> [u8; ROOM]
-    ensures { λ r. ⌜ 524288 ≡ length r ⌝ }
+    ensures { λ r. ⌜ 1048576 ≡ length r ⌝ }
 {
     [0; ROOM]
 }

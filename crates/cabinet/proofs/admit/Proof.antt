@@ -40,8 +40,8 @@ field-at-requires c κs = search needs
 names-in-requires : tie.Need-names-in-requires
 names-in-requires c κs = search needs
 
-place-of-requires : tie.Need-place-of-requires
-place-of-requires c κs = (record { long = its-size (c .before .before .before .before .before .before .before .before .before .before .before .before .before .before .before .args .cabinet .now) (sym (not-false _ (c .before .before .before .before .before .before .before .before .before .before .if1 .left)) ∙ c .before .before .before .before .before .before .before .before .before .before .before .is-cabinet .ensures) }, omega arith)
+current-of-requires : tie.Need-current-of-requires
+current-of-requires c κs = record { long = its-size (c .before .before .before .before .before .before .before .before .before .before .before .before .before .before .before .args .cabinet .now) (sym (not-false _ (c .before .before .before .before .before .before .before .before .before .before .if1 .left)) ∙ c .before .before .before .before .before .before .before .before .before .before .before .is-cabinet .ensures) }
 
 file-requires-3 : tie.Need-file-requires-3
 file-requires-3 c κs = search needs
@@ -50,16 +50,16 @@ same-length-3 : tie.Need-same-length-3
 same-length-3 c = search needs
 
 returns-3 : tie.Need-returns-3
-returns-3 c = admits-26 (c .before .before .before .before .before .before .before .before .before .before .before .before .before .before .before .before .before .before .args .cabinet .now) (c .before .before .before .before .before .before .before .before .before .before .before .before .before .before .before .before .before .before .args .request .now) (sym (not-false _ (c .before .before .before .before .before .before .before .before .before .before .before .before .before .if1 .left)) ∙ c .before .before .before .before .before .before .before .before .before .before .before .before .before .before .is-cabinet .ensures) (c .before .before .before .before .before .before .before .before .before .before .before .before .read-of .ensures) (c .before .before .before .before .before .before .before .before .before .before .if2 .left) (c .before .before .before .before .before .field-at .ensures .holds) (c .before .before .before .names-in .ensures) (c .before .before .place-of .ensures) (c .before .if3 .taken) (c .file3 .ensures)
+returns-3 c = admits-26 (c .before .before .before .before .before .before .before .before .before .before .before .before .before .before .before .before .before .before .args .cabinet .now) (c .before .before .before .before .before .before .before .before .before .before .before .before .before .before .before .before .before .before .args .request .now) (sym (not-false _ (c .before .before .before .before .before .before .before .before .before .before .before .before .before .if1 .left)) ∙ c .before .before .before .before .before .before .before .before .before .before .before .before .before .before .is-cabinet .ensures) (c .before .before .before .before .before .before .before .before .before .before .before .before .read-of .ensures) (c .before .before .before .before .before .before .before .before .before .before .if2 .left) (c .before .before .before .before .before .field-at .ensures .holds) (c .before .before .before .names-in .ensures) (c .before .before .current-of .ensures) (c .before .if3 .taken) (c .file3 .ensures)
 
 field-at-requires-2 : tie.Need-field-at-requires-2
 field-at-requires-2 c κs = search needs
 
 place-at-requires : tie.Need-place-at-requires
-place-at-requires c κs = tvp-fits (c .before .before .before .before .before .before .before .before .before .before .before .before .before .before .before .before .before .before .before .before .before .args .cabinet .now) (c .before .before .before .before .before .before .before .before .before .before .before .before .before .before .before .before .before .before .before .before .before .args .request .now) (sym (not-false _ (c .before .before .before .before .before .before .before .before .before .before .before .before .before .before .before .before .if1 .left)) ∙ c .before .before .before .before .before .before .before .before .before .before .before .before .before .before .before .before .before .is-cabinet .ensures) (c .before .before .before .before .before .before .before .before .before .before .before .before .before .before .before .read-of .ensures) (c .before .before .before .before .before .before .before .before .before .before .before .before .before .if2 .left) (c .before .before .before .before .before .before .before .before .field-at .ensures .holds) (c .before .before .before .before .before .before .names-in .ensures) (c .before .before .before .before .before .place-of .ensures) (c .before .before .before .before .if3 .left) (c .before .field-at2 .ensures .holds) .in-place
+place-at-requires c κs = tvp-fits (c .before .before .before .before .before .before .before .before .before .before .before .before .before .before .before .before .before .before .before .before .before .args .cabinet .now) (c .before .before .before .before .before .before .before .before .before .before .before .before .before .before .before .before .before .before .before .before .before .args .request .now) (sym (not-false _ (c .before .before .before .before .before .before .before .before .before .before .before .before .before .before .before .before .if1 .left)) ∙ c .before .before .before .before .before .before .before .before .before .before .before .before .before .before .before .before .before .is-cabinet .ensures) (c .before .before .before .before .before .before .before .before .before .before .before .before .before .before .before .read-of .ensures) (c .before .before .before .before .before .before .before .before .before .before .before .before .before .if2 .left) (c .before .before .before .before .before .before .before .before .field-at .ensures .holds) (c .before .before .before .before .before .before .names-in .ensures) (c .before .before .before .before .before .current-of .ensures) (c .before .before .before .before .if3 .left) (c .before .field-at2 .ensures .holds) .in-place
 
 is-later-tvp-requires : tie.Need-is-later-tvp-requires
-is-later-tvp-requires c κs = ap length (c .place-at .ensures) ∙ length-part (c .before .before .before .before .before .before .before .before .before .before .before .before .before .before .before .before .before .before .before .before .before .before .args .cabinet .now) (c .before .before .before .before .before .before .place-of .result) (its-size (c .before .before .before .before .before .before .before .before .before .before .before .before .before .before .before .before .before .before .before .before .before .before .args .cabinet .now) (sym (not-false _ (c .before .before .before .before .before .before .before .before .before .before .before .before .before .before .before .before .before .if1 .left)) ∙ c .before .before .before .before .before .before .before .before .before .before .before .before .before .before .before .before .before .before .is-cabinet .ensures)) (admits-within (c .before .before .before .before .before .before .before .before .before .before .before .before .before .before .before .before .before .before .before .before .before .before .args .cabinet .now) (c .before .before .before .before .before .before .before .before .before .before .before .before .before .before .before .before .before .before .before .before .before .before .args .request .now) (sym (not-false _ (c .before .before .before .before .before .before .before .before .before .before .before .before .before .before .before .before .before .if1 .left)) ∙ c .before .before .before .before .before .before .before .before .before .before .before .before .before .before .before .before .before .before .is-cabinet .ensures) (c .before .before .before .before .before .before .before .before .before .before .before .before .before .before .before .before .read-of .ensures) (c .before .before .before .before .before .before .before .before .before .before .before .before .before .before .if2 .left) (c .before .before .before .before .before .before .before .before .before .field-at .ensures .holds) (c .before .before .before .before .before .before .before .names-in .ensures) (c .before .before .before .before .before .before .place-of .ensures) (c .before .before .before .before .before .if3 .left))
+is-later-tvp-requires c κs = ap length (c .place-at .ensures) ∙ length-part (c .before .before .before .before .before .before .before .before .before .before .before .before .before .before .before .before .before .before .before .before .before .before .args .cabinet .now) (c .before .before .before .before .before .before .current-of .result) (its-size (c .before .before .before .before .before .before .before .before .before .before .before .before .before .before .before .before .before .before .before .before .before .before .args .cabinet .now) (sym (not-false _ (c .before .before .before .before .before .before .before .before .before .before .before .before .before .before .before .before .before .if1 .left)) ∙ c .before .before .before .before .before .before .before .before .before .before .before .before .before .before .before .before .before .before .is-cabinet .ensures)) (admits-within (c .before .before .before .before .before .before .before .before .before .before .before .before .before .before .before .before .before .before .before .before .before .before .args .cabinet .now) (c .before .before .before .before .before .before .before .before .before .before .before .before .before .before .before .before .before .before .before .before .before .before .args .request .now) (sym (not-false _ (c .before .before .before .before .before .before .before .before .before .before .before .before .before .before .before .before .before .if1 .left)) ∙ c .before .before .before .before .before .before .before .before .before .before .before .before .before .before .before .before .before .before .is-cabinet .ensures) (c .before .before .before .before .before .before .before .before .before .before .before .before .before .before .before .before .read-of .ensures) (c .before .before .before .before .before .before .before .before .before .before .before .before .before .before .if2 .left) (c .before .before .before .before .before .before .before .before .before .field-at .ensures .holds) (c .before .before .before .before .before .before .before .names-in .ensures) (c .before .before .before .before .before .before .current-of .ensures) (c .before .before .before .before .before .if3 .left))
 
 file-requires-4 : tie.Need-file-requires-4
 file-requires-4 c κs = search needs
@@ -68,10 +68,10 @@ same-length-4 : tie.Need-same-length-4
 same-length-4 c = search needs
 
 returns-4 : tie.Need-returns-4
-returns-4 c = admits-27 (c .before .before .before .before .before .before .before .before .before .before .before .before .before .before .before .before .before .before .before .before .before .before .before .before .before .args .cabinet .now) (c .before .before .before .before .before .before .before .before .before .before .before .before .before .before .before .before .before .before .before .before .before .before .before .before .before .args .request .now) (sym (not-false _ (c .before .before .before .before .before .before .before .before .before .before .before .before .before .before .before .before .before .before .before .before .if1 .left)) ∙ c .before .before .before .before .before .before .before .before .before .before .before .before .before .before .before .before .before .before .before .before .before .is-cabinet .ensures) (c .before .before .before .before .before .before .before .before .before .before .before .before .before .before .before .before .before .before .before .read-of .ensures) (c .before .before .before .before .before .before .before .before .before .before .before .before .before .before .before .before .before .if2 .left) (c .before .before .before .before .before .before .before .before .before .before .before .before .field-at .ensures .holds) (c .before .before .before .before .before .before .before .before .before .before .names-in .ensures) (c .before .before .before .before .before .before .before .before .before .place-of .ensures) (c .before .before .before .before .before .before .before .before .if3 .left) (c .before .before .before .before .before .field-at2 .ensures .holds) (c .before .before .before .place-at .ensures) (c .before .before .is-later-tvp .ensures) (not-true _ (c .before .if4 .taken)) (c .file4 .ensures)
+returns-4 c = admits-27 (c .before .before .before .before .before .before .before .before .before .before .before .before .before .before .before .before .before .before .before .before .before .before .before .before .before .args .cabinet .now) (c .before .before .before .before .before .before .before .before .before .before .before .before .before .before .before .before .before .before .before .before .before .before .before .before .before .args .request .now) (sym (not-false _ (c .before .before .before .before .before .before .before .before .before .before .before .before .before .before .before .before .before .before .before .before .if1 .left)) ∙ c .before .before .before .before .before .before .before .before .before .before .before .before .before .before .before .before .before .before .before .before .before .is-cabinet .ensures) (c .before .before .before .before .before .before .before .before .before .before .before .before .before .before .before .before .before .before .before .read-of .ensures) (c .before .before .before .before .before .before .before .before .before .before .before .before .before .before .before .before .before .if2 .left) (c .before .before .before .before .before .before .before .before .before .before .before .before .field-at .ensures .holds) (c .before .before .before .before .before .before .before .before .before .before .names-in .ensures) (c .before .before .before .before .before .before .before .before .before .current-of .ensures) (c .before .before .before .before .before .before .before .before .if3 .left) (c .before .before .before .before .before .field-at2 .ensures .holds) (c .before .before .before .place-at .ensures) (c .before .before .is-later-tvp .ensures) (not-true _ (c .before .if4 .taken)) (c .file4 .ensures)
 
 write-tvp-requires : tie.Need-write-tvp-requires
-write-tvp-requires c κs = tvp-fits (c .before .before .before .before .before .before .before .before .before .before .before .before .before .before .before .before .before .before .before .before .before .before .before .before .before .args .cabinet .now) (c .before .before .before .before .before .before .before .before .before .before .before .before .before .before .before .before .before .before .before .before .before .before .before .before .before .args .request .now) (sym (not-false _ (c .before .before .before .before .before .before .before .before .before .before .before .before .before .before .before .before .before .before .before .before .if1 .left)) ∙ c .before .before .before .before .before .before .before .before .before .before .before .before .before .before .before .before .before .before .before .before .before .is-cabinet .ensures) (c .before .before .before .before .before .before .before .before .before .before .before .before .before .before .before .before .before .before .before .read-of .ensures) (c .before .before .before .before .before .before .before .before .before .before .before .before .before .before .before .before .before .if2 .left) (c .before .before .before .before .before .before .before .before .before .before .before .before .field-at .ensures .holds) (c .before .before .before .before .before .before .before .before .before .before .names-in .ensures) (c .before .before .before .before .before .before .before .before .before .place-of .ensures) (c .before .before .before .before .before .before .before .before .if3 .left) (c .before .before .before .before .before .field-at2 .ensures .holds)
+write-tvp-requires c κs = tvp-fits (c .before .before .before .before .before .before .before .before .before .before .before .before .before .before .before .before .before .before .before .before .before .before .before .before .before .args .cabinet .now) (c .before .before .before .before .before .before .before .before .before .before .before .before .before .before .before .before .before .before .before .before .before .before .before .before .before .args .request .now) (sym (not-false _ (c .before .before .before .before .before .before .before .before .before .before .before .before .before .before .before .before .before .before .before .before .if1 .left)) ∙ c .before .before .before .before .before .before .before .before .before .before .before .before .before .before .before .before .before .before .before .before .before .is-cabinet .ensures) (c .before .before .before .before .before .before .before .before .before .before .before .before .before .before .before .before .before .before .before .read-of .ensures) (c .before .before .before .before .before .before .before .before .before .before .before .before .before .before .before .before .before .if2 .left) (c .before .before .before .before .before .before .before .before .before .before .before .before .field-at .ensures .holds) (c .before .before .before .before .before .before .before .before .before .before .names-in .ensures) (c .before .before .before .before .before .before .before .before .before .current-of .ensures) (c .before .before .before .before .before .before .before .before .if3 .left) (c .before .before .before .before .before .field-at2 .ensures .holds)
 
 file-requires-5 : tie.Need-file-requires-5
 file-requires-5 c κs = search needs
@@ -80,7 +80,7 @@ same-length-5 : tie.Need-same-length-5
 same-length-5 c = search needs
 
 returns-5 : tie.Need-returns-5
-returns-5 c = admits-done (c .before .before .before .before .before .before .before .before .before .before .before .before .before .before .before .before .before .before .before .before .before .before .before .before .before .before .before .before .before .args .cabinet .now) (c .before .before .before .before .before .before .before .before .before .before .before .before .before .before .before .before .before .before .before .before .before .before .before .before .before .before .before .before .before .args .request .now) (sym (not-false _ (c .before .before .before .before .before .before .before .before .before .before .before .before .before .before .before .before .before .before .before .before .before .before .before .before .if1 .left)) ∙ c .before .before .before .before .before .before .before .before .before .before .before .before .before .before .before .before .before .before .before .before .before .before .before .before .before .is-cabinet .ensures) (c .before .before .before .before .before .before .before .before .before .before .before .before .before .before .before .before .before .before .before .before .before .before .before .read-of .ensures) (c .before .before .before .before .before .before .before .before .before .before .before .before .before .before .before .before .before .before .before .before .before .if2 .left) (c .before .before .before .before .before .before .before .before .before .before .before .before .before .before .before .before .field-at .ensures .holds) (c .before .before .before .before .before .before .before .before .before .before .before .before .before .before .names-in .ensures) (c .before .before .before .before .before .before .before .before .before .before .before .before .before .place-of .ensures) (c .before .before .before .before .before .before .before .before .before .before .before .before .if3 .left) (c .before .before .before .before .before .before .before .before .before .field-at2 .ensures .holds) (c .before .before .before .before .before .before .before .place-at .ensures) (c .before .before .before .before .before .before .is-later-tvp .ensures) (not-false _ (c .before .before .before .before .before .if4 .left)) (c .before .before .before .write-tvp .ensures) (c .file5 .ensures)
+returns-5 c = admits-done (c .before .before .before .before .before .before .before .before .before .before .before .before .before .before .before .before .before .before .before .before .before .before .before .before .before .before .before .before .before .args .cabinet .now) (c .before .before .before .before .before .before .before .before .before .before .before .before .before .before .before .before .before .before .before .before .before .before .before .before .before .before .before .before .before .args .request .now) (sym (not-false _ (c .before .before .before .before .before .before .before .before .before .before .before .before .before .before .before .before .before .before .before .before .before .before .before .before .if1 .left)) ∙ c .before .before .before .before .before .before .before .before .before .before .before .before .before .before .before .before .before .before .before .before .before .before .before .before .before .is-cabinet .ensures) (c .before .before .before .before .before .before .before .before .before .before .before .before .before .before .before .before .before .before .before .before .before .before .before .read-of .ensures) (c .before .before .before .before .before .before .before .before .before .before .before .before .before .before .before .before .before .before .before .before .before .if2 .left) (c .before .before .before .before .before .before .before .before .before .before .before .before .before .before .before .before .field-at .ensures .holds) (c .before .before .before .before .before .before .before .before .before .before .before .before .before .before .names-in .ensures) (c .before .before .before .before .before .before .before .before .before .before .before .before .before .current-of .ensures) (c .before .before .before .before .before .before .before .before .before .before .before .before .if3 .left) (c .before .before .before .before .before .before .before .before .before .field-at2 .ensures .holds) (c .before .before .before .before .before .before .before .place-at .ensures) (c .before .before .before .before .before .before .is-later-tvp .ensures) (not-false _ (c .before .before .before .before .before .if4 .left)) (c .before .before .before .write-tvp .ensures) (c .file5 .ensures)
 
 pub admit-spec : {M : Type 1} → statement M
 admit-spec =
@@ -96,7 +96,7 @@ admit-spec =
     returns-2
     field-at-requires
     names-in-requires
-    place-of-requires
+    current-of-requires
     file-requires-3
     same-length-3
     returns-3

@@ -47,20 +47,20 @@ is-tvp-requires c κs = search needs
 returns-4 : tie.Need-returns-4
 returns-4 c = place-dateless (c .before .before .before .before .before .before .before .before .before .before .args .place .now) (c .before .before .before .before .before .before .before .before .before .before .pre) (c .before .before .before .before .before .before .before .before .next-mark .ensures) (c .before .before .before .before .before .before .before .if1 .left) (c .before .before .before .before .before .before .if2 .left) (sym (c .before .is-tvp .ensures) ∙ not-true _ (c .if4 .taken))
 
-sub-expiry-of : tie.Need-sub-expiry-of
-sub-expiry-of c = search needs
+sub-expiry-under : tie.Need-sub-expiry-under
+sub-expiry-under c = search needs
 
-part-expiry-of-start : tie.Need-part-expiry-of-start
-part-expiry-of-start c = search needs
+part-expiry-under-start : tie.Need-part-expiry-under-start
+part-expiry-under-start c = search needs
 
-part-expiry-of-end : tie.Need-part-expiry-of-end
-part-expiry-of-end c = omega (arith, c .before .before .before .before .before .before .before .before .before .before .pre, c .before .before .before .before .before .before .if2 .left)
+part-expiry-under-end : tie.Need-part-expiry-under-end
+part-expiry-under-end c = omega (arith, c .before .before .before .before .before .before .before .before .before .before .pre, c .before .before .before .before .before .before .if2 .left)
 
-expiry-of-requires : tie.Need-expiry-of-requires
-expiry-of-requires c κs = search needs
+expiry-under-requires : tie.Need-expiry-under-requires
+expiry-under-requires c κs = search needs
 
 returns-5 : tie.Need-returns-5
-returns-5 c = place-other (c .before .before .before .before .before .before .before .before .before .before .before .before .before .before .args .place .now) (c .before .before .before .before .before .before .before .before .before .before .before .before .before .before .pre) (c .before .before .before .before .before .before .before .before .before .before .before .before .next-mark .ensures) (c .before .before .before .before .before .before .before .before .before .before .before .if1 .left) (c .before .before .before .before .before .before .before .before .before .before .if2 .left) (sym (c .before .before .before .before .before .before .before .before .are-zeros2 .ensures) ∙ not-false _ (c .before .before .before .before .before .before .before .if3 .left)) (sym (c .before .before .before .before .before .is-tvp .ensures) ∙ not-false _ (c .before .before .before .before .if4 .left)) (c .before .before .expiry-of .ensures) (c .if5 .taken)
+returns-5 c = place-other (c .before .before .before .before .before .before .before .before .before .before .before .before .before .before .args .place .now) (c .before .before .before .before .before .before .before .before .before .before .before .before .before .before .pre) (c .before .before .before .before .before .before .before .before .before .before .before .before .next-mark .ensures) (c .before .before .before .before .before .before .before .before .before .before .before .if1 .left) (c .before .before .before .before .before .before .before .before .before .before .if2 .left) (sym (c .before .before .before .before .before .before .before .before .are-zeros2 .ensures) ∙ not-false _ (c .before .before .before .before .before .before .before .if3 .left)) (sym (c .before .before .before .before .before .is-tvp .ensures) ∙ not-false _ (c .before .before .before .before .if4 .left)) (c .before .before .expiry-under .ensures) (c .if5 .taken)
 
 seconds-bytes-requires : tie.Need-seconds-bytes-requires
 seconds-bytes-requires c κs = search needs
@@ -81,7 +81,7 @@ are-same-requires : tie.Need-are-same-requires
 are-same-requires c κs = search needs
 
 returns-6 : tie.Need-returns-6
-returns-6 c = c .are-same .ensures ∙ place-number (c .before .before .before .before .before .before .before .before .before .before .before .before .before .before .before .before .before .before .before .args .place .now) (c .before .before .before .before .before .before .before .before .before .before .before .before .before .before .before .before .before .before .before .pre) (c .before .before .before .before .before .before .before .before .before .before .before .before .before .before .before .before .before .next-mark .ensures) (c .before .before .before .before .before .before .before .before .before .before .before .before .before .before .before .before .if1 .left) (c .before .before .before .before .before .before .before .before .before .before .before .before .before .before .before .if2 .left) (sym (c .before .before .before .before .before .before .before .before .before .before .before .before .before .are-zeros2 .ensures) ∙ not-false _ (c .before .before .before .before .before .before .before .before .before .before .before .before .if3 .left)) (sym (c .before .before .before .before .before .before .before .before .before .before .is-tvp .ensures) ∙ not-false _ (c .before .before .before .before .before .before .before .before .before .if4 .left)) (c .before .before .before .before .before .before .before .expiry-of .ensures) (c .before .before .before .before .before .if5 .left) (c .before .before .before .seconds-bytes .ensures)
+returns-6 c = c .are-same .ensures ∙ place-number (c .before .before .before .before .before .before .before .before .before .before .before .before .before .before .before .before .before .before .before .args .place .now) (c .before .before .before .before .before .before .before .before .before .before .before .before .before .before .before .before .before .before .before .pre) (c .before .before .before .before .before .before .before .before .before .before .before .before .before .before .before .before .before .next-mark .ensures) (c .before .before .before .before .before .before .before .before .before .before .before .before .before .before .before .before .if1 .left) (c .before .before .before .before .before .before .before .before .before .before .before .before .before .before .before .if2 .left) (sym (c .before .before .before .before .before .before .before .before .before .before .before .before .before .are-zeros2 .ensures) ∙ not-false _ (c .before .before .before .before .before .before .before .before .before .before .before .before .if3 .left)) (sym (c .before .before .before .before .before .before .before .before .before .before .is-tvp .ensures) ∙ not-false _ (c .before .before .before .before .before .before .before .before .before .if4 .left)) (c .before .before .before .before .before .before .before .expiry-under .ensures) (c .before .before .before .before .before .if5 .left) (c .before .before .before .seconds-bytes .ensures)
 
 pub is-place-spec : {M : Type 1} → statement M
 is-place-spec =
@@ -100,10 +100,10 @@ is-place-spec =
     part-is-tvp-end
     is-tvp-requires
     returns-4
-    sub-expiry-of
-    part-expiry-of-start
-    part-expiry-of-end
-    expiry-of-requires
+    sub-expiry-under
+    part-expiry-under-start
+    part-expiry-under-end
+    expiry-under-requires
     returns-5
     seconds-bytes-requires
     sub-are-same

@@ -3,7 +3,7 @@
 use mathlib.Core.Path.{sym, _∙_}
 use native.Mathlib.Omega.{arith}
 use borrow.Author.Tests.{not-true, not-false}
-use Rattle.cabinet.proofs.Calls.{its-size, found-within, finds-23, finds-own, finds-26, finds-done}
+use Rattle.cabinet.proofs.Calls.{its-size, current-within, finds-23, finds-own, finds-26, finds-done}
 use borrow.Author.Needs.{needs}
 use Rattle.cabinet.proofs.key_place.Statement.{statement}
 use Rattle.cabinet.proofs.key_place.Tie as tie
@@ -29,26 +29,26 @@ returns-2 c = finds-own (c .before .before .before .before .before .before .befo
 names-in-requires : tie.Need-names-in-requires
 names-in-requires c κs = search needs
 
-place-of-requires : tie.Need-place-of-requires
-place-of-requires c κs = (record { long = its-size (c .before .before .before .before .before .before .before .before .args .cabinet .now) (sym (not-false _ (c .before .before .before .before .if1 .left)) ∙ c .before .before .before .before .before .is-cabinet .ensures) }, omega arith)
+current-of-requires : tie.Need-current-of-requires
+current-of-requires c κs = record { long = its-size (c .before .before .before .before .before .before .before .before .args .cabinet .now) (sym (not-false _ (c .before .before .before .before .if1 .left)) ∙ c .before .before .before .before .before .is-cabinet .ensures) }
 
 find-none-requires-3 : tie.Need-find-none-requires-3
 find-none-requires-3 c κs = search needs
 
 returns-3 : tie.Need-returns-3
-returns-3 c = finds-26 (c .before .before .before .before .before .before .before .before .before .before .before .args .cabinet .now) (c .before .before .before .before .before .before .before .before .before .before .before .args .identity .now) (sym (not-false _ (c .before .before .before .before .before .before .before .if1 .left)) ∙ c .before .before .before .before .before .before .before .before .is-cabinet .ensures) (c .before .before .before .before .before .before .read-identity .ensures) (c .before .before .before .before .if2 .left) (c .before .before .before .names-in .ensures) (c .before .before .place-of .ensures) (c .before .if3 .taken) (c .find-none3 .ensures)
+returns-3 c = finds-26 (c .before .before .before .before .before .before .before .before .before .before .before .args .cabinet .now) (c .before .before .before .before .before .before .before .before .before .before .before .args .identity .now) (sym (not-false _ (c .before .before .before .before .before .before .before .if1 .left)) ∙ c .before .before .before .before .before .before .before .before .is-cabinet .ensures) (c .before .before .before .before .before .before .read-identity .ensures) (c .before .before .before .before .if2 .left) (c .before .before .before .names-in .ensures) (c .before .before .current-of .ensures) (c .before .if3 .taken) (c .find-none3 .ensures)
 
 mul-t8 : tie.Need-mul-t8
-mul-t8 c = omega (arith, found-within (c .before .before .before .before .before .before .before .before .before .before .args .cabinet .now) (c .before .before .before .before .before .before .before .before .before .before .args .identity .now) (sym (not-false _ (c .before .before .before .before .before .before .if1 .left)) ∙ c .before .before .before .before .before .before .before .is-cabinet .ensures) (c .before .before .before .before .before .read-identity .ensures) (c .before .before .before .if2 .left) (c .before .before .names-in .ensures) (c .before .place-of .ensures) (c .if3 .left))
+mul-t8 c = omega (arith, current-within (c .before .before .before .before .before .before .before .before .before .before .args .cabinet .now) (c .before .before .before .before .before .before .before .before .before .before .args .identity .now) (sym (not-false _ (c .before .before .before .before .before .before .if1 .left)) ∙ c .before .before .before .before .before .before .before .is-cabinet .ensures) (c .before .before .before .before .before .read-identity .ensures) (c .before .before .before .if2 .left) (c .before .before .names-in .ensures) (c .before .current-of .ensures) (c .if3 .left))
 
 place-at-requires : tie.Need-place-at-requires
-place-at-requires c κs = record { long = its-size (c .before .before .before .before .before .before .before .before .before .before .args .cabinet .now) (sym (not-false _ (c .before .before .before .before .before .before .if1 .left)) ∙ c .before .before .before .before .before .before .before .is-cabinet .ensures); place = found-within (c .before .before .before .before .before .before .before .before .before .before .args .cabinet .now) (c .before .before .before .before .before .before .before .before .before .before .args .identity .now) (sym (not-false _ (c .before .before .before .before .before .before .if1 .left)) ∙ c .before .before .before .before .before .before .before .is-cabinet .ensures) (c .before .before .before .before .before .read-identity .ensures) (c .before .before .before .if2 .left) (c .before .before .names-in .ensures) (c .before .place-of .ensures) (c .if3 .left) }
+place-at-requires c κs = record { long = its-size (c .before .before .before .before .before .before .before .before .before .before .args .cabinet .now) (sym (not-false _ (c .before .before .before .before .before .before .if1 .left)) ∙ c .before .before .before .before .before .before .before .is-cabinet .ensures); place = current-within (c .before .before .before .before .before .before .before .before .before .before .args .cabinet .now) (c .before .before .before .before .before .before .before .before .before .before .args .identity .now) (sym (not-false _ (c .before .before .before .before .before .before .if1 .left)) ∙ c .before .before .before .before .before .before .before .is-cabinet .ensures) (c .before .before .before .before .before .read-identity .ensures) (c .before .before .before .if2 .left) (c .before .before .names-in .ensures) (c .before .current-of .ensures) (c .if3 .left) }
 
 next-mark-requires : tie.Need-next-mark-requires
 next-mark-requires c κs = search needs
 
 returns-4 : tie.Need-returns-4
-returns-4 c = finds-done (c .before .before .before .before .before .before .before .before .before .before .before .before .args .cabinet .now) (c .before .before .before .before .before .before .before .before .before .before .before .before .args .identity .now) (sym (not-false _ (c .before .before .before .before .before .before .before .before .if1 .left)) ∙ c .before .before .before .before .before .before .before .before .before .is-cabinet .ensures) (c .before .before .before .before .before .before .before .read-identity .ensures) (c .before .before .before .before .before .if2 .left) (c .before .before .before .before .names-in .ensures) (c .before .before .before .place-of .ensures) (c .before .before .if3 .left) (c .before .place-at .ensures) (c .next-mark .ensures)
+returns-4 c = finds-done (c .before .before .before .before .before .before .before .before .before .before .before .before .args .cabinet .now) (c .before .before .before .before .before .before .before .before .before .before .before .before .args .identity .now) (sym (not-false _ (c .before .before .before .before .before .before .before .before .if1 .left)) ∙ c .before .before .before .before .before .before .before .before .before .is-cabinet .ensures) (c .before .before .before .before .before .before .before .read-identity .ensures) (c .before .before .before .before .before .if2 .left) (c .before .before .before .before .names-in .ensures) (c .before .before .before .current-of .ensures) (c .before .before .if3 .left) (c .before .place-at .ensures) (c .next-mark .ensures)
 
 pub key-place-spec : {M : Type 1} → statement M
 key-place-spec =
@@ -61,7 +61,7 @@ key-place-spec =
     find-none-requires-2
     returns-2
     names-in-requires
-    place-of-requires
+    current-of-requires
     find-none-requires-3
     returns-3
     mul-t8

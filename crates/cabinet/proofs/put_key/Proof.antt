@@ -4,7 +4,7 @@ use mathlib.Core.Path.{sym, _∙_}
 use native.Mathlib.Omega.{arith}
 use borrow.Author.Tests.{not-true, not-false}
 use Rattle.cabinet.proofs.Bytes.{start-fits}
-use Rattle.cabinet.proofs.Decoding.{number-so, number-short}
+use Rattle.cabinet.proofs.Decoding.{number-short}
 use Rattle.cabinet.proofs.Calls.{its-size, puts-short, to-within, puts-23, puts-own, puts-24, puts-again, puts-25, puts-first}
 use borrow.Author.Needs.{needs}
 use Rattle.cabinet.proofs.put_key.Statement.{statement}
@@ -74,7 +74,7 @@ same-length-4 : tie.Need-same-length-4
 same-length-4 c = search needs
 
 returns-4 : tie.Need-returns-4
-returns-4 c = puts-again (c .before .before .before .before .before .before .before .before .before .before .before .before .before .before .before .before .before .before .before .before .before .before .before .before .before .args .cabinet .now) (c .before .before .before .before .before .before .before .before .before .before .before .before .before .before .before .before .before .before .before .before .before .before .before .before .before .args .record .now) (sym (not-false _ (c .before .before .before .before .before .before .before .before .before .before .before .before .before .before .before .before .before .before .before .before .if1 .left)) ∙ c .before .before .before .before .before .before .before .before .before .before .before .before .before .before .before .before .before .before .before .before .before .is-cabinet .ensures) (c .before .before .before .before .before .before .before .before .before .before .before .before .before .before .before .before .before .before .before .expiry-of .ensures) (c .before .before .before .before .before .before .before .before .before .before .before .before .before .before .before .before .before .if2 .left) (c .before .before .before .before .before .before .before .before .before .before .before .before .before .before .subject-in .ensures) (c .before .before .before .before .before .before .before .before .before .before .before .before .names-in .ensures) (c .before .before .before .before .before .before .before .before .before .before .before .place-of .ensures) (c .before .before .before .before .before .before .before .before .before .before .if3 .taken) (c .before .before .before .before .before .before .before .before .place-at .ensures) (c .before .before .before .before .before .before .before .is-later-than .ensures) (not-false _ (c .before .before .before .before .before .before .if4 .left)) (number-so (c .before .before .before .before .before .before .before .before .before .before .before .before .before .before .before .before .before .before .before .before .before .before .before .before .before .args .record .now) (c .before .before .before .before .before .before .before .before .before .before .before .before .before .before .before .before .before .before .before .expiry-of .ensures) (c .before .before .before .before .before .before .before .before .before .before .before .before .before .before .before .seconds-bytes .ensures)) (c .before .before .before .write-key .ensures) (c .file4 .ensures)
+returns-4 c = puts-again (c .before .before .before .before .before .before .before .before .before .before .before .before .before .before .before .before .before .before .before .before .before .before .before .before .before .args .cabinet .now) (c .before .before .before .before .before .before .before .before .before .before .before .before .before .before .before .before .before .before .before .before .before .before .before .before .before .args .record .now) (sym (not-false _ (c .before .before .before .before .before .before .before .before .before .before .before .before .before .before .before .before .before .before .before .before .if1 .left)) ∙ c .before .before .before .before .before .before .before .before .before .before .before .before .before .before .before .before .before .before .before .before .before .is-cabinet .ensures) (c .before .before .before .before .before .before .before .before .before .before .before .before .before .before .before .before .before .before .before .expiry-of .ensures) (c .before .before .before .before .before .before .before .before .before .before .before .before .before .before .before .before .before .if2 .left) (c .before .before .before .before .before .before .before .before .before .before .before .before .before .before .subject-in .ensures) (c .before .before .before .before .before .before .before .before .before .before .before .before .names-in .ensures) (c .before .before .before .before .before .before .before .before .before .before .before .place-of .ensures) (c .before .before .before .before .before .before .before .before .before .before .if3 .taken) (c .before .before .before .before .before .before .before .before .place-at .ensures) (c .before .before .before .before .before .before .before .is-later-than .ensures) (not-false _ (c .before .before .before .before .before .before .if4 .left)) (c .before .before .before .before .before .before .before .before .before .before .before .before .before .before .before .seconds-bytes .ensures) (c .before .before .before .write-key .ensures) (c .file4 .ensures)
 
 free-at-requires : tie.Need-free-at-requires
 free-at-requires c κs = record { long = its-size (c .before .before .before .before .before .before .before .before .before .before .before .before .before .before .before .before .args .cabinet .now) (sym (not-false _ (c .before .before .before .before .before .before .before .before .before .before .before .if1 .left)) ∙ c .before .before .before .before .before .before .before .before .before .before .before .before .is-cabinet .ensures) }
@@ -104,7 +104,7 @@ same-length-6 : tie.Need-same-length-6
 same-length-6 c = search needs
 
 returns-6 : tie.Need-returns-6
-returns-6 c = puts-first (c .before .before .before .before .before .before .before .before .before .before .before .before .before .before .before .before .before .before .before .before .before .before .before .before .before .args .cabinet .now) (c .before .before .before .before .before .before .before .before .before .before .before .before .before .before .before .before .before .before .before .before .before .before .before .before .before .args .record .now) (sym (not-false _ (c .before .before .before .before .before .before .before .before .before .before .before .before .before .before .before .before .before .before .before .before .if1 .left)) ∙ c .before .before .before .before .before .before .before .before .before .before .before .before .before .before .before .before .before .before .before .before .before .is-cabinet .ensures) (c .before .before .before .before .before .before .before .before .before .before .before .before .before .before .before .before .before .before .before .expiry-of .ensures) (c .before .before .before .before .before .before .before .before .before .before .before .before .before .before .before .before .before .if2 .left) (c .before .before .before .before .before .before .before .before .before .before .before .before .before .before .subject-in .ensures) (c .before .before .before .before .before .before .before .before .before .before .before .before .names-in .ensures) (c .before .before .before .before .before .before .before .before .before .before .before .place-of .ensures) (c .before .before .before .before .before .before .before .before .before .before .if3 .left) (c .before .before .before .before .before .before .before .before .free-at .ensures) (c .before .before .before .before .before .before .before .if5 .left) (number-so (c .before .before .before .before .before .before .before .before .before .before .before .before .before .before .before .before .before .before .before .before .before .before .before .before .before .args .record .now) (c .before .before .before .before .before .before .before .before .before .before .before .before .before .before .before .before .before .before .before .expiry-of .ensures) (c .before .before .before .before .before .before .before .before .before .before .before .before .before .before .before .seconds-bytes .ensures)) (c .before .before .before .write-place .ensures) (c .file6 .ensures)
+returns-6 c = puts-first (c .before .before .before .before .before .before .before .before .before .before .before .before .before .before .before .before .before .before .before .before .before .before .before .before .before .args .cabinet .now) (c .before .before .before .before .before .before .before .before .before .before .before .before .before .before .before .before .before .before .before .before .before .before .before .before .before .args .record .now) (sym (not-false _ (c .before .before .before .before .before .before .before .before .before .before .before .before .before .before .before .before .before .before .before .before .if1 .left)) ∙ c .before .before .before .before .before .before .before .before .before .before .before .before .before .before .before .before .before .before .before .before .before .is-cabinet .ensures) (c .before .before .before .before .before .before .before .before .before .before .before .before .before .before .before .before .before .before .before .expiry-of .ensures) (c .before .before .before .before .before .before .before .before .before .before .before .before .before .before .before .before .before .if2 .left) (c .before .before .before .before .before .before .before .before .before .before .before .before .before .before .subject-in .ensures) (c .before .before .before .before .before .before .before .before .before .before .before .before .names-in .ensures) (c .before .before .before .before .before .before .before .before .before .before .before .place-of .ensures) (c .before .before .before .before .before .before .before .before .before .before .if3 .left) (c .before .before .before .before .before .before .before .before .free-at .ensures) (c .before .before .before .before .before .before .before .if5 .left) (c .before .before .before .before .before .before .before .before .before .before .before .before .before .before .before .seconds-bytes .ensures) (c .before .before .before .write-place .ensures) (c .file6 .ensures)
 
 pub put-key-spec : {M : Type 1} → statement M
 put-key-spec =

@@ -10,6 +10,7 @@ use Rattle.promises.proofs.TextTypes.{text-types}
 use Rattle.promises.proofs.Conversion.{conversion}
 use Rattle.promises.proofs.Calendar.{calendar}
 use Rattle.promises.proofs.Reading.{reading}
+use Rattle.promises.proofs.Rulings.{rulings}
 use Rattle.promises.proofs.Attributes.{attributes}
 use Rattle.promises.proofs.Building.{building}
 use Rattle.promises.proofs.Rebuilding.{rebuilding}
@@ -33,7 +34,7 @@ use Rattle.promises.proofs.promised.Statement.{statement}
 use Rattle.promises.proofs.promised.Tie as tie
 
 returns : tie.Need-returns
-returns c = (total, determined, interface, refusals, field-numbers, check, text-types, conversion, calendar, reading, attributes, building, rebuilding, agreement, files, manufacturers, by-mail, cabinet, dates, listing, demand3, newest, hash, fingerprints, confirmations, witnesses, forms, all-starred, all-fixed)
+returns c = (total, determined, interface, refusals, field-numbers, check, text-types, conversion, calendar, reading, rulings, attributes, building, rebuilding, agreement, files, manufacturers, by-mail, cabinet, dates, listing, demand3, newest, hash, fingerprints, confirmations, witnesses, forms, all-starred, all-fixed)
 
 pub promised-spec : {M : Type 1} → statement M
 promised-spec = tie.close (tie.spec returns)

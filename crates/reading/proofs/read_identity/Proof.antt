@@ -5,6 +5,7 @@ use mathlib.Core.Path.{_≡_, sym, ap, _∙_}
 use Rattle.format.specs.Kinds.{identityKinds}
 use Rattle.format.specs.Read.{accepted, readIdentity, nobody}
 use Rattle.format.proofs.Exactly.{identity-exact, its-parts}
+use Rattle.format.specs.declared.Rules.the-variants.{Today}
 use Rattle.reading.specs.Reading.{answerOf}
 use Rattle.reading.proofs.Answers.{taken-so}
 use Rattle.reading.proofs.Outcomes.{over-long}
@@ -21,7 +22,7 @@ refuse-requires : tie.Need-refuse-requires
 refuse-requires c κs = search needs
 
 returns : tie.Need-returns
-returns c = c .refuse .ensures ∙ sym (ap answerOf (identity-is _ ∙ over-long nobody identityKinds (now (c .before .before .before .args .identity)) (c .before .if1 .taken)))
+returns c = c .refuse .ensures ∙ sym (ap answerOf (identity-is _ ∙ over-long Today nobody identityKinds (now (c .before .before .before .args .identity)) (c .before .if1 .taken)))
 
 title-of-requires : tie.Need-title-of-requires
 title-of-requires c κs = search needs
@@ -39,7 +40,7 @@ refuse-requires-2 : tie.Need-refuse-requires-2
 refuse-requires-2 c κs = search needs
 
 returns-2 : tie.Need-returns-2
-returns-2 c = c .refuse2 .ensures ∙ sym (ap answerOf (identity-is _ ∙ call-form nobody (start (c .before .before)) (c .before .if2 .taken)))
+returns-2 c = c .refuse2 .ensures ∙ sym (ap answerOf (identity-is _ ∙ call-form nobody (start (c .before .before)) Today (c .before .if2 .taken)))
 
 body-of-requires : tie.Need-body-of-requires
 body-of-requires c κs = search needs
@@ -57,7 +58,7 @@ refuse-requires-3 : tie.Need-refuse-requires-3
 refuse-requires-3 c κs = search needs
 
 returns-3 : tie.Need-returns-3
-returns-3 c = c .refuse3 .ensures ∙ sym (ap answerOf (identity-is _ ∙ call-many nobody (start (c .before .before .before .before .before .before .before .before)) (c .before .before .before .before .before .before .before .if2 .left) _ (c .before .before .before .before .before .before .body-of .ensures .holds) _ (c .before .before .before .before .before .mark-of .ensures) _ (c .before .before .before .before .places-of .ensures) _ (c .before .before .before .count-of .ensures) (c .before .if3 .taken)))
+returns-3 c = c .refuse3 .ensures ∙ sym (ap answerOf (identity-is _ ∙ call-many nobody (start (c .before .before .before .before .before .before .before .before)) (c .before .before .before .before .before .before .before .if2 .left) _ (c .before .before .before .before .before .before .body-of .ensures .holds) _ (c .before .before .before .before .before .mark-of .ensures) _ (c .before .before .before .before .places-of .ensures) Today _ (c .before .before .before .count-of .ensures) (c .before .if3 .taken)))
 
 identity-fields-requires : tie.Need-identity-fields-requires
 identity-fields-requires c κs = identity-below (start (c .before .before .before .before .before .before .before .before .before .before .before)) (c .before .before .before .before .before .before .before .before .before .before .if2 .left)
@@ -66,12 +67,12 @@ refuse-requires-4 : tie.Need-refuse-requires-4
 refuse-requires-4 c κs = search needs
 
 returns-4 : tie.Need-returns-4
-returns-4 c = c .refuse4 .ensures ∙ sym (ap answerOf (identity-is _ ∙ call-field nobody (start (c .before .before .before .before .before .before .before .before .before .before .before .before .before .before .before)) (c .before .before .before .before .before .before .before .before .before .before .before .before .before .before .if2 .left) _ (c .before .before .before .before .before .before .before .before .before .before .before .before .before .body-of .ensures .holds) _ (c .before .before .before .before .before .before .before .before .before .before .before .before .mark-of .ensures) _ (c .before .before .before .before .before .before .before .before .before .before .before .places-of .ensures) _ (c .before .before .before .before .before .before .before .before .before .before .count-of .ensures) (c .before .before .before .before .before .before .before .before .if3 .left) (c .before .before .before .identity-fields .ensures) (c .before .if4 .taken)))
+returns-4 c = c .refuse4 .ensures ∙ sym (ap answerOf (identity-is _ ∙ call-field nobody (start (c .before .before .before .before .before .before .before .before .before .before .before .before .before .before .before)) (c .before .before .before .before .before .before .before .before .before .before .before .before .before .before .if2 .left) _ (c .before .before .before .before .before .before .before .before .before .before .before .before .before .body-of .ensures .holds) _ (c .before .before .before .before .before .before .before .before .before .before .before .before .mark-of .ensures) _ (c .before .before .before .before .before .before .before .before .before .before .before .places-of .ensures) _ (c .before .before .before .before .before .before .before .before .before .before .count-of .ensures) (c .before .before .before .before .before .before .before .before .if3 .left) (c .before .before .before .identity-fields .ensures) Today (c .before .if4 .taken)))
 
 returns-5 : tie.Need-returns-5
 returns-5 c =
     let s = start (c .before .before .before .before .before .before .before .before .before .before .before .before .before .before) in let z = c .before .before .before .before .before .before .before .before .before .before .before .before .before .if2 .left in
-    let read : readIdentity (now (c .before .before .before .before .before .before .before .before .before .before .before .before .before .before .before .before .before .before .before .before .args .identity)) ≡ accepted (call-kind nobody s z .kind) (call-parts nobody s z) = identity-is _ ∙ call-accepted nobody (start (c .before .before .before .before .before .before .before .before .before .before .before .before .before .before)) (c .before .before .before .before .before .before .before .before .before .before .before .before .before .if2 .left) _ (c .before .before .before .before .before .before .before .before .before .before .before .before .body-of .ensures .holds) _ (c .before .before .before .before .before .before .before .before .before .before .before .mark-of .ensures) _ (c .before .before .before .before .before .before .before .before .before .before .places-of .ensures) _ (c .before .before .before .before .before .before .before .before .before .count-of .ensures) (c .before .before .before .before .before .before .before .if3 .left) (c .before .before .identity-fields .ensures) (c .if4 .left) (identity-plain s z) in
+    let read : readIdentity (now (c .before .before .before .before .before .before .before .before .before .before .before .before .before .before .before .before .before .before .before .before .args .identity)) ≡ accepted (call-kind nobody s z .kind) (call-parts nobody s z) = identity-is _ ∙ call-accepted nobody (start (c .before .before .before .before .before .before .before .before .before .before .before .before .before .before)) (c .before .before .before .before .before .before .before .before .before .before .before .before .before .if2 .left) _ (c .before .before .before .before .before .before .before .before .before .before .before .before .body-of .ensures .holds) _ (c .before .before .before .before .before .before .before .before .before .before .before .mark-of .ensures) _ (c .before .before .before .before .before .before .before .before .before .before .places-of .ensures) _ (c .before .before .before .before .before .before .before .before .before .count-of .ensures) (c .before .before .before .before .before .before .before .if3 .left) (c .before .before .identity-fields .ensures) Today (c .if4 .left) (identity-plain s z) in
     taken-so _ _ _ _ _ _ (call-kind nobody s z .at) (call-starts nobody (start (c .before .before .before .before .before .before .before .before .before .before .before .before .before .before)) (c .before .before .before .before .before .before .before .before .before .before .before .before .before .if2 .left) _ (c .before .before .before .before .before .before .before .before .before .before .before .before .body-of .ensures .holds) _ (c .before .before .before .before .before .before .before .before .before .before .before .mark-of .ensures) _ (c .before .before .before .before .before .before .before .before .before .before .places-of .ensures) (its-parts (identity-exact _ _ _ .0 read))) (call-lens nobody (start (c .before .before .before .before .before .before .before .before .before .before .before .before .before .before)) (c .before .before .before .before .before .before .before .before .before .before .before .before .before .if2 .left) _ (c .before .before .before .before .before .before .before .before .before .before .before .before .body-of .ensures .holds) _ (c .before .before .before .before .before .before .before .before .before .before .before .mark-of .ensures) _ (c .before .before .before .before .before .before .before .before .before .before .places-of .ensures)) (identity-kinds s z)
     ∙ sym (ap answerOf read)
 

@@ -9,7 +9,7 @@ abbrev Inv-loop : tie.InvT-loop
 Inv-loop input agree₀ line₀ agree line = Unit {0}
 
 abbrev μ-loop : tie.MeasureT-loop
-μ-loop input agree₀ line₀ agree line = 524288 - line
+μ-loop input agree₀ line₀ agree line = 1048576 - line
 
 loop-holds : tie.Need-loop-holds Inv-loop μ-loop
 loop-holds c = search needs

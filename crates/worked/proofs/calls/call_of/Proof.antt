@@ -9,7 +9,7 @@ abbrev Inv-loop : tie.InvT-loop
 Inv-loop name names k₀ k = Unit {0}
 
 abbrev μ-loop : tie.MeasureT-loop
-μ-loop name names k₀ k = 47 - k
+μ-loop name names k₀ k = 48 - k
 
 loop-holds : tie.Need-loop-holds Inv-loop μ-loop
 loop-holds c = search needs

@@ -1,10 +1,10 @@
--- `reading::attributes_no` meets its contract.
+-- `reading::together::attributes_no` meets its contract.
 -- Assumes nothing.
 use mathlib.Core.Path.{sym, ap, _∙_}
 use mathlib.Core.Bool.{Bool, cond}
 use borrow.Author.Needs.{needs}
-use Rattle.reading.proofs.attributes_no.Statement.{statement}
-use Rattle.reading.proofs.attributes_no.Tie as tie
+use Rattle.reading.proofs.together.attributes_no.Statement.{statement}
+use Rattle.reading.proofs.together.attributes_no.Tie as tie
 
 are-attributes-requires : tie.Need-are-attributes-requires
 are-attributes-requires c κs = search needs
