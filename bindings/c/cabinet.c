@@ -1,340 +1,11 @@
 /* A part of every.c: the centre's key cabinet. */
-#include "expect.h"
+#include "model.h"
 #include "worked.h"
 
 #include <stdio.h>
-#include <stdlib.h>
 #include <string.h>
 
-enum {
-    PLACES = OBSCURLANE_CABINET_PLACES,
-    WIDTH = OBSCURLANE_CABINET_WIDTH,
-    SIZE = OBSCURLANE_CABINET_SIZE,
-    TVP_AT = OBSCURLANE_CABINET_TVP_AT,
-    NUMBER_AT = OBSCURLANE_CABINET_NUMBER_AT,
-    TVP_BYTES = NUMBER_AT - TVP_AT,
-    EDGE = 16, /* so many bytes stand before what is lent, and behind it */
-    MOST = 2 * SIZE
-};
-
-/* ---- keys, identities and requests, by their parts */
-
-/* Whose key it is. */
-struct subject {
-    size_t kind; /* the identity's */
-    const char *maker, *mid;
-};
-
-struct text {
-    char bytes[ROOM];
-    size_t len;
-};
-
-#define PRINT "320C265FDC769D3E"
-#define GNT "20180120T090000Z"
-#define EARLIER "20180120T085959Z"
-#define LATER "20180120T090001Z"
-#define START "19930101T000000Z" /* the TVP of a module of which no request was admitted */
-
-static struct text identity_of(struct subject of, const char *gnt, const char *print)
-{
-    struct text made;
-    int len = snprintf(made.bytes, sizeof made.bytes, "%s:%s:%s:%s:%s:0000", obscurlane_kind_name(of.kind), of.maker, of.mid,
-                       gnt, print);
-    made.len = (size_t)len;
-    seal(made.bytes, made.len);
-    return made;
-}
-
-/* An Expiry, and its number as HEX characters. */
-struct number {
-    const char *expiry, *bytes;
-};
-
-static const struct number numbers[] = {
-    {"20310110T120000Z", "00000000478608C0"}, {"99991231T115959Z", "0000003AD4B00F3F"},
-    {"19930101T000000Z", "0000000000000000"}, {"19921231T235959Z", "FFFFFFFFFFFFFFFF"},
-    {"00010101T000000Z", "FFFFFFF15D2A7F80"}, {"99991231T235959Z", "0000003AD4B0B7FF"},
-    {"19930101T000001Z", "0000000000000001"}, {"19700101T000000Z", "FFFFFFFFD4BC7680"},
-    {"20000229T000000Z", "000000000D778280"}, {"19921231T235543Z", "FFFFFFFFFFFFFEFF"},
-    {"19930101T000416Z", "0000000000000100"}, {"24000229T000000Z", "00000002FDD7DC00"},
-    {"20610119T031408Z", "0000000080000000"}, {"19241213T204551Z", "FFFFFFFF7FFFFFFF"},
-    {"21290207T062816Z", "0000000100000000"}, {"19000301T000000Z", "FFFFFFFF515FC080"},
-};
-
-/* A public key of this Subject and this Expiry; its Q is of this digit. */
-static struct text key_until(const char *expiry, struct subject of, const char *gnt, char digit, bool is_signed)
-{
-    char digits[192 + 1];
-    memset(digits, digit, sizeof digits - 1);
-    digits[sizeof digits - 1] = '\0';
-    struct text subject = identity_of(of, gnt, PRINT), made;
-    const char *kind = of.kind == OBSCURLANE_KIND_SMMAN ? "PK.ECDSA.1" : "PK.ECDH.1";
-    int len = snprintf(made.bytes, sizeof made.bytes, "%s|%s|04%s|%s|%s|%s|0000", kind, subject.bytes, digits, expiry,
-                       is_signed ? WORKED_ID_MAKER : "", is_signed ? digits : "");
-    made.len = (size_t)len;
-    seal(made.bytes, made.len);
-    return made;
-}
-
-/* Q and Expiry go by the digit, so that keys of one Subject differ. */
-static struct text key_of(struct subject of, const char *gnt, char digit, bool is_signed)
-{
-    static const char digits[] = "0123456789ABCDEF";
-    return key_until(numbers[strchr(digits, digit) - digits].expiry, of, gnt, digit, is_signed);
-}
-
-/* A load request of this module, of which the identity has this GNT and this Fingerprint. */
-static struct text request_by(struct subject of, const char *gnt, const char *print, const char *tvp)
-{
-    char digits[192 + 1];
-    memset(digits, '7', sizeof digits - 1);
-    digits[sizeof digits - 1] = '\0';
-    struct text id_sm = identity_of(of, gnt, print), made;
-    int len = snprintf(made.bytes, sizeof made.bytes, "VKLOAD.REQ.1|%s|%s|%s|Prism-VSM-1|STS6-001|04%s|%.48s|0000", id_sm.bytes,
-                       WORKED_ID_KMC, tvp, digits, digits);
-    made.len = (size_t)len;
-    seal(made.bytes, made.len);
-    return made;
-}
-
-static struct text as_text(const char *bytes)
-{
-    struct text made;
-    made.len = strlen(bytes);
-    memcpy(made.bytes, bytes, made.len + 1);
-    return made;
-}
-
-/* ---- a plain cabinet, to hold the library's against: what is in each place, and its bytes */
-
-struct held {
-    bool is_there;
-    struct subject of;
-    char gnt[16 + 1];
-    char tvp[16 + 1];
-    int64_t expiry;
-    struct text record;
-};
-
-struct model {
-    struct held places[PLACES];
-};
-
-static bool is_same(struct subject a, struct subject b)
-{
-    return a.kind == b.kind && strcmp(a.maker, b.maker) == 0 && strcmp(a.mid, b.mid) == 0;
-}
-
-/* The place of this Subject's key, or PLACES. */
-static size_t place_of(const struct model *model, struct subject of)
-{
-    size_t place = 0;
-    while (place < PLACES && !(model->places[place].is_there && is_same(model->places[place].of, of))) {
-        place++;
-    }
-    return place;
-}
-
-static size_t free_place(const struct model *model)
-{
-    size_t place = 0;
-    while (place < PLACES && model->places[place].is_there) {
-        place++;
-    }
-    return place;
-}
-
-static size_t count_of(const struct model *model)
-{
-    size_t count = 0;
-    for (size_t i = 0; i < PLACES; i++) {
-        count += model->places[i].is_there;
-    }
-    return count;
-}
-
-static uint8_t put_there(struct model *model, struct subject of, const char *gnt, const struct text *record)
-{
-    size_t place = place_of(model, of);
-    if (place < PLACES && strcmp(gnt, model->places[place].gnt) <= 0) {
-        return OBSCURLANE_NOT_LATER;
-    }
-    bool is_first = place == PLACES;
-    place = is_first ? free_place(model) : place;
-    if (place == PLACES) {
-        return OBSCURLANE_NO_PLACE;
-    }
-    struct held *held = &model->places[place];
-    if (is_first) {
-        memcpy(held->tvp, START, sizeof held->tvp);
-    }
-    held->is_there = true;
-    held->of = of;
-    memcpy(held->gnt, gnt, sizeof held->gnt);
-    held->expiry = seconds_in(record->bytes);
-    held->record = *record;
-    return OBSCURLANE_ACCEPTED;
-}
-
-static uint8_t remove_there(struct model *model, struct subject of)
-{
-    size_t place = place_of(model, of);
-    if (place == PLACES) {
-        return OBSCURLANE_NOT_THERE;
-    }
-    model->places[place].is_there = false;
-    return OBSCURLANE_ACCEPTED;
-}
-
-static uint8_t admit_there(struct model *model, struct subject of, const char *tvp)
-{
-    size_t place = place_of(model, of);
-    if (place == PLACES) {
-        return OBSCURLANE_NOT_THERE;
-    }
-    struct held *held = &model->places[place];
-    if (strcmp(tvp, held->tvp) <= 0) {
-        return OBSCURLANE_TVP_NOT_LATER;
-    }
-    memcpy(held->tvp, tvp, sizeof held->tvp);
-    return OBSCURLANE_ACCEPTED;
-}
-
-/* The number, the highest byte first. */
-static void write_number(uint8_t *place, int64_t number)
-{
-    for (int i = 0; i < 8; i++) {
-        place[NUMBER_AT + i] = (uint8_t)((uint64_t)number >> (56 - 8 * i));
-    }
-}
-
-/* A record, zeros after it, a TVP and a number. */
-static void write_held(uint8_t *place, const char *record, size_t len, const char *tvp, int64_t number)
-{
-    memset(place, 0, WIDTH);
-    memcpy(place, record, len);
-    memcpy(place + TVP_AT, tvp, TVP_BYTES);
-    write_number(place, number);
-}
-
-static void write_image(const struct model *model, uint8_t image[SIZE])
-{
-    memset(image, 0, SIZE);
-    for (size_t i = 0; i < PLACES; i++) {
-        const struct held *held = &model->places[i];
-        if (held->is_there) {
-            write_held(image + i * WIDTH, held->record.bytes, held->record.len, held->tvp, held->expiry);
-        }
-    }
-}
-
-/* ---- the library's cabinet, with bytes around it that no call may touch; and the model beside it */
-
-static uint8_t lent[EDGE + MOST + EDGE];
-static uint8_t *const cabinet = lent + EDGE;
-static struct model beside;
-
-static void expect_model(void)
-{
-    static uint8_t image[SIZE];
-    write_image(&beside, image);
-    EXPECT(memcmp(cabinet, image, SIZE) == 0);
-    EXPECT(untouched(lent, 0, EDGE) && untouched(lent, EDGE + SIZE, sizeof lent));
-    obscurlane_filed said = obscurlane_check_cabinet(cabinet, SIZE);
-    EXPECT(said.no == OBSCURLANE_ACCEPTED && said.field == 0);
-    obscurlane_counted counted = obscurlane_count_keys(cabinet, SIZE);
-    EXPECT(counted.no == OBSCURLANE_ACCEPTED && counted.count == count_of(&beside));
-}
-
-/* Empty, whatever the bytes were. */
-static void begin(uint8_t before)
-{
-    memset(lent, UNTOUCHED, sizeof lent);
-    memset(cabinet, before, SIZE);
-    memset(&beside, 0, sizeof beside);
-    obscurlane_filed said = obscurlane_make_cabinet(cabinet, SIZE);
-    EXPECT(said.no == OBSCURLANE_ACCEPTED && said.field == 0);
-    EXPECT(are_zeros(cabinet, 0, SIZE));
-}
-
-/* The number alone, and that the cabinet is that of the model. */
-static void expect_put(struct subject of, const char *gnt, const struct text *record, uint8_t no)
-{
-    EXPECT(put_there(&beside, of, gnt, record) == no);
-    obscurlane_filed said = obscurlane_put_key(cabinet, SIZE, (const uint8_t *)record->bytes, record->len);
-    EXPECT(said.no == no && said.field == 0);
-    expect_model();
-}
-
-static void put(struct subject of, const char *gnt, char digit, uint8_t no)
-{
-    struct text record = key_of(of, gnt, digit, digit == '1');
-    expect_put(of, gnt, &record, no);
-}
-
-/* What find and remove answer to bytes that are refused. */
-static void expect_refused_identity(const char *identity, size_t len, uint8_t no, uint8_t field)
-{
-    const uint8_t *bytes = (const uint8_t *)identity;
-    obscurlane_place place = obscurlane_find_key(cabinet, SIZE, bytes, len);
-    EXPECT(place.no == no && place.field == field && place.start == 0 && place.len == 0);
-    obscurlane_filed said = obscurlane_remove_key(cabinet, SIZE, bytes, len);
-    EXPECT(said.no == no && said.field == field);
-    expect_model();
-}
-
-/* This identity finds what the model has of its Subject. */
-static void find_by(struct subject of, const struct text *identity)
-{
-    size_t place = place_of(&beside, of);
-    if (place == PLACES) {
-        expect_refused_identity(identity->bytes, identity->len, OBSCURLANE_NOT_THERE, 0);
-        return;
-    }
-    const struct text *record = &beside.places[place].record;
-    obscurlane_place found = obscurlane_find_key(cabinet, SIZE, (const uint8_t *)identity->bytes, identity->len);
-    EXPECT(found.no == OBSCURLANE_ACCEPTED && found.field == 0);
-    EXPECT(found.start == place * WIDTH && found.len == record->len);
-    EXPECT(memcmp(cabinet + found.start, record->bytes, record->len) == 0);
-}
-
-static void find(struct subject of)
-{
-    struct text identity = identity_of(of, GNT, PRINT);
-    find_by(of, &identity);
-}
-
-static void take_out(struct subject of, uint8_t no)
-{
-    struct text identity = identity_of(of, "19930101T000000Z", "0000000000000000");
-    EXPECT(remove_there(&beside, of) == no);
-    obscurlane_filed said = obscurlane_remove_key(cabinet, SIZE, (const uint8_t *)identity.bytes, identity.len);
-    EXPECT(said.no == no && said.field == 0);
-    expect_model();
-    find(of);
-}
-
-/* What admit answers to this request of the module, the number alone; and that the cabinet is that of the model. */
-static void expect_admit(struct subject of, const struct text *request, const char *tvp, uint8_t no)
-{
-    EXPECT(admit_there(&beside, of, tvp) == no);
-    obscurlane_filed said = obscurlane_admit(cabinet, SIZE, (const uint8_t *)request->bytes, request->len);
-    EXPECT(said.no == no && said.field == 0);
-    expect_model();
-}
-
-static void admit(struct subject of, const char *tvp, uint8_t no)
-{
-    struct text request = request_by(of, GNT, PRINT, tvp);
-    expect_admit(of, &request, tvp, no);
-}
-
 /* ---- the worked example's keys */
-
-static const struct subject worked_module = {OBSCURLANE_KIND_SMID, "Prism", "06000001"};
-static const struct subject worked_centre = {OBSCURLANE_KIND_KMCID, "sts-KeyAgreement-1.2", "TEST1"};
-static const struct subject worked_maker = {OBSCURLANE_KIND_SMMAN, "Prism", "A"};
 
 static void worked_keys(void)
 {
@@ -342,7 +13,7 @@ static void worked_keys(void)
         const struct subject *of;
         const char *gnt, *record, *identity;
     } keys[] = {
-        {&worked_module, "20180120T090000Z", WORKED_KEY_MODULE, WORKED_ID_SM},
+        {&worked_module, "20180120T090000Z", WORKED_KEY_SIGNED, WORKED_ID_SM},
         {&worked_centre, "20180110T120000Z", WORKED_KEY_CENTRE, WORKED_ID_KMC},
         {&worked_maker, "20180115T140000Z", WORKED_KEY_MAKER, WORKED_ID_MAKER},
     };
@@ -354,11 +25,15 @@ static void worked_keys(void)
         expect_put(*keys[i].of, keys[i].gnt, &record, OBSCURLANE_NOT_LATER);
         find_by(*keys[i].of, &identity);
     }
-    /* The module's key with its maker's signature has the same GNT: the other goes out first. */
-    struct text record = as_text(WORKED_KEY_SIGNED), identity = as_text(WORKED_ID_SM);
+    /* The module's key without its maker's signature is refused, whether the other is there or not; one with the same GNT goes
+     * in once the other is out. */
+    struct text record = key_of(worked_module, GNT, '1', true), identity = as_text(WORKED_ID_SM);
+    struct text unsigned_key = as_text(WORKED_KEY_MODULE);
+    expect_put(worked_module, GNT, &unsigned_key, OBSCURLANE_MODULE_UNSIGNED);
     expect_put(worked_module, GNT, &record, OBSCURLANE_NOT_LATER);
     take_out(worked_module, OBSCURLANE_ACCEPTED);
     take_out(worked_module, OBSCURLANE_NOT_THERE);
+    expect_put(worked_module, GNT, &unsigned_key, OBSCURLANE_MODULE_UNSIGNED);
     expect_put(worked_module, GNT, &record, OBSCURLANE_ACCEPTED);
     find_by(worked_module, &identity);
     EXPECT(obscurlane_find_key(cabinet, SIZE, BYTES(WORKED_ID_SM)).start == 0);
@@ -366,30 +41,6 @@ static void worked_keys(void)
 }
 
 /* ---- all places */
-
-enum { SUBJECTS = PLACES + 16 };
-
-static const char *mid_of(size_t n)
-{
-    static char mids[SUBJECTS][9];
-    (void)snprintf(mids[n], sizeof mids[n], "%08u", (unsigned)n);
-    return mids[n];
-}
-
-/* Subjects of every kind, which differ in the kind alone or in MID. */
-static struct subject nth(size_t n)
-{
-    return (struct subject){n % 3, "Prism", mid_of(n / 3)};
-}
-
-static void fill(void)
-{
-    begin(0);
-    for (size_t n = 0; n < PLACES; n++) {
-        put(nth(n), GNT, n % 2 == 0 ? '0' : '1', OBSCURLANE_ACCEPTED);
-        EXPECT(place_of(&beside, nth(n)) == n);
-    }
-}
 
 static void full(void)
 {
@@ -559,59 +210,6 @@ static void other_subjects(void)
 
 /* ---- what is no cabinet */
 
-/* So many bytes of those that are lent are none: every call but the making one says so before all else, and leaves them. */
-static void expect_no_cabinet(size_t len)
-{
-    static uint8_t before[sizeof lent];
-    static const char *const texts[] = {WORKED_KEY_SIGNED, WORKED_KEY_CENTRE, WORKED_ID_SM, WORKED_ID_KMC, WORKED_REQUEST, ""};
-    memcpy(before, lent, sizeof before);
-    obscurlane_filed said = obscurlane_check_cabinet(cabinet, len);
-    EXPECT(said.no == OBSCURLANE_NOT_CABINET && said.field == 0);
-    obscurlane_counted counted = obscurlane_count_keys(cabinet, len);
-    EXPECT(counted.no == OBSCURLANE_NOT_CABINET && counted.count == 0);
-    for (size_t i = 0; i < COUNT_OF(texts); i++) {
-        const uint8_t *text = (const uint8_t *)texts[i];
-        size_t text_len = strlen(texts[i]);
-        said = obscurlane_put_key(cabinet, len, text, text_len);
-        EXPECT(said.no == OBSCURLANE_NOT_CABINET && said.field == 0);
-        said = obscurlane_remove_key(cabinet, len, text, text_len);
-        EXPECT(said.no == OBSCURLANE_NOT_CABINET && said.field == 0);
-        said = obscurlane_admit(cabinet, len, text, text_len);
-        EXPECT(said.no == OBSCURLANE_NOT_CABINET && said.field == 0);
-        obscurlane_place place = obscurlane_find_key(cabinet, len, text, text_len);
-        EXPECT(place.no == OBSCURLANE_NOT_CABINET && place.field == 0 && place.start == 0 && place.len == 0);
-    }
-    EXPECT(memcmp(before, lent, sizeof before) == 0);
-}
-
-/* With another byte in one place it is none; and it is one again. */
-static void expect_no_cabinet_with(size_t at, uint8_t byte)
-{
-    uint8_t was = cabinet[at];
-    if (byte == was) {
-        return;
-    }
-    cabinet[at] = byte;
-    expect_no_cabinet(SIZE);
-    cabinet[at] = was;
-}
-
-/* It is none with this in place n, this TVP and this number. */
-static void expect_no_cabinet_from(size_t n, const char *record, size_t len, const char *tvp, int64_t number)
-{
-    static uint8_t was[WIDTH];
-    memcpy(was, cabinet + n * WIDTH, WIDTH);
-    write_held(cabinet + n * WIDTH, record, len, tvp, number);
-    expect_no_cabinet(SIZE);
-    memcpy(cabinet + n * WIDTH, was, WIDTH);
-}
-
-/* The same with a TVP that is right. */
-static void expect_no_cabinet_of(size_t n, const char *record, size_t len, int64_t number)
-{
-    expect_no_cabinet_from(n, record, len, START, number);
-}
-
 /* Bytes that are not zero in a free place and behind a record; a TVP and a number that are damaged; a record that is cut,
  * moved, damaged or of another kind; and two of the same three names. */
 static void damaged(void)
@@ -663,7 +261,7 @@ static void damaged(void)
     static const size_t second[] = {2, 3, 31, PLACES - 1};
     for (size_t i = 0; i < COUNT_OF(second); i++) {
         expect_no_cabinet_of(second[i], centre.bytes, centre.len, centre_expiry);
-        struct text later = key_of(worked_module, LATER, '7', false);
+        struct text later = key_of(worked_module, LATER, '7', true);
         expect_no_cabinet_of(second[i], later.bytes, later.len, seconds_in(later.bytes));
     }
     expect_model();
@@ -752,48 +350,11 @@ static void put_until(const struct number *number, struct subject of, const char
     expect_number_in(place_of(&beside, of), number);
 }
 
-/* With another number in place n it is none. */
-static void expect_no_number(size_t n, uint64_t number)
-{
-    const struct held *held = &beside.places[n];
-    if (number != (uint64_t)held->expiry) {
-        expect_no_cabinet_of(n, held->record.bytes, held->record.len, (int64_t)number);
-    }
-}
-
-static uint64_t backwards(uint64_t number)
-{
-    uint64_t turned = 0;
-    for (int i = 0; i < 8; i++) {
-        turned = turned << 8 | (number >> 8 * i & 0xFF);
-    }
-    return turned;
-}
-
-/* One more or less; zeros; the lowest byte first; of the other sign; every bit of it. And before it bytes that are no zeros, or
- * no digits of a TVP. */
-static void other_numbers(size_t n)
-{
-    const uint64_t right = (uint64_t)beside.places[n].expiry;
-    const uint64_t others[] = {0, right + 1, right - 1, backwards(right), 0 - right, ~right, right << 32, right >> 32,
-                               right << 8, right >> 8, UINT64_MAX, (uint64_t)INT64_MAX + 1, right & UINT32_MAX};
-    for (size_t i = 0; i < COUNT_OF(others); i++) {
-        expect_no_number(n, others[i]);
-    }
-    for (int bit = 0; bit < 64; bit++) {
-        expect_no_number(n, right ^ (uint64_t)1 << bit);
-    }
-    for (size_t at = TVP_AT - 9; at < NUMBER_AT; at++) {
-        expect_no_cabinet_with(n * WIDTH + at, 1);
-        expect_no_cabinet_with(n * WIDTH + at, 0xFF);
-    }
-}
-
 /* After a put, after a replacement, in another place, and after a removal. */
 static void every_number(void)
 {
-    for (size_t i = 0; i < COUNT_OF(numbers); i++) {
-        const struct number *number = &numbers[i], *next = &numbers[(i + 1) % COUNT_OF(numbers)];
+    for (size_t i = 0; i < NUMBERS; i++) {
+        const struct number *number = &numbers[i], *next = &numbers[(i + 1) % NUMBERS];
         begin(0xFF);
         put_until(number, worked_module, GNT);
         other_numbers(0);
@@ -804,7 +365,7 @@ static void every_number(void)
         expect_number_in(0, next);
         other_numbers(1);
         /* One that is refused leaves it. */
-        struct text earlier = key_until(number->expiry, worked_module, EARLIER, '2', false);
+        struct text earlier = key_until(number->expiry, worked_module, EARLIER, '2', true);
         expect_put(worked_module, EARLIER, &earlier, OBSCURLANE_NOT_LATER);
         expect_number_in(0, next);
         take_out(worked_module, OBSCURLANE_ACCEPTED);
@@ -822,11 +383,6 @@ static void every_number(void)
 }
 
 /* ---- the last TVP */
-
-static void expect_tvp_in(size_t n, const char *tvp)
-{
-    EXPECT(memcmp(cabinet + n * WIDTH + TVP_AT, tvp, TVP_BYTES) == 0);
-}
 
 /* The worked example's request is admitted once, for as long as its module's key is there. */
 static void worked_request(void)
@@ -993,13 +549,7 @@ static void refused_requests(void)
             expect_admitting(request, len, faults[i].no, faults[i].field);
         }
         /* A damaged request is refused for its check, also where it would be admitted. */
-        struct text request = request_by(worked_module, GNT, PRINT, "20190101T000000Z");
-        for (size_t at = 0; at < request.len; at++) {
-            request.bytes[at] ^= 1;
-            obscurlane_filed said = obscurlane_admit(cabinet, SIZE, (const uint8_t *)request.bytes, request.len);
-            EXPECT(said.no >= OBSCURLANE_UNKNOWN_KIND && said.no <= OBSCURLANE_WRONG_CHECK && said.field == 0);
-            request.bytes[at] ^= 1;
-        }
+        expect_every_flip_refused(request_by(worked_module, GNT, PRINT, "20190101T000000Z"));
         expect_model();
     }
 }
@@ -1103,121 +653,6 @@ static void from_before(void)
     EXPECT(obscurlane_count_keys(cabinet, SIZE).count == 1);
 }
 
-/* ---- histories */
-
-static uint32_t state;
-
-/* A number below the limit (Marsaglia's xorshift). */
-static size_t below(size_t limit)
-{
-    state ^= state << 13;
-    state ^= state >> 17;
-    state ^= state << 5;
-    return state % limit;
-}
-
-/* The TVPs of a module's requests that were admitted since its latest first put. */
-struct admissions {
-    char tvps[1000][16 + 1];
-    size_t count;
-};
-
-/* No two of them are the same: each is later than all before. */
-static void note(struct admissions *module, const char *tvp)
-{
-    for (size_t i = 0; i < module->count; i++) {
-        EXPECT(strcmp(module->tvps[i], tvp) < 0);
-    }
-    EXPECT(module->count < COUNT_OF(module->tvps));
-    memcpy(module->tvps[module->count], tvp, sizeof module->tvps[0]);
-    module->count++;
-}
-
-/* A TVP of few days of 1993, or one that goes on with the calls. */
-static void write_tvp(size_t call, char tvp[16 + 1])
-{
-    if (below(2) == 0) {
-        (void)snprintf(tvp, 16 + 1, "199301%02uT0000%02uZ", (unsigned)(1 + below(2)), (unsigned)below(3));
-    } else {
-        unsigned minutes = (unsigned)(call + below(5));
-        (void)snprintf(tvp, 16 + 1, "20180125T%02u%02u00Z", minutes / 60, minutes % 60);
-    }
-}
-
-/* Calls in no order, each held against the model: puts of keys with GNTs of few days, so that some are later and some are not;
- * removals; finds; requests of modules that are there and of such that are not; and records and identities that are refused.
- * First puts less removals is how many there are, and no two requests of a module since its latest first put share a TVP. */
-static void history(uint32_t seed, size_t subjects, size_t calls)
-{
-    static struct admissions admitted[SUBJECTS / 3 + 1];
-    size_t first_puts = 0, removals = 0;
-    state = seed;
-    memset(admitted, 0, sizeof admitted);
-    begin((uint8_t)seed);
-    for (size_t call = 0; call < calls; call++) {
-        const size_t n = below(subjects);
-        struct subject of = nth(n);
-        char gnt[16 + 1];
-        (void)snprintf(gnt, sizeof gnt, "201801%02uT0000%02uZ", (unsigned)(1 + below(3)), (unsigned)below(10));
-        struct text record = key_of(of, gnt, "0123456789ABCDEF"[below(16)], below(2) == 0);
-        struct text identity = identity_of(of, gnt, "0123456789ABCDEF");
-        switch (below(11)) {
-        case 0:
-        case 1:
-            record.bytes[below(record.len)] ^= 1;
-            expect_refused_identity(record.bytes, record.len, OBSCURLANE_UNKNOWN_KIND, 0);
-            EXPECT(obscurlane_put_key(cabinet, SIZE, (const uint8_t *)record.bytes, record.len).no != OBSCURLANE_ACCEPTED);
-            expect_model();
-            break;
-        case 2: {
-            uint8_t no = place_of(&beside, of) < PLACES ? OBSCURLANE_ACCEPTED : OBSCURLANE_NOT_THERE;
-            removals += no == OBSCURLANE_ACCEPTED;
-            take_out(of, no);
-            break;
-        }
-        case 3:
-            find_by(of, &identity);
-            break;
-        case 4:
-        case 5:
-        case 6: {
-            /* Of the module with this MID, whichever kind of key with it is there. */
-            const struct subject module = {OBSCURLANE_KIND_SMID, of.maker, of.mid};
-            const size_t place = place_of(&beside, module);
-            char tvp[16 + 1];
-            write_tvp(call, tvp);
-            bool is_there = place < PLACES, is_later = is_there && strcmp(tvp, beside.places[place].tvp) > 0;
-            uint8_t no = is_later ? OBSCURLANE_ACCEPTED : (is_there ? OBSCURLANE_TVP_NOT_LATER : OBSCURLANE_NOT_THERE);
-            struct text request = request_by(module, gnt, "0123456789ABCDEF", tvp);
-            expect_admit(module, &request, tvp, no);
-            if (no == OBSCURLANE_ACCEPTED) {
-                note(&admitted[n / 3], tvp);
-                expect_admit(module, &request, tvp, OBSCURLANE_TVP_NOT_LATER);
-            }
-            request.bytes[below(request.len)] ^= 1;
-            EXPECT(obscurlane_admit(cabinet, SIZE, (const uint8_t *)request.bytes, request.len).no != OBSCURLANE_ACCEPTED);
-            expect_model();
-            break;
-        }
-        default: {
-            size_t place = place_of(&beside, of);
-            bool is_first = place == PLACES, is_full = count_of(&beside) == PLACES;
-            bool is_later = !is_first && strcmp(gnt, beside.places[place].gnt) > 0;
-            uint8_t no = is_first ? (is_full ? OBSCURLANE_NO_PLACE : OBSCURLANE_ACCEPTED)
-                                  : (is_later ? OBSCURLANE_ACCEPTED : OBSCURLANE_NOT_LATER);
-            first_puts += is_first && !is_full;
-            if (is_first && of.kind == OBSCURLANE_KIND_SMID) {
-                admitted[n / 3].count = 0;
-            }
-            expect_put(of, gnt, &record, no);
-            find_by(of, &identity);
-            break;
-        }
-        }
-        EXPECT(obscurlane_count_keys(cabinet, SIZE).count == first_puts - removals);
-    }
-}
-
 void call_for_cabinets(void)
 {
     EXPECT(SIZE == PLACES * WIDTH && NUMBER_AT == WIDTH - 8 && TVP_AT == NUMBER_AT - 16);
@@ -1237,8 +672,4 @@ void call_for_cabinets(void)
     refused_requests();
     every_tvp();
     from_before();
-    history(1, 3, 300);
-    history(2, 20, 300);
-    history(3, SUBJECTS, 600);
-    history(4, SUBJECTS, 600);
 }

@@ -205,7 +205,7 @@ static void expiries(void)
 {
     EXPECT(obscurlane_expiry_of(BYTES(WORKED_KEY_CENTRE)).seconds == 884433600);
     EXPECT(obscurlane_expiry_of(BYTES(WORKED_KEY_MAKER)).seconds == 884872800);
-    EXPECT(obscurlane_expiry_of(BYTES(WORKED_KEY_MODULE)).seconds == 252676411199);
+    EXPECT(obscurlane_expiry_of(BYTES(UNSIGNED_KEY_MAKER)).seconds == 884872800);
     EXPECT(obscurlane_expiry_of(BYTES(WORKED_KEY_SIGNED)).seconds == 252676411199);
     expect_every_record(expect_expiry);
     for (size_t i = 0; i < COUNT_OF(moments); i++) {

@@ -2,10 +2,11 @@
  * Calls every function of the header, on what is accepted and on what is refused, and compares everything that it answers and
  * leaves in an output. The exit status is 1 if anything is not as expected; the last line says how many comparisons were made.
  *
- * Here stand records and texts. Wrapped keys and their attributes stand in wrapped.c; SHA-384 and Fingerprints in hashes.c;
- * HMAC and the tags of a key agreement in confirmations.c; SHA-1 in sha1.c; manufacturers' files in trailed.c; records by mail
- * in mail.c; dates as numbers in dates.c; the key cabinet in cabinet.c; the check, the text types, plain files and names in
- * parts.c. Records that several of them take stand in samples.c.
+ * Here stand records and texts. Wrapped keys and their attributes stand in wrapped.c; unsigned keys of modules in unsigned.c;
+ * SHA-384 and Fingerprints in hashes.c; HMAC and the tags of a key agreement in confirmations.c; SHA-1 in sha1.c;
+ * manufacturers' files in trailed.c; records by mail in mail.c; dates as numbers in dates.c; the key cabinet in cabinet.c, with
+ * old records in old.c, in histories of calls in histories.c, and all three with model.c and no_cabinet.c; the check, the text
+ * types, plain files and names in parts.c. Records that several of them take stand in samples.c.
  */
 #include "expect.h"
 #include "worked.h"
@@ -111,7 +112,8 @@ static const struct sample maker = {WORKED_ID_MAKER, OBSCURLANE_KIND_SMMAN, ':',
 static const struct sample module = {WORKED_ID_SM, OBSCURLANE_KIND_SMID, ':', "----"};
 static const struct sample centre = {WORKED_ID_KMC, OBSCURLANE_KIND_KMCID, ':', "----"};
 static const struct sample maker_key = {WORKED_KEY_MAKER, OBSCURLANE_KIND_ECDSA, '|', "0--0-"};
-static const struct sample module_key = {WORKED_KEY_MODULE, OBSCURLANE_KIND_ECDH, '|', "1----"};
+static const struct sample module_key = {WORKED_KEY_SIGNED, OBSCURLANE_KIND_ECDH, '|', "1--0-"};
+static const struct sample unsigned_key = {UNSIGNED_KEY_MAKER, OBSCURLANE_KIND_ECDSA, '|', "0----"};
 static const struct sample centre_key = {WORKED_KEY_CENTRE, OBSCURLANE_KIND_ECDH, '|', "2----"};
 static const struct sample request = {WORKED_REQUEST, OBSCURLANE_KIND_REQ, '|', "12-----"};
 static const struct sample response = {WORKED_RESPONSE, OBSCURLANE_KIND_RESP, '|', "21--"};
@@ -308,7 +310,8 @@ static void expect_change_refused(const struct sample *of, size_t changed, const
 {
     uint8_t out[OBSCURLANE_LONGEST_READ];
     struct fields fields = fields_of(of, changed, with);
-    uint8_t field = no == OBSCURLANE_UNPAIRED || no == OBSCURLANE_WRONG_ATTRIBUTES ? 0 : (uint8_t)changed;
+    bool is_of_all = no == OBSCURLANE_UNPAIRED || no == OBSCURLANE_WRONG_ATTRIBUTES || no == OBSCURLANE_MODULE_UNSIGNED;
+    uint8_t field = is_of_all ? 0 : (uint8_t)changed;
     expect_refused(of, out, write_out(of, &fields, out), no, field);
     memset(out, UNTOUCHED, sizeof out);
     expect_unwritten(build(obscurlane_kind_name(of->kind), &fields, out, sizeof out), no, field, out, sizeof out);
@@ -323,8 +326,9 @@ static void expect_read_and_built(const struct sample *of)
 
 static void every_record(void)
 {
-    static const struct sample *const samples[] = {&maker,      &module,  &centre,   &maker_key,   &module_key,
-                                                   &centre_key, &request, &response, &wrapped_key, &longer_key};
+    static const struct sample *const samples[] = {&maker,        &module,     &centre,  &maker_key, &module_key,
+                                                   &unsigned_key, &centre_key, &request, &response,  &wrapped_key,
+                                                   &longer_key};
     for (size_t i = 0; i < COUNT_OF(samples); i++) {
         expect_read_and_built(samples[i]);
     }
@@ -341,6 +345,9 @@ static void every_record(void)
     expect_change_refused(&maker_key, OBSCURLANE_PUBKEY_SIGNATURE, "", OBSCURLANE_UNPAIRED);
     expect_change_refused(&centre_key, OBSCURLANE_PUBKEY_ISSUER, WORKED_ID_MAKER, OBSCURLANE_UNPAIRED);
     expect_change_refused(&centre_key, OBSCURLANE_PUBKEY_SUBJECT, WORKED_ID_MAKER, OBSCURLANE_WRONG_KIND);
+    expect_change_refused(&centre_key, OBSCURLANE_PUBKEY_SUBJECT, WORKED_ID_SM, OBSCURLANE_MODULE_UNSIGNED);
+    expect_change_refused(&module_key, OBSCURLANE_PUBKEY_SIGNATURE, "", OBSCURLANE_UNPAIRED);
+    expect_change_refused(&module_key, OBSCURLANE_PUBKEY_ISSUER, "", OBSCURLANE_UNPAIRED);
     expect_change_refused(&wrapped_key, OBSCURLANE_KEY_NONCE, "", OBSCURLANE_WRONG_TEXT);
     expect_change_refused(&wrapped_key, OBSCURLANE_KEY_ATTRIBUTES, "", OBSCURLANE_WRONG_TEXT);
     expect_change_refused(&wrapped_key, OBSCURLANE_KEY_ATTRIBUTES, "ACT", OBSCURLANE_WRONG_ATTRIBUTES);
@@ -522,6 +529,7 @@ int main(void)
     items();
     newer();
     call_for_wrapped_keys();
+    call_with_unsigned_keys();
     call_for_hashes();
     call_for_confirmations();
     call_for_sha1();
@@ -529,6 +537,8 @@ int main(void)
     call_for_mail();
     call_for_dates();
     call_for_cabinets();
+    call_for_old_records();
+    call_in_histories();
     call_parts();
     printf("every function: %lu as expected\n", expectations);
     return EXIT_SUCCESS;

@@ -144,7 +144,8 @@ static void print_admissions(uint8_t *cabinet, size_t start)
     }
 }
 
-/* The keys are put in, and the module's is found by the identity in the request, whose GNT and Fingerprint do not matter. */
+/* The keys are put in, but for the module's unsigned one, which is refused; and the module's is found by the identity in the
+ * request, whose GNT and Fingerprint do not matter. */
 static void print_cabinet(const uint8_t *identity, size_t identity_len)
 {
     static const char *const keys[] = {WORKED_KEY_CENTRE, WORKED_KEY_MAKER, WORKED_KEY_SIGNED, WORKED_KEY_MODULE};

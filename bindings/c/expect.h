@@ -1,5 +1,5 @@
-/* What the files of the test of every function share: every.c, samples.c, wrapped.c, hashes.c, confirmations.c, sha1.c,
- * trailed.c, mail.c, dates.c, cabinet.c and parts.c. */
+/* What the files of the test of every function share: every.c, samples.c, wrapped.c, unsigned.c, hashes.c, confirmations.c,
+ * sha1.c, trailed.c, mail.c, dates.c, model.c, no_cabinet.c, cabinet.c, old.c, histories.c and parts.c. */
 #ifndef EXPECT_H
 #define EXPECT_H
 
@@ -58,7 +58,7 @@ typedef void expect_number(const char *record, size_t len, uint8_t no, uint8_t f
  * without a check at their end, of none at all, and of the record with another check. */
 void expect_refused_before_fields(const char *record, expect_number *expect_refused);
 
-/* The records of the worked example and of Appendix A, all of them accepted. */
+/* The records of the worked example and of Appendix A that are accepted, and the manufacturer's key unsigned. */
 enum { RECORDS = 14 };
 extern const char *const records[RECORDS];
 
@@ -71,6 +71,9 @@ size_t write_wrapped_key(size_t len, char out[ROOM]);
 
 /* Calls the functions for attributes, and those that read or build on wrapped keys. */
 void call_for_wrapped_keys(void);
+
+/* Gives the unsigned key of a module to every function that reads or builds it. */
+void call_with_unsigned_keys(void);
 
 /* Calls the functions for SHA-384 and for Fingerprints. */
 void call_for_hashes(void);
@@ -90,8 +93,10 @@ void call_for_mail(void);
 /* Calls the functions for dates as numbers. */
 void call_for_dates(void);
 
-/* Calls the functions for the centre's key cabinet. */
+/* Calls the functions for the centre's key cabinet; for one that has old records; and in long histories of calls. */
 void call_for_cabinets(void);
+void call_for_old_records(void);
+void call_in_histories(void);
 
 /* Calls the functions for the check, the text types and files, and those for names. */
 void call_parts(void);

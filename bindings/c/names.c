@@ -32,6 +32,7 @@ static const char *const reasons[] = {
     [OBSCURLANE_NO_PLACE] = "no place of the cabinet is free",
     [OBSCURLANE_NOT_THERE] = "the cabinet has no key of this kind, Manufacturer and MID",
     [OBSCURLANE_TVP_NOT_LATER] = "the TVP is not later than the last one accepted for the module",
+    [OBSCURLANE_MODULE_UNSIGNED] = "the key of a module is unsigned",
 };
 
 struct kind {

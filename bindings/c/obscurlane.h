@@ -42,9 +42,9 @@
 #include <stddef.h>
 #include <stdint.h>
 
-#define OBSCURLANE_VERSION "0.11.0"
+#define OBSCURLANE_VERSION "0.12.0"
 #define OBSCURLANE_VERSION_MAJOR 0
-#define OBSCURLANE_VERSION_MINOR 11
+#define OBSCURLANE_VERSION_MINOR 12
 #define OBSCURLANE_VERSION_PATCH 0
 
 #ifdef __cplusplus
@@ -110,10 +110,13 @@ enum {
     OBSCURLANE_NOT_LATER = 24,
     /* No place of the cabinet is free: 64 other Subjects are present. */
     OBSCURLANE_NO_PLACE = 25,
-    /* The cabinet has no key of the identity's kind, Manufacturer and MID, to find or to remove; or of a request's ID_SM. */
+    /* The cabinet has no key of the identity's kind, Manufacturer and MID, to find or to remove; or of a request's ID_SM. To
+     * find, and of ID_SM: or it is old. */
     OBSCURLANE_NOT_THERE = 26,
     /* The TVP of the request is not later than the last one that was accepted for its module. */
-    OBSCURLANE_TVP_NOT_LATER = 27
+    OBSCURLANE_TVP_NOT_LATER = 27,
+    /* The key of a module is unsigned: the Subject of a PK.ECDH.1 is an SMID.1, and Issuer and Signature are empty. */
+    OBSCURLANE_MODULE_UNSIGNED = 28
 };
 
 /*
@@ -132,7 +135,8 @@ enum {
  *   KEY.1          |     1 Nonce HEX(24), 2 Attributes, 3 ProtectedKey: an even number of HEX characters, 32 to 72
  *
  * The first three are identities, the others records. Each is its name and its mark, then every field and the mark, then
- * the check, which is four HEX characters. Issuer and Signature are empty together or not at all.
+ * the check, which is four HEX characters. Issuer and Signature are empty together or not at all, and not in a PK.ECDH.1 whose
+ * Subject is an SMID.1.
  *
  * Attributes is a list of cards, each ended by ';'. A card is a name of three letters or digits and then a value of at most
  * 252 printable characters, neither '|' nor ';'. The names ascend by their ASCII codes. Those of Appendix B are these, and
@@ -253,7 +257,7 @@ typedef struct {
 /* Reads an identity: SMMAN.1, SMID.1 or KMCID.1. Answers 0 to 6. */
 obscurlane_answer obscurlane_read_identity(const uint8_t *identity, size_t identity_len);
 
-/* Reads a record: PK.ECDSA.1, PK.ECDH.1, VKLOAD.REQ.1, VKLOAD.RESP.1 or KEY.1. Answers 0 to 9, or 14. */
+/* Reads a record: PK.ECDSA.1, PK.ECDH.1, VKLOAD.REQ.1, VKLOAD.RESP.1 or KEY.1. Answers 0 to 9, 14, or 28. */
 obscurlane_answer obscurlane_read_record(const uint8_t *record, size_t record_len);
 
 /* Where one field, attribute or key in a cabinet stands. start and len are 0 with a refusal. */
@@ -290,8 +294,8 @@ typedef struct {
 } obscurlane_written;
 
 /*
- * Builds a record or identity. Answers 0, 1, 2, 5 to 10, or 14. OBSCURLANE_TOO_LONG is for a KEY.1 alone, just before
- * OBSCURLANE_SHORT_OUTPUT and whatever the room.
+ * Builds a record or identity. Answers 0, 1, 2, 5 to 10, 14, or 28. OBSCURLANE_TOO_LONG is for a KEY.1 alone, just before
+ * OBSCURLANE_SHORT_OUTPUT and whatever the room; OBSCURLANE_MODULE_UNSIGNED comes before both.
  *
  * kind   the kind's name, as "PK.ECDH.1"
  * bytes  the bytes of all fields one after another, without marks; identities as finished text
@@ -361,8 +365,8 @@ obscurlane_totals obscurlane_count(const uint8_t *file, size_t file_len);
  */
 
 /* Reads such a line, without its line feed. Answers OBSCURLANE_MISSING_TRAILER where no trailer stands at its end, then what
- * obscurlane_read_record answers to the record in front, then OBSCURLANE_WRONG_HASH: 0 to 9, 14, 19, or 20. The record stands
- * at the front of the line, so that its fields have the same places in both. */
+ * obscurlane_read_record answers to the record in front, then OBSCURLANE_WRONG_HASH: 0 to 9, 14, 19, 20, or 28. The record
+ * stands at the front of the line, so that its fields have the same places in both. */
 obscurlane_answer obscurlane_read_trailed(const uint8_t *line, size_t line_len);
 
 /* The line that begins at a place of such a file. `no` is what obscurlane_read_trailed answers to the line, and before that
@@ -375,7 +379,7 @@ obscurlane_totals obscurlane_count_trailed(const uint8_t *file, size_t file_len)
 
 /* Writes the line of a record: the record and its trailer, without a line feed, which whoever writes a file adds. Answers what
  * obscurlane_read_record answers to the record, then OBSCURLANE_SHORT_OUTPUT for an output of fewer than
- * record_len + OBSCURLANE_TRAILER bytes: 0 to 10, or 14. OBSCURLANE_LONGEST_TRAILED bytes are always enough. */
+ * record_len + OBSCURLANE_TRAILER bytes: 0 to 10, 14, or 28. OBSCURLANE_LONGEST_TRAILED bytes are always enough. */
 obscurlane_written obscurlane_write_trailed(const uint8_t *record, size_t record_len, uint8_t *out, size_t out_len);
 
 /*
@@ -408,14 +412,14 @@ obscurlane_written obscurlane_write_trailed(const uint8_t *record, size_t record
  */
 
 /* Writes the block of a record. Answers what obscurlane_read_record answers to the record, then OBSCURLANE_SHORT_OUTPUT for an
- * output that is shorter than the block: 0 to 10, or 14. The block of a record of n bytes has 30 + 2 * k + n + (n + 63) / 64
- * bytes, where k is the length of its kind's name; OBSCURLANE_LONGEST_MAIL bytes are always enough. */
+ * output that is shorter than the block: 0 to 10, 14, or 28. The block of a record of n bytes has 30 + 2 * k + n +
+ * (n + 63) / 64 bytes, where k is the length of its kind's name; OBSCURLANE_LONGEST_MAIL bytes are always enough. */
 obscurlane_written obscurlane_write_mail(const uint8_t *record, size_t record_len, uint8_t *out, size_t out_len);
 
 /* Writes the record that stands in a text, unfolded; its fields are found by giving it to obscurlane_read_record. Answers
  * OBSCURLANE_MISSING_BEGINS, then OBSCURLANE_MISSING_ENDS, then what obscurlane_read_record answers to the record, but
  * OBSCURLANE_UNKNOWN_KIND for a record of another kind than the BEGINS line names, and where it names no kind of record; after
- * every other number OBSCURLANE_SHORT_OUTPUT for an output of fewer bytes than the record has: 0 to 10, 14, 21, or 22.
+ * every other number OBSCURLANE_SHORT_OUTPUT for an output of fewer bytes than the record has: 0 to 10, 14, 21, 22, or 28.
  * OBSCURLANE_TOO_LONG counts the bytes after unfolding. OBSCURLANE_LONGEST_RECORD bytes are always enough. */
 obscurlane_written obscurlane_read_mail(const uint8_t *text, size_t text_len, uint8_t *out, size_t out_len);
 
@@ -433,7 +437,7 @@ typedef struct {
 
 /* Which of two public keys has the Subject with the later GNT, the first when equal. Answers what obscurlane_read_record
  * answers to the first, then to the second, but OBSCURLANE_UNKNOWN_KIND for a record of another kind; then
- * OBSCURLANE_NOT_ALIKE. */
+ * OBSCURLANE_NOT_ALIKE: 0 to 9, 13, or 28. */
 obscurlane_choice obscurlane_newer(const uint8_t *first, size_t first_len, const uint8_t *second, size_t second_len);
 
 /*
@@ -462,18 +466,23 @@ typedef struct {
 } obscurlane_expiry;
 
 /* The seconds of the field Expiry of a public key. Answers what obscurlane_read_record answers to the record, but
- * OBSCURLANE_UNKNOWN_KIND for a record of another kind: 0 to 9. */
+ * OBSCURLANE_UNKNOWN_KIND for a record of another kind: 0 to 9, or 28. */
 obscurlane_expiry obscurlane_expiry_of(const uint8_t *record, size_t record_len);
 
 /*
  * ---- the centre's key cabinet: up to 64 public keys in OBSCURLANE_CABINET_SIZE bytes, which the program lends to every call
  *
  * A cabinet has OBSCURLANE_CABINET_PLACES places of OBSCURLANE_CABINET_WIDTH bytes, one behind the other. A place is free, and
- * then all zeros; or it starts with a public key, PK.ECDSA.1 or PK.ECDH.1, that obscurlane_read_record accepts, has zeros after
- * it, in 16 bytes from OBSCURLANE_CABINET_TVP_AT on a TVP, and in its last eight bytes, from OBSCURLANE_CABINET_NUMBER_AT on,
- * the seconds that obscurlane_expiry_of answers to the record: two's complement, the highest byte first. No two of the records
- * share Subject kind, Manufacturer and MID. By these three a key is found, replaced and taken out, and a module by the ID_SM of
- * its request; GNT and Fingerprint of the identity are no part of them.
+ * then all zeros; or it starts with a public key, PK.ECDSA.1 or PK.ECDH.1, that obscurlane_read_record accepts or answers
+ * OBSCURLANE_MODULE_UNSIGNED to, has zeros after it, in 16 bytes from OBSCURLANE_CABINET_TVP_AT on a TVP, and in its last eight
+ * bytes, from OBSCURLANE_CABINET_NUMBER_AT on, the seconds of the record's Expiry: two's complement, the highest byte first. No
+ * two of the records share Subject kind, Manufacturer and MID. By these three a key is found, replaced and taken out, and a
+ * module by the ID_SM of its request; GNT and Fingerprint of the identity are no part of them.
+ *
+ * A record in a place that obscurlane_read_record answers OBSCURLANE_MODULE_UNSIGNED to is old: the unsigned key of a module,
+ * from when such a key was accepted, up to version 0.11. It stays in its place until it is replaced or taken out, and counts as
+ * any other. To obscurlane_find_key and to obscurlane_admit it is missing: OBSCURLANE_NOT_THERE. No call puts an old record in,
+ * so a cabinet that was made by this version has none.
  *
  * The number is written with the record, and goes with it. Where it is another one the bytes are no cabinet; so it is what the
  * text says in every cabinet, and a program that wants to know which keys expire looks at the first byte of each place, which
@@ -484,7 +493,8 @@ obscurlane_expiry obscurlane_expiry_of(const uint8_t *record, size_t record_len)
  * its place; a key that is taken out takes it along.
  *
  * Up to version 0.10 zeros stood in the bytes of the TVP, and up to 0.9 in those of the number. Such a cabinet is none any
- * more, unless it is empty: the records in it are put into one that is made empty.
+ * more, unless it is empty: the records in it are put into one that is made empty. A cabinet of 0.11 stays one, with the same
+ * bytes.
  *
  * These bytes are all that there is of a cabinet: a program may store them in a file, copy and compare them. All other memory
  * is no cabinet. Every call but the one that makes it asks first whether the bytes are one, whoever wrote them, and so reads
@@ -516,20 +526,20 @@ obscurlane_filed obscurlane_make_cabinet(uint8_t *cabinet, size_t cabinet_len);
 /* Whether the bytes are a cabinet: 0, or 23. */
 obscurlane_filed obscurlane_check_cabinet(const uint8_t *cabinet, size_t cabinet_len);
 
-/* How many keys a cabinet has. Answers 0, or 23. */
+/* How many keys a cabinet has, old ones with them. Answers 0, or 23. */
 obscurlane_counted obscurlane_count_keys(const uint8_t *cabinet, size_t cabinet_len);
 
-/* Puts a public key in. Where the cabinet has one of the same Subject kind, Manufacturer and MID, it is replaced in its place,
- * and the TVP there stays; else it is a first put: the lowest free place is taken, with the TVP 19930101T000000Z. Answers
- * OBSCURLANE_NOT_CABINET; then what obscurlane_read_record answers to the record, but OBSCURLANE_UNKNOWN_KIND for a record of
- * another kind; then OBSCURLANE_NOT_LATER where the GNT of its Subject is earlier than that of the record to replace, or equal;
- * then OBSCURLANE_NO_PLACE where there is none to replace and no place is free: 0 to 9, or 23 to 25. A full cabinet takes
- * replacements. */
+/* Puts a public key in. Where the cabinet has one of the same Subject kind, Manufacturer and MID, old or not, it is replaced in
+ * its place, and the TVP there stays; else it is a first put: the lowest free place is taken, with the TVP 19930101T000000Z.
+ * Answers OBSCURLANE_NOT_CABINET; then what obscurlane_read_record answers to the record, but OBSCURLANE_UNKNOWN_KIND for a
+ * record of another kind; then OBSCURLANE_NOT_LATER where the GNT of its Subject is earlier than that of the record to replace,
+ * or equal; then OBSCURLANE_NO_PLACE where there is none to replace and no place is free: 0 to 9, 23 to 25, or 28. A full
+ * cabinet takes replacements. */
 obscurlane_filed obscurlane_put_key(uint8_t *cabinet, size_t cabinet_len, const uint8_t *record, size_t record_len);
 
-/* Takes out the public key of this identity's kind, Manufacturer and MID: its place is all zeros afterwards, the TVP with it,
- * and is used again. So requests of the module that were admitted before are admitted again once its key is put in again. The
- * identity must be accepted; its GNT and Fingerprint are ignored. Answers OBSCURLANE_NOT_CABINET, then what
+/* Takes out the public key of this identity's kind, Manufacturer and MID, old or not: its place is all zeros afterwards, the TVP
+ * with it, and is used again. So requests of the module that were admitted before are admitted again once its key is put in
+ * again. The identity must be accepted; its GNT and Fingerprint are ignored. Answers OBSCURLANE_NOT_CABINET, then what
  * obscurlane_read_identity answers to the identity, then OBSCURLANE_NOT_THERE: 0 to 6, 23, or 26. */
 obscurlane_filed obscurlane_remove_key(uint8_t *cabinet, size_t cabinet_len, const uint8_t *identity, size_t identity_len);
 
@@ -537,8 +547,8 @@ obscurlane_filed obscurlane_remove_key(uint8_t *cabinet, size_t cabinet_len, con
  * TVP is later than the last one that was accepted for that module. It is then stored in the 16 bytes from
  * OBSCURLANE_CABINET_TVP_AT on of the key's place, and no other byte changes. GNT and Fingerprint of ID_SM are ignored. Answers
  * OBSCURLANE_NOT_CABINET; then what obscurlane_read_record answers to the request, but OBSCURLANE_UNKNOWN_KIND for a record of
- * another kind; then OBSCURLANE_NOT_THERE where the module's key is not there; then OBSCURLANE_TVP_NOT_LATER where the TVP is
- * earlier than the one that is stored, or equal: 0 to 7, 9, 23, 26, or 27.
+ * another kind; then OBSCURLANE_NOT_THERE where the module's key is not there, or is old; then OBSCURLANE_TVP_NOT_LATER where
+ * the TVP is earlier than the one that is stored, or equal: 0 to 7, 9, 23, 26, or 27.
  *
  * What the caller owes, beside the pointers: the MacTag is not looked at, so obscurlane_confirm_request comes first. A TVP that
  * was admitted is used up, and a forged request with a late one would lock its module out. And the changed bytes are stored
@@ -546,8 +556,8 @@ obscurlane_filed obscurlane_remove_key(uint8_t *cabinet, size_t cabinet_len, con
 obscurlane_filed obscurlane_admit(uint8_t *cabinet, size_t cabinet_len, const uint8_t *request, size_t request_len);
 
 /* Where the public key of this identity's kind, Manufacturer and MID stands in the cabinet's bytes, with the numbers of
- * obscurlane_remove_key. The record is the place's `len` bytes from `start` on, a part of the cabinet that holds until the next
- * call that changes it. */
+ * obscurlane_remove_key; OBSCURLANE_NOT_THERE also where it is old. The record is the place's `len` bytes from `start` on, a
+ * part of the cabinet that holds until the next call that changes it. */
 obscurlane_place obscurlane_find_key(const uint8_t *cabinet, size_t cabinet_len, const uint8_t *identity, size_t identity_len);
 
 /* ---- the Fingerprint in the Subject of a public key */
@@ -561,11 +571,11 @@ typedef struct {
 /* Whether the Fingerprint is the right one: the first eight bytes, as HEX(16), of the SHA-384 of the Subject's kind name,
  * Manufacturer, MID and GNT and of Q's 194 characters, each followed by ':'. Answers what obscurlane_read_record answers to the
  * public key, but OBSCURLANE_UNKNOWN_KIND for a record of another kind, and after every other number
- * OBSCURLANE_WRONG_FINGERPRINT, which is about no field: 0 to 9, or 15. */
+ * OBSCURLANE_WRONG_FINGERPRINT, which is about no field: 0 to 9, 15, or 28. */
 obscurlane_checked obscurlane_check_fingerprint(const uint8_t *record, size_t record_len);
 
 /* Writes the Fingerprint that is right, whatever stands in the Subject. Answers the same, but OBSCURLANE_SHORT_OUTPUT in the
- * place of OBSCURLANE_WRONG_FINGERPRINT, for an output of fewer than OBSCURLANE_LONGEST_FINGERPRINT bytes: 0 to 10. */
+ * place of OBSCURLANE_WRONG_FINGERPRINT, for an output of fewer than OBSCURLANE_LONGEST_FINGERPRINT bytes: 0 to 10, or 28. */
 obscurlane_written obscurlane_write_fingerprint(const uint8_t *record, size_t record_len, uint8_t *out, size_t out_len);
 
 /* ---- SHA-384, as FIPS 180-4 defines it */
@@ -716,7 +726,7 @@ bool obscurlane_is_print(const uint8_t *s, size_t s_len);
 
 /* ---- names, in names.c; every answer is a text that stays */
 
-/* A number in words, as "the check differs" for OBSCURLANE_WRONG_CHECK. A number above 27 has words of its own. */
+/* A number in words, as "the check differs" for OBSCURLANE_WRONG_CHECK. A number above 28 has words of its own. */
 const char *obscurlane_reason(uint8_t no);
 
 /* A kind's name, as "VKLOAD.REQ.1"; "none" for OBSCURLANE_KIND_NONE and any other number. */

@@ -241,9 +241,9 @@ static void names(void)
         EXPECT(strcmp(obscurlane_kind_name(fields[i].kind), fields[i].name) == 0);
         EXPECT(strcmp(obscurlane_field_name(fields[i].kind, fields[i].field), fields[i].field_name) == 0);
     }
-    const char *other = obscurlane_reason(OBSCURLANE_TVP_NOT_LATER + 1);
+    const char *other = obscurlane_reason(OBSCURLANE_MODULE_UNSIGNED + 1);
     EXPECT(strcmp(obscurlane_reason(UINT8_MAX), other) == 0);
-    for (uint8_t no = 0; no <= OBSCURLANE_TVP_NOT_LATER; no++) {
+    for (uint8_t no = 0; no <= OBSCURLANE_MODULE_UNSIGNED; no++) {
         EXPECT(strcmp(obscurlane_reason(no), other) != 0);
         for (uint8_t before = 0; before < no; before++) {
             EXPECT(strcmp(obscurlane_reason(no), obscurlane_reason(before)) != 0);

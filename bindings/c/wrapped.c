@@ -372,7 +372,8 @@ static void other_kinds(void)
     EXPECT(choice.no == OBSCURLANE_UNKNOWN_KIND && choice.field == 0 && choice.which == OBSCURLANE_SECOND);
 
     static const char *const others[] = {WORKED_ID_MAKER,   WORKED_ID_SM,      WORKED_ID_KMC,  WORKED_KEY_MAKER,
-                                         WORKED_KEY_MODULE, WORKED_KEY_CENTRE, WORKED_REQUEST, WORKED_RESPONSE};
+                                         WORKED_KEY_MODULE, WORKED_KEY_CENTRE, WORKED_REQUEST, WORKED_RESPONSE,
+                                         WORKED_KEY_SIGNED};
     for (size_t i = 0; i < COUNT_OF(others); i++) {
         expect_no_attribute(others[i], strlen(others[i]), OBSCURLANE_UNKNOWN_KIND, 0);
         expect_no_attribute(others[i], strlen(others[i]) - 1, OBSCURLANE_UNKNOWN_KIND, 0);
