@@ -29,7 +29,7 @@ pub(crate) fn length(written: &sys::Written) -> Result<usize, Refusal> {
 ///
 /// # Errors
 ///
-/// Reasons 1, 2, 5 to 10, and 14. Reason 1 is for a `KEY.1` that would be longer than
+/// Reasons 1, 2, 5 to 10, 14, and 28, which comes before 1 and 10. Reason 1 is for a `KEY.1` that would be longer than
 /// [`LONGEST_RECORD`](crate::LONGEST_RECORD), just before 10 and whatever the room.
 #[inline]
 pub fn build(kind: &[u8], bytes: &[u8], lens: &[usize], out: &mut [u8]) -> Result<usize, Refusal> {

@@ -1,23 +1,25 @@
 //! The centre's key cabinet: up to 64 public keys in 65,536 lent bytes, each with the last TVP of its module.
 
 use crate::record::part;
-use crate::show::Text;
-use crate::{sys, Refusal, CABINET_NUMBER_AT, CABINET_TVP_AT, CABINET_WIDTH};
+use crate::{held_keys, sys, HeldKeys, Refusal};
 use core::fmt;
-use core::iter::FusedIterator;
-use core::slice::ChunksExact;
 
 /// The centre's key cabinet: up to [`CABINET_PLACES`](crate::CABINET_PLACES) public keys in
 /// [`CABINET_SIZE`](crate::CABINET_SIZE) lent bytes.
 ///
 /// Each of its places of [`CABINET_WIDTH`](crate::CABINET_WIDTH) bytes is free, and then all zeros; or it starts with a public key
-/// that [`Record::read`](crate::Record::read) accepts, has zeros after it, from [`CABINET_TVP_AT`](crate::CABINET_TVP_AT) on the
-/// last TVP that was accepted for its module, and in its last eight bytes, from
-/// [`CABINET_NUMBER_AT`](crate::CABINET_NUMBER_AT) on, what [`expiry_of`](crate::expiry_of) says of the record, in big endian and
-/// two's complement. No two of the records share Subject kind, Manufacturer and MID: by these three a key is found, replaced and
-/// taken out, and the module of a load request is found. The lent bytes are all that there is of a cabinet, so that a program may
-/// store them and open them again. All other memory is no cabinet, and so is one with keys that was stored before version 0.11, in
-/// which zeros stand where the TVPs do: its records are put into one that is made empty.
+/// that [`Record::read`](crate::Record::read) accepts, or refuses with reason 28, has zeros after it, from
+/// [`CABINET_TVP_AT`](crate::CABINET_TVP_AT) on the last TVP that was accepted for its module, and in its last eight bytes, from
+/// [`CABINET_NUMBER_AT`](crate::CABINET_NUMBER_AT) on, the seconds of its Expiry, in big endian and two's complement. No two of the
+/// records share Subject kind, Manufacturer and MID: by these three a key is found, replaced and taken out, and the module of a
+/// load request is found. The lent bytes are all that there is of a cabinet, so that a program may store them and open them again.
+/// All other memory is no cabinet, and so is one with keys that was stored before version 0.11, in which zeros stand where the TVPs
+/// do: its records are put into one that is made empty.
+///
+/// A record in a place that is refused with reason 28 is old: the unsigned key of a module, from when such a key was accepted, up to
+/// version 0.11. It stays in its place until it is replaced or taken out, and counts as any other; [`find`](Cabinet::find) and
+/// [`admit`](Cabinet::admit) refuse its module with reason 26. [`keys`](Cabinet::keys) has it among the others, and
+/// [`HeldKey::is_old`](crate::HeldKey::is_old) tells it from them. No call puts an old record in.
 ///
 /// A request is admitted once, for as long as the key of its module is there: a key that is replaced leaves the TVP to the one that
 /// takes its place, and a key that is taken out takes it along. So no two requests of a module that were admitted since the latest
@@ -30,7 +32,7 @@ use core::slice::ChunksExact;
 /// ```
 /// use obscurlane::{build, Cabinet, Reason, CABINET_SIZE, LONGEST_IDENTITY, LONGEST_RECORD};
 ///
-/// // the identity of a module with this GNT, and its key
+/// // the identity of a module with this GNT, and its key, signed by its manufacturer
 /// fn identity(gnt: &str) -> Vec<u8> {
 ///     let mut out = [0; LONGEST_IDENTITY];
 ///     let fields = format!("Prism06000001{gnt}320C265FDC769D3E");
@@ -39,8 +41,10 @@ use core::slice::ChunksExact;
 /// }
 /// fn key(gnt: &str) -> Vec<u8> {
 ///     let (subject, mut out) = (identity(gnt), [0; LONGEST_RECORD]);
-///     let fields = [&subject[..], b"04", &[b'A'; 192], b"20310110T120000Z"].concat();
-///     let len = build(b"PK.ECDH.1", &fields, &[subject.len(), 194, 16, 0, 0], &mut out).unwrap();
+///     let issuer = b"SMMAN.1:Prism:A:20180115T140000Z:105717ACA4A50852:8B04";
+///     let fields = [&subject[..], b"04", &[b'A'; 192], b"20310110T120000Z", issuer, &[b'B'; 192]].concat();
+///     let lens = [subject.len(), 194, 16, issuer.len(), 192];
+///     let len = build(b"PK.ECDH.1", &fields, &lens, &mut out).unwrap();
 ///     out[..len].to_vec()
 /// }
 /// let (old, new) = (key("20180120T090000Z"), key("20190120T090000Z"));
@@ -115,22 +119,22 @@ impl<'a> Cabinet<'a> {
         Ok(Cabinet { bytes })
     }
 
-    /// Puts a public key in. Where the cabinet has one of the same Subject kind, Manufacturer and MID, it is replaced in its place,
-    /// and the TVP there stays; else it is a first put: the lowest free place is taken, with the TVP 19930101T000000Z.
+    /// Puts a public key in. Where the cabinet has one of the same Subject kind, Manufacturer and MID, old or not, it is replaced in
+    /// its place, and the TVP there stays; else it is a first put: the lowest free place is taken, with the TVP 19930101T000000Z.
     ///
     /// # Errors
     ///
-    /// The record's own refusal (reasons 1 to 9), reason 2 for a record that is no public key; then reason 24 where the GNT of its
-    /// Subject is earlier than that of the key to replace, or equal; then reason 25 where there is none to replace and no place is
-    /// free. A full cabinet takes replacements.
+    /// The record's own refusal (reasons 1 to 9, and 28), reason 2 for a record that is no public key; then reason 24 where the GNT of
+    /// its Subject is earlier than that of the key to replace, or equal; then reason 25 where there is none to replace and no place
+    /// is free. A full cabinet takes replacements.
     #[inline]
     pub fn put(&mut self, record: &[u8]) -> Result<(), Refusal> {
         put_key(self.bytes, record)
     }
 
-    /// Takes out the public key of this identity's kind, Manufacturer and MID: its place is all zeros afterwards, the TVP with it,
-    /// and is used again. So requests of the module that were admitted before are admitted again once its key is put in again. The
-    /// identity must be accepted; its GNT and Fingerprint are ignored.
+    /// Takes out the public key of this identity's kind, Manufacturer and MID, old or not: its place is all zeros afterwards, the
+    /// TVP with it, and is used again. So requests of the module that were admitted before are admitted again once its key is put in
+    /// again. The identity must be accepted; its GNT and Fingerprint are ignored.
     ///
     /// # Errors
     ///
@@ -151,7 +155,7 @@ impl<'a> Cabinet<'a> {
     /// # Errors
     ///
     /// The request's own refusal (reasons 1 to 7, or 9), reason 2 for a record that is no load request; then reason 26 where the key
-    /// of its module is not there; then reason 27 where its TVP is earlier than the one that is stored, or equal.
+    /// of its module is not there, or is old; then reason 27 where its TVP is earlier than the one that is stored, or equal.
     #[inline]
     pub fn admit(&mut self, request: &[u8]) -> Result<(), Refusal> {
         admit(self.bytes, request)
@@ -162,13 +166,13 @@ impl<'a> Cabinet<'a> {
     ///
     /// # Errors
     ///
-    /// As [`Cabinet::remove`].
+    /// As [`Cabinet::remove`], and reason 26 where the key is old too.
     #[inline]
     pub fn find(&self, identity: &[u8]) -> Result<&[u8], Refusal> {
         find_key(self.bytes, identity)
     }
 
-    /// How many keys the cabinet has.
+    /// How many keys the cabinet has, old ones with them.
     ///
     /// # Errors
     ///
@@ -179,8 +183,8 @@ impl<'a> Cabinet<'a> {
         count_keys(self.bytes)
     }
 
-    /// All keys of the cabinet in the order of their places, each with the last TVP of its module and the seconds of its Expiry as
-    /// they stand in the place.
+    /// All keys of the cabinet in the order of their places, old ones too, each with the last TVP of its module and the seconds of
+    /// its Expiry as they stand in the place.
     ///
     /// # Errors
     ///
@@ -247,7 +251,7 @@ pub fn check_cabinet(cabinet: &[u8]) -> Result<(), Refusal> {
     filed(&sys::check_cabinet(cabinet))
 }
 
-/// How many keys the cabinet in these bytes has.
+/// How many keys the cabinet in these bytes has, old ones with them.
 ///
 /// ```
 /// use obscurlane::{count_keys, Reason, CABINET_SIZE};
@@ -272,7 +276,10 @@ pub fn count_keys(cabinet: &[u8]) -> Result<usize, Refusal> {
 ///
 /// let key = b"PK.ECDH.1|SMID.1:Prism:06000001:20180120T090000Z:320C265FDC769D3E:8EFF|04795CF0B4D74920C64A\
 ///     6879504A6DE9CA788076D946D2F70F8981C01137752C7C050DC6FA61C2CB3D77EFE4275826857CC286805608F43C2E9A\
-///     C8752600D99FE92CCFB7E146742F0DC9C74CEF6568CBB75AB075D2DFED2EE5531554FA844B8DBC|99991231T115959Z|||ECD4";
+///     C8752600D99FE92CCFB7E146742F0DC9C74CEF6568CBB75AB075D2DFED2EE5531554FA844B8DBC|99991231T115959Z|\
+///     SMMAN.1:Prism:A:20180115T140000Z:105717ACA4A50852:8B04|8E36C1BBF029875C57985D107DE41293FE2ACC8526C3\
+///     3CD7056AC4F4595F4768569E0560A9C85FC6310F77FC8A0C7E5839B12D5A3498E3AAF1C9E8DEA974B554EC64DCAA54670969\
+///     7D67695770EAE4CF9937CD62E6AB726DB35BD5C7CAD23774|4971";
 /// let mut cabinet = vec![0; CABINET_SIZE];
 /// assert_eq!(put_key(&mut cabinet, key), Ok(()));
 /// assert_eq!(put_key(&mut cabinet, key).unwrap_err().reason, Reason::NotLater);
@@ -312,7 +319,10 @@ pub fn remove_key(cabinet: &mut [u8], identity: &[u8]) -> Result<(), Refusal> {
 ///
 /// let key = b"PK.ECDH.1|SMID.1:Prism:06000001:20180120T090000Z:320C265FDC769D3E:8EFF|04795CF0B4D74920C64A\
 ///     6879504A6DE9CA788076D946D2F70F8981C01137752C7C050DC6FA61C2CB3D77EFE4275826857CC286805608F43C2E9A\
-///     C8752600D99FE92CCFB7E146742F0DC9C74CEF6568CBB75AB075D2DFED2EE5531554FA844B8DBC|99991231T115959Z|||ECD4";
+///     C8752600D99FE92CCFB7E146742F0DC9C74CEF6568CBB75AB075D2DFED2EE5531554FA844B8DBC|99991231T115959Z|\
+///     SMMAN.1:Prism:A:20180115T140000Z:105717ACA4A50852:8B04|8E36C1BBF029875C57985D107DE41293FE2ACC8526C3\
+///     3CD7056AC4F4595F4768569E0560A9C85FC6310F77FC8A0C7E5839B12D5A3498E3AAF1C9E8DEA974B554EC64DCAA54670969\
+///     7D67695770EAE4CF9937CD62E6AB726DB35BD5C7CAD23774|4971";
 /// let request = b"VKLOAD.REQ.1|SMID.1:Prism:06000001:20180120T090000Z:320C265FDC769D3E:8EFF|\
 ///     KMCID.1:sts-KeyAgreement-1.2:TEST1:20180110T120000Z:4712CFF444570C8A:4C31|20180125T150000Z|\
 ///     Prism-VSM-1|STS6-001|0473E2C294EE44A17A5668ABE67C1F93CBDBCE38DEF4848584C279047A8DDCFFBAE8857C2CCC1\
@@ -351,98 +361,8 @@ pub fn admit(cabinet: &mut [u8], request: &[u8]) -> Result<(), Refusal> {
 ///
 /// # Errors
 ///
-/// Reason 23 where the bytes are no cabinet, then the identity's own refusal (reasons 1 to 6), then reason 26 where there is no such
-/// key.
+/// Reason 23 where the bytes are no cabinet, then as [`Cabinet::find`].
 #[inline]
 pub fn find_key<'a>(cabinet: &'a [u8], identity: &[u8]) -> Result<&'a [u8], Refusal> {
     part(cabinet, &sys::find_key(cabinet, identity))
-}
-
-/// A public key in a cabinet.
-#[derive(Clone, Copy, PartialEq, Eq, Hash)]
-pub struct HeldKey<'a> {
-    /// The record, a part of the cabinet's bytes.
-    pub record: &'a [u8],
-    /// The last TVP that was accepted for its module, a part of the cabinet's bytes; `19930101T000000Z` where none was.
-    pub tvp: &'a [u8],
-    /// The seconds from 19930101T000000Z to its Expiry: what [`expiry_of`](crate::expiry_of) says of the record.
-    pub expiry: i64,
-}
-
-/// The record and the TVP as text.
-impl fmt::Debug for HeldKey<'_> {
-    fn fmt(&self, f: &mut fmt::Formatter<'_>) -> fmt::Result {
-        f.debug_struct("HeldKey")
-            .field("record", &Text(self.record))
-            .field("tvp", &Text(self.tvp))
-            .field("expiry", &self.expiry)
-            .finish()
-    }
-}
-
-/// The keys of a cabinet, in the order of their places: what [`held_keys`] and [`Cabinet::keys`] hand back.
-#[derive(Clone)]
-pub struct HeldKeys<'a> {
-    places: ChunksExact<'a, u8>,
-}
-
-const TVP_BYTES: usize = CABINET_NUMBER_AT - CABINET_TVP_AT;
-
-/// What stands in a place of a cabinet; nothing in a free one.
-fn held(place: &[u8]) -> Option<HeldKey<'_>> {
-    let (front, number) = place.split_last_chunk()?;
-    let (front, tvp) = front.split_last_chunk::<TVP_BYTES>()?;
-    let record = front.split(|&byte| byte == 0).next()?;
-    let expiry = i64::from_be_bytes(*number);
-    (!record.is_empty()).then_some(HeldKey { record, tvp, expiry })
-}
-
-impl<'a> Iterator for HeldKeys<'a> {
-    type Item = HeldKey<'a>;
-
-    #[inline]
-    fn next(&mut self) -> Option<HeldKey<'a>> {
-        self.places.find_map(held)
-    }
-}
-
-impl FusedIterator for HeldKeys<'_> {}
-
-/// The keys that are left.
-impl fmt::Debug for HeldKeys<'_> {
-    fn fmt(&self, f: &mut fmt::Formatter<'_>) -> fmt::Result {
-        f.debug_list().entries(self.clone()).finish()
-    }
-}
-
-/// All keys of the cabinet in these bytes, in the order of their places, each with the last TVP of its module and the seconds of its
-/// Expiry as they stand in the place: the bytes are asked once whether they are a cabinet, and no record is read again.
-///
-/// ```
-/// use obscurlane::{held_keys, put_key, Reason, CABINET_SIZE};
-///
-/// let key = b"PK.ECDH.1|SMID.1:Prism:06000001:20180120T090000Z:320C265FDC769D3E:8EFF|04795CF0B4D74920C64A\
-///     6879504A6DE9CA788076D946D2F70F8981C01137752C7C050DC6FA61C2CB3D77EFE4275826857CC286805608F43C2E9A\
-///     C8752600D99FE92CCFB7E146742F0DC9C74CEF6568CBB75AB075D2DFED2EE5531554FA844B8DBC|99991231T115959Z|||ECD4";
-/// let mut cabinet = vec![0; CABINET_SIZE];
-/// assert_eq!(held_keys(&cabinet)?.count(), 0);
-/// put_key(&mut cabinet, key)?;
-/// for held in held_keys(&cabinet)? {
-///     assert_eq!((held.record, held.expiry), (&key[..], 252_676_411_199));
-///     assert_eq!(held.tvp, b"19930101T000000Z");
-/// }
-///
-/// // another number is no cabinet
-/// cabinet[1023] ^= 1;
-/// assert_eq!(held_keys(&cabinet).unwrap_err().reason, Reason::NotCabinet);
-/// # Ok::<(), obscurlane::Refusal>(())
-/// ```
-///
-/// # Errors
-///
-/// Reason 23 where the bytes are no cabinet.
-#[inline]
-pub fn held_keys(cabinet: &[u8]) -> Result<HeldKeys<'_>, Refusal> {
-    check_cabinet(cabinet)?;
-    Ok(HeldKeys { places: cabinet.chunks_exact(CABINET_WIDTH) })
 }

@@ -61,7 +61,7 @@ pub fn moment_of(text: &[u8]) -> Option<i64> {
 ///
 /// # Errors
 ///
-/// The record's own refusal (reasons 1 to 9), reason 2 for a record of another kind.
+/// The record's own refusal (reasons 1 to 9, and 28), reason 2 for a record of another kind.
 #[inline]
 pub fn expiry_of(record: &[u8]) -> Result<i64, Refusal> {
     let expiry = sys::expiry_of(record);

@@ -21,7 +21,7 @@ pub mod public_key {
     pub const Q: usize = 2;
     /// Expiry.
     pub const EXPIRY: usize = 3;
-    /// Issuer, the identity that signed; empty in an unsigned key.
+    /// Issuer, the identity that signed; empty in an unsigned key, which a module's is not.
     pub const ISSUER: usize = 4;
     /// Signature; empty in an unsigned key.
     pub const SIGNATURE: usize = 5;

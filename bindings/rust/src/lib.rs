@@ -21,6 +21,7 @@ pub mod field;
 mod files;
 mod fingerprint;
 mod hash;
+mod held;
 mod hmac;
 mod kind;
 mod lengths;
@@ -40,8 +41,7 @@ pub use building::build;
 #[cfg(feature = "alloc")]
 pub use building::build_parts;
 pub use cabinet::{
-    admit, check_cabinet, count_keys, find_key, held_keys, make_cabinet, put_key, remove_key,
-    Cabinet, HeldKey, HeldKeys,
+    admit, check_cabinet, count_keys, find_key, make_cabinet, put_key, remove_key, Cabinet,
 };
 pub use check::{crc_of, Crc};
 pub use confirm::{confirm_request, confirm_response, ConfirmRefusal};
@@ -49,6 +49,7 @@ pub use dates::{expiry_of, moment_of};
 pub use files::{count, line_at, lines, Line, Lines, Totals};
 pub use fingerprint::{check_fingerprint, write_fingerprint};
 pub use hash::{sha1_of, sha384_of, Sha1, Sha384};
+pub use held::{held_keys, HeldKey, HeldKeys};
 pub use hmac::hmac_of;
 pub use kind::Kind;
 pub use lengths::{

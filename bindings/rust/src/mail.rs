@@ -28,8 +28,8 @@ use crate::{sys, Refusal};
 ///
 /// # Errors
 ///
-/// The refusal of [`Record::read`](crate::Record::read) (reasons 1 to 9, and 14), then reason 10 for an output that is shorter than
-/// the block. That of a record of `n` bytes has `30 + 2 * k + n + n.div_ceil(64)` bytes, where `k` is the length of its kind's
+/// The refusal of [`Record::read`](crate::Record::read) (reasons 1 to 9, 14, and 28), then reason 10 for an output that is shorter
+/// than the block. That of a record of `n` bytes has `30 + 2 * k + n + n.div_ceil(64)` bytes, where `k` is the length of its kind's
 /// name; [`LONGEST_MAIL`](crate::LONGEST_MAIL) bytes are always enough.
 #[inline]
 pub fn write_mail(record: &[u8], out: &mut [u8]) -> Result<usize, Refusal> {
@@ -66,8 +66,8 @@ pub fn write_mail(record: &[u8], out: &mut [u8]) -> Result<usize, Refusal> {
 ///
 /// # Errors
 ///
-/// Reason 21, then reason 22, then what [`Record::read`](crate::Record::read) refuses the record with (reasons 1 to 9, and 14),
-/// but reason 2 for a record of another kind than the BEGINS line names; then reason 10 for an output that is shorter than the
+/// Reason 21, then reason 22, then what [`Record::read`](crate::Record::read) refuses the record with (reasons 1 to 9, 14, and
+/// 28), but reason 2 for a record of another kind than the BEGINS line names; then reason 10 for an output that is shorter than the
 /// record. [`LONGEST_RECORD`](crate::LONGEST_RECORD) bytes are always enough. Reason 1 counts the bytes after unfolding: the text
 /// may have any length.
 #[inline]

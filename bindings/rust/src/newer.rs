@@ -64,7 +64,8 @@ impl Error for NewerRefusal {}
 ///
 /// # Errors
 ///
-/// The first record's refusal, then the second's (reason 2 for a record that is no public key), then that the Subjects differ.
+/// The first record's refusal, then the second's (reasons 1 to 9, and 28, of which 2 is for a record that is no public key), then
+/// that the Subjects differ.
 #[inline]
 pub fn newer<'a>(first: &'a [u8], second: &'a [u8]) -> Result<&'a [u8], NewerRefusal> {
     let choice = sys::newer(first, second);

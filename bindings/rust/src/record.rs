@@ -56,7 +56,7 @@ impl<'a> Record<'a> {
     ///
     /// # Errors
     ///
-    /// Reasons 1 to 9, and 14.
+    /// Reasons 1 to 9, 14, and 28.
     #[inline]
     pub fn read(bytes: &'a [u8]) -> Result<Record<'a>, Refusal> {
         Record::of(bytes, sys::read_record(bytes))
@@ -107,8 +107,8 @@ impl<'a> Record<'a> {
     ///
     /// # Errors
     ///
-    /// Reason 19, then what [`Record::read`] refuses the record with (reasons 1 to 9, and 14), then reason 20. Reason 1 counts
-    /// the record in front of the trailer.
+    /// Reason 19, then what [`Record::read`] refuses the record with (reasons 1 to 9, 14, and 28), then reason 20. Reason 1
+    /// counts the record in front of the trailer.
     #[inline]
     pub fn read_trailed(line: &'a [u8]) -> Result<Record<'a>, Refusal> {
         let answer = sys::read_trailed(line);

@@ -70,10 +70,13 @@ pub enum Reason {
     NotLater = 24,
     /// 25: no place of the cabinet is free: 64 other Subjects are present.
     NoPlace = 25,
-    /// 26: the cabinet has no key of the identity's kind, Manufacturer and MID, to find or to remove; or of a request's ID_SM.
+    /// 26: the cabinet has no key of the identity's kind, Manufacturer and MID, to find or to remove; or of a request's ID_SM. To
+    /// find, and of ID_SM: or it is old.
     NotThere = 26,
     /// 27: the TVP of the request is not later than the last one that was accepted for its module.
     TvpNotLater = 27,
+    /// 28: the key of a module is unsigned: the Subject of a `PK.ECDH.1` is an `SMID.1`, and Issuer and Signature are empty.
+    ModuleUnsigned = 28,
 }
 
 impl Reason {
@@ -106,6 +109,7 @@ impl Reason {
         Reason::NoPlace,
         Reason::NotThere,
         Reason::TvpNotLater,
+        Reason::ModuleUnsigned,
     ];
 
     /// The number, from 1.
@@ -160,6 +164,7 @@ impl Reason {
             Reason::NoPlace => "no place of the cabinet is free",
             Reason::NotThere => "the cabinet has no key of this kind, Manufacturer and MID",
             Reason::TvpNotLater => "the TVP is not later than the last one accepted for the module",
+            Reason::ModuleUnsigned => "the key of a module is unsigned",
         }
     }
 }

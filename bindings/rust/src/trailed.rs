@@ -127,8 +127,8 @@ pub fn count_trailed(file: &[u8]) -> Totals {
 ///
 /// # Errors
 ///
-/// The refusal of [`Record::read`](crate::Record::read) (reasons 1 to 9, and 14), then reason 10 for an output that is shorter than
-/// the record and [`TRAILER`](crate::TRAILER) bytes. [`LONGEST_TRAILED`](crate::LONGEST_TRAILED) bytes are always enough.
+/// The refusal of [`Record::read`](crate::Record::read) (reasons 1 to 9, 14, and 28), then reason 10 for an output that is shorter
+/// than the record and [`TRAILER`](crate::TRAILER) bytes. [`LONGEST_TRAILED`](crate::LONGEST_TRAILED) bytes are always enough.
 #[inline]
 pub fn write_trailed(record: &[u8], out: &mut [u8]) -> Result<usize, Refusal> {
     length(&sys::write_trailed(record, out))

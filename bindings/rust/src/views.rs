@@ -105,7 +105,7 @@ impl<'a> InnerIdentity<'a> {
     }
 }
 
-/// A public key by its fields. Issuer and Signature are there both or not at all.
+/// A public key by its fields. Issuer and Signature are there both or not at all, and always where the Subject is an `SMID.1`.
 #[derive(Clone, Copy, PartialEq, Eq, Hash)]
 pub struct PublicKey<'a> {
     /// `PK.ECDSA.1` or `PK.ECDH.1`.

@@ -4,84 +4,22 @@ mod held;
 
 use compare::kind::Kind;
 use compare::random::Random;
-use compare::sample::{self, Fault, PublicKey, Signed, Subject};
-use compare::text::PRINT_DIGITS;
+use compare::sample::{self, Fault, Subject};
 use compare::worked::{worked, IDENTITIES, RECORDS};
 use held::cabinet::{
-    asked, is_tvp, names, own, place_from, place_with, requested, Both, Held, NOT_LATER, NOT_THERE,
-    NO_CABINET, NO_PLACE, START, TVP_NOT_LATER,
+    asked, expect_no_cabinet, expect_put, is_tvp, names, own, place_from, requested, tvp_in,
+    with_bytes, with_place, Both, Held, NOT_LATER, NOT_THERE, NO_CABINET, NO_PLACE, START,
+    TVP_NOT_LATER, UNSIGNED,
 };
-use held::{expected, first, lent, numbers, place, rounds, Seen};
+use held::keys::{
+    at, filled, identity, key, key_until, nth, nth_module, request, subject, unsigned_key, EARLIER,
+    EQUAL, LATER,
+};
+use held::{first, lent, numbers, place, rounds, Seen};
 use obscurlane::{
-    admit, check_cabinet, count_keys, find_key, held_keys, make_cabinet, put_key, remove_key,
-    Cabinet, Reason, Record, CABINET_NUMBER_AT, CABINET_PLACES, CABINET_SIZE, CABINET_TVP_AT,
-    CABINET_WIDTH,
+    admit, check_cabinet, count_keys, find_key, make_cabinet, remove_key, Cabinet, Record,
+    CABINET_NUMBER_AT, CABINET_PLACES, CABINET_SIZE, CABINET_TVP_AT, CABINET_WIDTH,
 };
-
-// ---- Subjects, keys, identities and requests
-
-/// A Subject of this kind, Manufacturer and MID.
-fn subject(kind: Kind, manufacturer: &[u8], mid: &[u8], gnt: &[u8]) -> Subject {
-    let [manufacturer, mid, gnt] = [manufacturer, mid, gnt].map(<[u8]>::to_vec);
-    Subject { kind, manufacturer, mid, gnt }
-}
-
-/// Subjects that differ in their kind alone, in Manufacturer or in MID.
-fn nth(number: usize) -> Subject {
-    let kind = Kind::IDENTITIES[number % 3];
-    let manufacturer: &[u8] = if number % 2 == 0 { b"Prism" } else { b"Prism0" };
-    subject(kind, manufacturer, format!("{:08}", number / 6).as_bytes(), b"20180120T090000Z")
-}
-
-fn at(mut subject: Subject, gnt: &[u8]) -> Subject {
-    subject.gnt = gnt.to_vec();
-    subject
-}
-
-/// A permitted key of this Subject.
-fn key(random: &mut Random, subject: &Subject) -> Vec<u8> {
-    let signed = Signed::any(random);
-    PublicKey::of(random, subject.clone(), signed).record()
-}
-
-/// One with this Expiry.
-fn key_until(random: &mut Random, subject: &Subject, expiry: &str) -> Vec<u8> {
-    let signed = Signed::any(random);
-    let expiry = expiry.into();
-    PublicKey { expiry, ..PublicKey::of(random, subject.clone(), signed) }.record()
-}
-
-/// The identity of these names, with another GNT and another Fingerprint.
-fn identity(random: &mut Random, subject: &Subject) -> Vec<u8> {
-    let gnt = sample::timestamp(random);
-    at(subject.clone(), &gnt).identity(sample::hex(random, PRINT_DIGITS))
-}
-
-/// The module among these Subjects that has this number.
-fn nth_module(number: usize) -> Subject {
-    nth(3 * number + 1)
-}
-
-/// A permitted request of this module, with another GNT and another Fingerprint.
-fn request(random: &mut Random, module: &Subject, tvp: &[u8]) -> Vec<u8> {
-    let mut fields = sample::fields(random, Kind::VkloadReq, Signed::No);
-    fields[0] = identity(random, module);
-    fields[2] = tvp.to_vec();
-    sample::of_kind(Kind::VkloadReq, &fields)
-}
-
-/// A cabinet with the first so many Subjects.
-fn filled(random: &mut Random, count: usize) -> Both {
-    let mut both = Both::new();
-    for number in 0..count {
-        assert_eq!(both.put(&key(random, &nth(number))), Ok(()));
-    }
-    both
-}
-
-const EARLIER: &[u8] = b"20180120T085959Z";
-const EQUAL: &[u8] = b"20180120T090000Z";
-const LATER: &[u8] = b"20180120T090001Z";
 
 // ---- the request's words
 
@@ -175,16 +113,17 @@ fn places_are_used_again() {
 #[test]
 fn the_worked_keys() {
     let mut both = Both::new();
-    let keys = [("ID_KMC", "PUBKEY_KMC"), ("ID_MAN", "PUBKEY_MAN"), ("ID_SM", "PUBKEY_SM_NOSIG")];
+    let keys = [("ID_KMC", "PUBKEY_KMC"), ("ID_MAN", "PUBKEY_MAN"), ("ID_SM", "PUBKEY_SM")];
     for (name, key) in keys {
         assert_eq!(both.find(&worked(name)), Err(NOT_THERE));
         assert_eq!(both.put(&worked(key)), Ok(()));
         assert_eq!(both.put(&worked(key)), Err(NOT_LATER));
         assert_eq!(both.find(&worked(name)), Ok(worked(key)));
     }
-    // The signed key of the module has the same GNT.
-    assert_eq!(both.put(&worked("PUBKEY_SM")), Err(NOT_LATER));
+    // The unsigned key of the module, which has the same GNT, is refused whether the signed one is there or not.
+    assert_eq!(both.put(&worked("PUBKEY_SM_NOSIG")), Err(UNSIGNED));
     assert_eq!(both.remove(&worked("ID_SM")), Ok(()));
+    assert_eq!(both.put(&worked("PUBKEY_SM_NOSIG")), Err(UNSIGNED));
     assert_eq!(both.put(&worked("PUBKEY_SM")), Ok(()));
     assert_eq!(both.find(&worked("ID_SM")), Ok(worked("PUBKEY_SM")));
     assert_eq!(both.find(&worked("APPA_ID_SM")), Err(NOT_THERE));
@@ -266,16 +205,13 @@ fn every_choice_of_faults_in_a_put() {
                 let place = random.below(CABINET_PLACES - 1);
                 bytes[place * CABINET_WIDTH + CABINET_TVP_AT - 1] = random.one_of(b"\n 0A");
             }
-            let before = bytes.clone();
             let wanted = first([
                 (is_none, NO_CABINET),
                 (is_faulty, wrong),
                 (is_there, NOT_LATER),
                 (is_full, NO_PLACE),
             ]);
-            let said = numbers(put_key(&mut bytes, &record));
-            assert_eq!(said, wanted, "{choice} {fault:?}");
-            assert!(said.is_ok() || bytes == before, "{choice}");
+            expect_put(&mut bytes, &record, wanted, &format!("{choice} {fault:?}"));
         }
     }
 }
@@ -351,36 +287,6 @@ fn every_choice_of_faults_in_a_request() {
 }
 
 // ---- what is no cabinet
-
-/// 23 from every call, and no byte is another.
-fn expect_no_cabinet(bytes: &mut [u8], what: &str) {
-    let before = bytes.to_vec();
-    assert_eq!(numbers(check_cabinet(bytes)), Err(NO_CABINET), "{what}");
-    assert_eq!(numbers(count_keys(bytes)), Err(NO_CABINET), "{what}");
-    assert_eq!(numbers(held_keys(bytes).map(drop)), Err(NO_CABINET), "{what}");
-    assert_eq!(expected(compare::cabinet::check(bytes)), Err(NO_CABINET), "{what}");
-    let texts = ["PUBKEY_SM", "ID_SM", "ID_KMC", "VKLOADREQ"].map(worked);
-    for text in texts.into_iter().chain([Vec::new()]) {
-        assert_eq!(numbers(find_key(bytes, &text)), Err(NO_CABINET), "{what}");
-        assert_eq!(numbers(put_key(bytes, &text)), Err(NO_CABINET), "{what}");
-        assert_eq!(numbers(remove_key(bytes, &text)), Err(NO_CABINET), "{what}");
-        assert_eq!(numbers(admit(bytes, &text)), Err(NO_CABINET), "{what}");
-    }
-    assert_eq!(Cabinet::open(bytes).unwrap_err().reason, Reason::NotCabinet, "{what}");
-    assert!(bytes == before, "{what}");
-}
-
-/// A cabinet with these bytes in a place.
-fn with_bytes(cabinet: &[u8], place: usize, bytes: &[u8]) -> Vec<u8> {
-    let mut cabinet = cabinet.to_vec();
-    cabinet[place * CABINET_WIDTH..][..CABINET_WIDTH].copy_from_slice(bytes);
-    cabinet
-}
-
-/// A cabinet with these bytes at the front of a place, zeros after them, the TVP of a first put, and this number.
-fn with_place(cabinet: &[u8], place: usize, front: &[u8], number: i64) -> Vec<u8> {
-    with_bytes(cabinet, place, &place_with(front, number))
-}
 
 #[test]
 fn other_lengths() {
@@ -600,11 +506,6 @@ fn numbers_of_other_places() {
 
 // ---- the last TVP
 
-/// The sixteen bytes before the number of a place.
-fn tvp_in(cabinet: &[u8], place: usize) -> &[u8] {
-    &cabinet[place * CABINET_WIDTH..][CABINET_TVP_AT..CABINET_NUMBER_AT]
-}
-
 /// Admitted once, and again only where the key was taken out and put in again.
 #[test]
 fn the_worked_request() {
@@ -615,7 +516,8 @@ fn the_worked_request() {
         assert_eq!(both.put(&worked(name)), Ok(()));
         assert_eq!(both.admit(&request), Err(NOT_THERE));
     }
-    assert_eq!(both.put(&worked("PUBKEY_SM_NOSIG")), Ok(()));
+    let module = subject(Kind::Smid, b"Prism", b"06000001", EARLIER);
+    assert_eq!(both.put(&key(&mut random, &module)), Ok(()));
     assert_eq!(tvp_in(&both.bytes, 2), START);
     let mut wanted = both.bytes.clone();
     wanted[2 * CABINET_WIDTH + CABINET_TVP_AT..][..16].copy_from_slice(tvp);
@@ -623,10 +525,13 @@ fn the_worked_request() {
     assert!(both.bytes == wanted);
     assert_eq!(both.admit(&request), Err(TVP_NOT_LATER));
     // A replacement keeps the TVP, and so does one that is refused.
-    assert_eq!(both.put(&worked("PUBKEY_SM")), Err(NOT_LATER));
+    assert_eq!(both.put(&worked("PUBKEY_SM_NOSIG")), Err(UNSIGNED));
+    assert_eq!(both.put(&key(&mut random, &module)), Err(NOT_LATER));
     assert_eq!(both.admit(&request), Err(TVP_NOT_LATER));
-    let module = subject(Kind::Smid, b"Prism", b"06000001", LATER);
-    assert_eq!(both.put(&key(&mut random, &module)), Ok(()));
+    assert_eq!(both.put(&worked("PUBKEY_SM")), Ok(()));
+    assert_eq!(tvp_in(&both.bytes, 2), tvp);
+    assert_eq!(both.admit(&request), Err(TVP_NOT_LATER));
+    assert_eq!(both.put(&key(&mut random, &at(module, LATER))), Ok(()));
     assert_eq!(tvp_in(&both.bytes, 2), tvp);
     assert_eq!(both.admit(&request), Err(TVP_NOT_LATER));
     assert_eq!(both.remove(&worked("ID_SM")), Ok(()));
@@ -822,15 +727,19 @@ fn any_tvp(random: &mut Random, call: usize) -> Vec<u8> {
     }
 }
 
-/// What a history may have: a key of one of so many Subjects, with a GNT of few; the same, damaged; an identity; a request of the
-/// module with these names, whatever the kind of the Subject; the same twice, and damaged; or anything.
+/// What a history may have: a key of one of so many Subjects, with a GNT of few; the same of a module, unsigned; the same, damaged;
+/// an identity; a request of the module with these names, whatever the kind of the Subject; the same twice, and damaged; or anything.
 fn step(random: &mut Random, both: &mut Both, subjects: usize, call: usize, seen: &mut Seen) {
     let gnts =
         [EARLIER, EQUAL, LATER, b"19930101T000000Z", b"20180121T090000Z", b"99991231T235959Z"];
     let gnt = random.one_of(&gnts);
     let whose = at(nth(random.below(subjects)), gnt);
-    match random.below(14) {
+    match random.below(15) {
         0..=4 => seen.add(&both.put(&key(random, &whose))),
+        14 => {
+            let module = Subject { kind: Kind::Smid, ..whose };
+            assert_eq!(both.put(&unsigned_key(random, &module)), Err(UNSIGNED));
+        }
         5 | 6 => seen.add(&both.remove(&identity(random, &whose))),
         7 => seen.add(&both.find(&identity(random, &whose))),
         8 => {
@@ -862,6 +771,16 @@ fn step(random: &mut Random, both: &mut Both, subjects: usize, call: usize, seen
     }
 }
 
+/// Calls on a cabinet, and the keys that are there afterwards.
+fn history(random: &mut Random, mut both: Both, subjects: usize, calls: usize, seen: &mut Seen) {
+    for call in 0..calls {
+        step(random, &mut both, subjects, call, seen);
+    }
+    for number in 0..subjects {
+        let _ = both.find(&identity(random, &nth(number)));
+    }
+}
+
 /// The occupied places number the accepted first puts less the accepted removals, find gives the last accepted put that was not
 /// removed, and no request is admitted twice between: so says the plain cabinet, which every call is held against.
 #[test]
@@ -869,13 +788,29 @@ fn histories() {
     let mut random = Random::with_seed(215);
     let mut seen = Seen::default();
     for subjects in [2, 10, 70, 80, 200] {
+        history(&mut random, Both::new(), subjects, rounds().div_ceil(6), &mut seen);
+    }
+    seen.expect([0, 24, 25, 26, 27, 2, 4, 6], 5);
+}
+
+/// The same from bytes that an earlier version stored: keys of some of the Subjects in some of the places, with any TVP, and those of
+/// modules old or not.
+#[test]
+fn histories_with_old_records() {
+    let mut random = Random::with_seed(227);
+    let mut seen = Seen::default();
+    for subjects in [2, 10, 70, 80, 200] {
         let mut both = Both::new();
-        for call in 0..rounds().div_ceil(6) {
-            step(&mut random, &mut both, subjects, call, &mut seen);
+        for place in 0..CABINET_PLACES.min(subjects) {
+            let whose = at(nth(place), random.one_of(&[EARLIER, EQUAL, LATER]));
+            let is_unsigned = whose.kind == Kind::Smid && random.once_in(2);
+            let make = if is_unsigned { unsigned_key } else { key };
+            let tvp = random.one_of(&[&START[..], EARLIER, EQUAL]).to_vec();
+            let held = Held { tvp, ..Held::of(&make(&mut random, &whose)) };
+            both.model.0[place] = (!random.once_in(4)).then_some(held);
         }
-        for number in 0..subjects {
-            let _ = both.find(&identity(&mut random, &nth(number)));
-        }
+        both.store();
+        history(&mut random, both, subjects, rounds().div_ceil(6), &mut seen);
     }
     seen.expect([0, 24, 25, 26, 27, 2, 4, 6], 5);
 }
@@ -909,7 +844,7 @@ fn a_cabinet_hands_out_its_keys() {
     let mut keys = cabinet.keys().expect("a cabinet");
     let shown = format!("{keys:?}");
     assert!(shown.starts_with("[HeldKey { record: \"PK.ECDH.1|KMCID.1:"), "{shown}");
-    let last = "|4971\", tvp: \"20180125T150000Z\", expiry: 252676411199 }]";
+    let last = "|4971\", tvp: \"20180125T150000Z\", expiry: 252676411199, is_old: false }]";
     assert!(shown.ends_with(last), "{shown}");
     for (at, name, tvp, expiry) in [
         (0, "PUBKEY_KMC", START, 884_433_600),
@@ -923,6 +858,7 @@ fn a_cabinet_hands_out_its_keys() {
             place(&cabinet.bytes()[at * CABINET_WIDTH..][..key.record.len()])
         );
         assert_eq!(obscurlane::expiry_of(key.record), Ok(expiry));
+        assert!(!key.is_old());
     }
     assert_eq!((keys.next(), keys.next()), (None, None));
 }

@@ -4,10 +4,10 @@ mod held;
 
 use compare::kind::Kind;
 use compare::random::Random;
-use compare::sample::{self, Fault, PublicKey, Signed, Subject};
+use compare::sample::{self, Fault, PublicKey, Subject};
 use compare::text::{LONGEST_IDENT, PRINT_DIGITS};
 use held::fingerprint::same_fingerprint;
-use held::{change_digit, expect_share, hash, rounds, Seen};
+use held::{change_digit, expect_share, hash, keys, rounds, Seen};
 use obscurlane::Sha384;
 
 // ---- the hash
@@ -52,8 +52,8 @@ fn a_state_does_not_show_what_it_was_given() {
 
 /// A key with the right Fingerprint.
 fn right_key(random: &mut Random) -> PublicKey {
-    let (subject, signed) = (Subject::any(random), Signed::any(random));
-    PublicKey::of(random, subject, signed)
+    let subject = Subject::any(random);
+    keys::any_key(random, &subject)
 }
 
 /// Another digit in one place of the Fingerprint.
@@ -139,7 +139,7 @@ fn names_of_every_length() {
     for kind in Kind::IDENTITIES {
         for lengths in 2..=2 * LONGEST_IDENT {
             let subject = Subject { kind, ..Subject::any(&mut random) };
-            let mut key = PublicKey::of(&mut random, subject, Signed::No);
+            let mut key = keys::any_key(&mut random, &subject);
             let first = lengths.div_ceil(2);
             key.subject.manufacturer = sample::ident(&mut random, first);
             key.subject.mid = sample::ident(&mut random, lengths - first);

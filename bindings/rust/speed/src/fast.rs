@@ -9,7 +9,8 @@ use crate::fast_hash::{self, Sha384};
 use crate::fast_mail;
 use crate::fast_trailed;
 use crate::kinds::{
-    Kind, Type, IDENTITIES, PUBLIC_KEYS, RECORDS, WRONG_IDENTITY, WRONG_KIND, WRONG_TEXT,
+    check_signed, Kind, Type, IDENTITIES, PUBLIC_KEYS, RECORDS, WRONG_IDENTITY, WRONG_KIND,
+    WRONG_TEXT,
 };
 use crate::side::{
     Fields, Line, NamedRefusal, Pieces, Reads, Refusal, Side, MISSING_CHECK, MISSING_PART,
@@ -334,6 +335,13 @@ fn check_of(text: &[u8; CHECK_LENGTH]) -> Option<u16> {
 
 /// The kind and the fields of a record of one of the wanted kinds.
 pub fn read<'a>(bytes: &'a [u8], wanted: &[Kind]) -> Result<(Kind, Fields<'a>), Refusal> {
+    let (kind, fields) = read_stored(bytes, wanted)?;
+    check_signed(kind, &fields)?;
+    Ok((kind, fields))
+}
+
+/// The same of one that may be old, in a place of a cabinet.
+pub fn read_stored<'a>(bytes: &'a [u8], wanted: &[Kind]) -> Result<(Kind, Fields<'a>), Refusal> {
     if bytes.len() > LONGEST_READ {
         return Err(TOO_LONG);
     }
@@ -437,7 +445,8 @@ fn permitted<'a>(kind: Kind, mut rest: &'a [u8], lens: &[usize]) -> Result<Field
     for (number, &field_type) in (1..).zip(kind.types()) {
         field_length(field_type, None, fields[number - 1]).map_err(|no| (no, number))?;
     }
-    check_together(kind, &fields).map(|()| fields)
+    check_together(kind, &fields)?;
+    check_signed(kind, &fields).map(|()| fields)
 }
 
 pub fn decoded(point: &[u8]) -> [u8; POINT_BYTES] {

@@ -1,11 +1,12 @@
 //! The key cabinet for `fast.rs`: a record's end is looked for eight bytes at a time, the zeros behind it are gone over without an early
 //! end, and of names a number is compared before the names themselves.
 
-use crate::fast::{find, read, timestamp};
+use crate::fast::{find, read, read_stored, timestamp};
 use crate::fast_dates::seconds_of;
-use crate::kinds::{Kind, IDENTITIES, PUBLIC_KEYS};
+use crate::kinds::{check_signed, Kind, IDENTITIES, PUBLIC_KEYS};
 use crate::side::{
-    Refusal, FIRST_TVP, GNT_TO_END, NOT_CABINET, NOT_LATER, NOT_THERE, NO_PLACE, TVP_NOT_LATER,
+    Fields, Refusal, FIRST_TVP, GNT_TO_END, NOT_CABINET, NOT_LATER, NOT_THERE, NO_PLACE,
+    TVP_NOT_LATER,
 };
 use obscurlane::{CABINET_NUMBER_AT, CABINET_PLACES, CABINET_SIZE, CABINET_TVP_AT, CABINET_WIDTH};
 
@@ -24,6 +25,7 @@ struct Held<'a> {
     gnt: &'a [u8],
     tvp: &'a [u8; 16],
     number: [u8; 8],
+    is_old: bool,
 }
 
 type Shelf<'a> = [Option<Held<'a>>; CABINET_PLACES];
@@ -35,11 +37,11 @@ fn split(identity: &[u8]) -> (Names<'_>, &[u8]) {
     (Names { number, text }, &rest[..16])
 }
 
-fn read_key(record: &[u8]) -> Result<Held<'_>, Refusal> {
-    let [subject, _, expiry, ..] = read(record, PUBLIC_KEYS)?.1;
-    let (names, gnt) = split(subject);
-    let number = seconds_of(expiry).to_be_bytes();
-    Ok(Held { record, names, gnt, tvp: FIRST_TVP, number })
+fn held_by<'a>(record: &'a [u8], (kind, fields): (Kind, Fields<'a>)) -> Held<'a> {
+    let (names, gnt) = split(fields[0]);
+    let number = seconds_of(fields[2]).to_be_bytes();
+    let is_old = check_signed(kind, &fields).is_err();
+    Held { record, names, gnt, tvp: FIRST_TVP, number, is_old }
 }
 
 fn are_zeros(bytes: &[u8]) -> bool {
@@ -59,7 +61,7 @@ fn read_place(place: &[u8]) -> Result<Option<Held<'_>>, Refusal> {
     let (front, last) = place.split_at(CABINET_TVP_AT);
     let (tvp, number) = last.split_first_chunk().ok_or(NOT_CABINET)?;
     let (record, rest) = front.split_at_checked(len).ok_or(NOT_CABINET)?;
-    let held = read_key(record).map_err(|_| NOT_CABINET)?;
+    let held = held_by(record, read_stored(record, PUBLIC_KEYS).map_err(|_| NOT_CABINET)?);
     let is_held = are_zeros(rest) && is_tvp(tvp) && held.number == number;
     is_held.then_some(Some(Held { tvp, ..held })).ok_or(NOT_CABINET)
 }
@@ -83,16 +85,16 @@ fn read_cabinet(cabinet: &[u8]) -> Result<Shelf<'_>, Refusal> {
     Ok(shelf)
 }
 
-fn sought<'a>(cabinet: &'a [u8], identity: &[u8]) -> Result<(usize, &'a [u8]), Refusal> {
+fn sought<'a>(cabinet: &'a [u8], identity: &[u8]) -> Result<(usize, Held<'a>), Refusal> {
     let shelf = read_cabinet(cabinet)?;
     read(identity, IDENTITIES)?;
     let place = place_of(&shelf, split(identity).0).ok_or(NOT_THERE)?;
-    Ok((place, shelf[place].map_or(&[], |held| held.record)))
+    Ok((place, shelf[place].ok_or(NOT_THERE)?))
 }
 
 fn place_for(cabinet: &[u8], record: &[u8]) -> Result<(usize, [u8; 16], [u8; 8]), Refusal> {
     let shelf = read_cabinet(cabinet)?;
-    let key = read_key(record)?;
+    let key = held_by(record, read(record, PUBLIC_KEYS)?);
     let place = match place_of(&shelf, key.names) {
         Some(place) if shelf[place].is_some_and(|held| key.gnt <= held.gnt) => Err(NOT_LATER),
         Some(place) => Ok(place),
@@ -133,7 +135,8 @@ pub fn admit(cabinet: &mut [u8], request: &[u8]) -> Result<(), Refusal> {
     let shelf = read_cabinet(cabinet)?;
     let [id_sm, _, tvp, ..] = read(request, &[Kind::Request])?.1;
     let place = place_of(&shelf, split(id_sm).0).ok_or(NOT_THERE)?;
-    if shelf[place].is_some_and(|held| tvp <= &held.tvp[..]) {
+    let held = shelf[place].filter(|held| !held.is_old).ok_or(NOT_THERE)?;
+    if tvp <= &held.tvp[..] {
         return Err(TVP_NOT_LATER);
     }
     cabinet[place * CABINET_WIDTH..][CABINET_TVP_AT..CABINET_NUMBER_AT].copy_from_slice(tvp);
@@ -141,5 +144,6 @@ pub fn admit(cabinet: &mut [u8], request: &[u8]) -> Result<(), Refusal> {
 }
 
 pub fn find_key<'a>(cabinet: &'a [u8], identity: &[u8]) -> Result<&'a [u8], Refusal> {
-    sought(cabinet, identity).map(|(_, record)| record)
+    let (_, held) = sought(cabinet, identity)?;
+    Some(held).filter(|held| !held.is_old).map(|held| held.record).ok_or(NOT_THERE)
 }

@@ -3,7 +3,7 @@
 use crate::side::{Pieces, Reads, FIRST_TVP, PRINT_TO_END};
 use compare::kind::Kind;
 use compare::mail::block_of;
-use compare::moment::expiry_of;
+use compare::moment::moment_of;
 use compare::random::Random;
 use compare::record::read_identity;
 use compare::sample::{self, Cards, Exchange, PublicKey, Signed, Subject};
@@ -60,6 +60,13 @@ impl Sample {
     }
 }
 
+/// A public key of this Subject: a module's is signed, any other by chance.
+fn key_of(random: &mut Random, subject: Subject) -> PublicKey {
+    let by_chance = Signed::any(random);
+    let signed = if subject.kind == Kind::Smid { Signed::Yes } else { by_chance };
+    PublicKey::of(random, subject, signed)
+}
+
 /// A public key with the right Fingerprint, and what is hashed for it.
 pub struct Printed {
     pub record: Vec<u8>,
@@ -67,9 +74,8 @@ pub struct Printed {
 
 impl Printed {
     fn new(random: &mut Random) -> Printed {
-        let (subject, signed) = (Subject::any(random), Signed::any(random));
-        let key = PublicKey::of(random, subject, signed);
-        Printed { record: key.record() }
+        let subject = Subject::any(random);
+        Printed { record: key_of(random, subject).record() }
     }
 
     /// What is hashed for its Fingerprint, in the slices in which it stands there: the Subject up to its Fingerprint, Q, and the
@@ -115,21 +121,32 @@ impl Kept {
         let [earlier, between, later] = gnts;
         let subject = Subject::any(random);
         let [record, later] = [earlier, later].map(|gnt| {
-            let (subject, signed) = (Subject { gnt, ..subject.clone() }, Signed::any(random));
-            PublicKey::of(random, subject, signed).record()
+            let subject = Subject { gnt, ..subject.clone() };
+            key_of(random, subject).record()
         });
         let identity = Subject { gnt: between, ..subject }.identity(sample::hex(random, 16));
         Kept { record, later, identity }
     }
 }
 
-/// A place with this key: the record, zeros after it, the TVP of a first put, and the seconds of its Expiry.
+/// A place with this key, which may be old: the record, zeros after it, the TVP of a first put, and the seconds of its Expiry.
 pub fn place_of(record: &[u8]) -> Vec<u8> {
+    let expiry = record.split(|&byte| byte == b'|').nth(3).and_then(moment_of);
     let mut place = record.to_vec();
     place.resize(CABINET_TVP_AT, 0);
     place.extend(FIRST_TVP);
-    place.extend(expiry_of(record).expect("a key").to_be_bytes());
+    place.extend(expiry.expect("a key").to_be_bytes());
     place
+}
+
+/// The key with the same parts and no signature, of the module with these names.
+pub fn unsigned_of(record: &[u8]) -> Vec<u8> {
+    let mut key = PublicKey::of_record(record);
+    key.kind = Kind::PkEcdh;
+    key.subject.kind = Kind::Smid;
+    key.issuer.clear();
+    key.signature.clear();
+    key.record()
 }
 
 /// A request of the module with this identity's Manufacturer and MID.

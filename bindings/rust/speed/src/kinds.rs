@@ -1,5 +1,7 @@
 //! The table of kinds, for both programs of plain Rust.
 
+use crate::side::{Refusal, MODULE_UNSIGNED};
+
 /// A kind of record, in the order of the table.
 #[derive(Clone, Copy, PartialEq, Eq)]
 pub enum Kind {
@@ -99,6 +101,14 @@ impl Kind {
     pub fn is_public_key(self) -> bool {
         matches!(self, Kind::Ecdsa | Kind::Ecdh)
     }
+}
+
+/// Refuses fields that are permitted otherwise, where they are those of a module's key without its signature.
+pub fn check_signed(kind: Kind, fields: &[&[u8]]) -> Result<(), Refusal> {
+    if kind == Kind::Ecdh && fields[4].is_empty() && fields[0].starts_with(b"SMID.1:") {
+        return Err(MODULE_UNSIGNED);
+    }
+    Ok(())
 }
 
 /// Which number a field is refused with.

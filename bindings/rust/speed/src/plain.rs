@@ -5,7 +5,8 @@
 //! chosen, as one writes it; the library masks it.
 
 use crate::kinds::{
-    Kind, Type, IDENTITIES, PUBLIC_KEYS, RECORDS, WRONG_IDENTITY, WRONG_KIND, WRONG_TEXT,
+    check_signed, Kind, Type, IDENTITIES, PUBLIC_KEYS, RECORDS, WRONG_IDENTITY, WRONG_KIND,
+    WRONG_TEXT,
 };
 use crate::plain_cabinet;
 use crate::plain_confirm;
@@ -227,6 +228,13 @@ fn check_identity(permitted: &[Kind], field: &[u8]) -> Result<(), u8> {
 
 /// The kind and the fields of a record of one of the wanted kinds.
 pub fn read<'a>(bytes: &'a [u8], wanted: &[Kind]) -> Result<(Kind, Parts<'a>), Refusal> {
+    let (kind, fields) = read_stored(bytes, wanted)?;
+    check_signed(kind, &fields.parts)?;
+    Ok((kind, fields))
+}
+
+/// The same of one that may be old, in a place of a cabinet.
+pub fn read_stored<'a>(bytes: &'a [u8], wanted: &[Kind]) -> Result<(Kind, Parts<'a>), Refusal> {
     if bytes.len() > LONGEST_READ {
         return Err(TOO_LONG);
     }
@@ -434,6 +442,7 @@ impl Side for Plain {
         }
         let fields = &fields.parts[..fields.count];
         check_fields(kind, fields)?;
+        check_signed(kind, fields)?;
 
         let total = name.len() + 1 + bytes.len() + lens.len() + CHECK_LENGTH;
         if total > LONGEST_READ {

@@ -1,10 +1,11 @@
 //! The key cabinet for `plain.rs`, in the library's form: every place is read, and its names are compared with those of all later ones.
 
 use crate::kinds::{Kind, IDENTITIES, PUBLIC_KEYS};
-use crate::plain::read;
+use crate::plain::{read, read_stored};
 use crate::plain_dates::{moment_of, seconds_of};
 use crate::side::{
-    Refusal, FIRST_TVP, GNT_TO_END, NOT_CABINET, NOT_LATER, NOT_THERE, NO_PLACE, TVP_NOT_LATER,
+    Fields, Refusal, FIRST_TVP, GNT_TO_END, NOT_CABINET, NOT_LATER, NOT_THERE, NO_PLACE,
+    TVP_NOT_LATER,
 };
 use obscurlane::{CABINET_NUMBER_AT, CABINET_PLACES, CABINET_SIZE, CABINET_TVP_AT, CABINET_WIDTH};
 
@@ -27,11 +28,15 @@ fn split(identity: &[u8]) -> (&[u8], &[u8]) {
     identity.split_at(identity.len() - GNT_TO_END)
 }
 
-fn read_key(record: &[u8]) -> Result<Held<'_>, Refusal> {
-    let [subject, _, expiry, ..] = read(record, PUBLIC_KEYS)?.1.parts;
+fn held_by<'a>(record: &'a [u8], [subject, _, expiry, ..]: Fields<'a>) -> Held<'a> {
     let (names, rest) = split(subject);
     let number = seconds_of(expiry).to_be_bytes();
-    Ok(Held { record, names, gnt: &rest[..16], tvp: FIRST_TVP, number })
+    Held { record, names, gnt: &rest[..16], tvp: FIRST_TVP, number }
+}
+
+/// Whether the record, which stands in a place, is refused today.
+fn is_old(held: &Held<'_>) -> bool {
+    read(held.record, PUBLIC_KEYS).is_err()
 }
 
 fn are_zeros(bytes: &[u8]) -> bool {
@@ -50,7 +55,8 @@ fn read_place(place: &[u8]) -> Result<Option<Held<'_>>, Refusal> {
     let (front, last) = place.split_at(CABINET_TVP_AT);
     let (tvp, number) = last.split_first_chunk().ok_or(NOT_CABINET)?;
     let (record, rest) = front.split_at_checked(len).ok_or(NOT_CABINET)?;
-    let held = read_key(record).map_err(|_| NOT_CABINET)?;
+    let (_, fields) = read_stored(record, PUBLIC_KEYS).map_err(|_| NOT_CABINET)?;
+    let held = held_by(record, fields.parts);
     let is_held = are_zeros(rest) && is_tvp(tvp) && held.number == number;
     is_held.then_some(Some(Held { tvp, ..held })).ok_or(NOT_CABINET)
 }
@@ -77,17 +83,17 @@ fn read_cabinet(cabinet: &[u8]) -> Result<Shelf<'_>, Refusal> {
 }
 
 /// The place of an identity's key, and the key.
-fn sought<'a>(cabinet: &'a [u8], identity: &[u8]) -> Result<(usize, &'a [u8]), Refusal> {
+fn sought<'a>(cabinet: &'a [u8], identity: &[u8]) -> Result<(usize, Held<'a>), Refusal> {
     let shelf = read_cabinet(cabinet)?;
     read(identity, IDENTITIES)?;
     let place = place_of(&shelf, split(identity).0).ok_or(NOT_THERE)?;
-    Ok((place, shelf[place].map_or(&[], |held| held.record)))
+    Ok((place, shelf[place].ok_or(NOT_THERE)?))
 }
 
 /// The place that a record takes, the TVP that stays there or is that of a first put, and the number that goes with the record.
 fn place_for(cabinet: &[u8], record: &[u8]) -> Result<(usize, [u8; 16], [u8; 8]), Refusal> {
     let shelf = read_cabinet(cabinet)?;
-    let key = read_key(record)?;
+    let key = held_by(record, read(record, PUBLIC_KEYS)?.1.parts);
     let place = match place_of(&shelf, key.names) {
         Some(place) if shelf[place].is_some_and(|held| key.gnt <= held.gnt) => Err(NOT_LATER),
         Some(place) => Ok(place),
@@ -129,7 +135,8 @@ pub fn admit(cabinet: &mut [u8], request: &[u8]) -> Result<(), Refusal> {
     let shelf = read_cabinet(cabinet)?;
     let [id_sm, _, tvp, ..] = read(request, &[Kind::Request])?.1.parts;
     let place = place_of(&shelf, split(id_sm).0).ok_or(NOT_THERE)?;
-    if shelf[place].is_some_and(|held| tvp <= &held.tvp[..]) {
+    let held = shelf[place].filter(|held| !is_old(held)).ok_or(NOT_THERE)?;
+    if tvp <= &held.tvp[..] {
         return Err(TVP_NOT_LATER);
     }
     cabinet[place * CABINET_WIDTH..][CABINET_TVP_AT..CABINET_NUMBER_AT].copy_from_slice(tvp);
@@ -137,5 +144,6 @@ pub fn admit(cabinet: &mut [u8], request: &[u8]) -> Result<(), Refusal> {
 }
 
 pub fn find_key<'a>(cabinet: &'a [u8], identity: &[u8]) -> Result<&'a [u8], Refusal> {
-    sought(cabinet, identity).map(|(_, record)| record)
+    let (_, held) = sought(cabinet, identity)?;
+    Some(held).filter(|held| !is_old(held)).map(|held| held.record).ok_or(NOT_THERE)
 }

@@ -2,9 +2,10 @@
 //! are damaged or nothing at all.
 
 use crate::inputs::{
-    place_of, request_of, Agreed, Filed, Inputs, Kept, Printed, Sample, MESSAGES, TAGGED,
+    place_of, request_of, unsigned_of, Agreed, Filed, Inputs, Kept, Printed, Sample, MESSAGES,
+    TAGGED,
 };
-use crate::side::{Fields, Line, NamedRefusal, Reads, Refusal, Side};
+use crate::side::{Fields, Line, NamedRefusal, Reads, Refusal, Side, MODULE_UNSIGNED, NOT_THERE};
 use compare::kind::Kind;
 use compare::mail::block_of;
 use compare::random::Random;
@@ -415,6 +416,45 @@ fn same_cabinets<A: Side, B: Side>(random: &mut Random, filed: &Filed) {
     }
 }
 
+/// An unsigned key of a module, by every call that reads or builds it.
+fn same_unsigned<A: Side, B: Side>(record: &[u8]) {
+    let key = unsigned_of(record);
+    assert_eq!(A::read(Reads::Records, &key), Err(MODULE_UNSIGNED));
+    same_reading::<A, B>(&key);
+    same_fingerprint::<A, B>(&key);
+    same_expiry::<A, B>(&key);
+    same_writing::<A, B>(&key);
+    same_block::<A, B>(&key);
+    same_letter::<A, B>(&block_of(b"PK.ECDH.1", &key));
+    same_file(&[&line_of(&key)[..], b"\n"].concat(), A::trailed_at, B::trailed_at);
+    let fields: Vec<&[u8]> = key.split(|&byte| byte == b'|').skip(1).take(5).collect();
+    let lens: Vec<usize> = fields.iter().map(|field| field.len()).collect();
+    for room in [0, LONGEST_RECORD] {
+        same_building::<A, B>(b"PK.ECDH.1", &fields.concat(), &lens, room);
+    }
+}
+
+/// A cabinet in which one place has the old key of a module: to be found, replaced, taken out, and with its request.
+fn same_old_records<A: Side, B: Side>(filed: &Filed) {
+    let Filed { cabinet, kept, requests } = filed;
+    for (index, Kept { record, later, identity }) in kept.iter().enumerate() {
+        if !identity.starts_with(b"SMID.1:") {
+            continue;
+        }
+        let (old, mut cabinet) = (unsigned_of(record), cabinet.clone());
+        cabinet[index * CABINET_WIDTH..][..CABINET_WIDTH].copy_from_slice(&place_of(&old));
+        assert_eq!(A::check_cabinet(&cabinet), Ok(()));
+        assert_eq!(A::find_key(&cabinet, identity), Err(NOT_THERE));
+        for key in [record, later, &old, &unsigned_of(later)] {
+            same_filing::<A, B>(&cabinet, key, identity);
+            same_admission::<A, B>(&cabinet, &requests[index], key);
+        }
+        let place = (index + 1) % CABINET_PLACES;
+        cabinet[place * CABINET_WIDTH..][..CABINET_WIDTH].copy_from_slice(&place_of(later));
+        same_filing::<A, B>(&cabinet, later, identity);
+    }
+}
+
 /// Stops where the two differ.
 pub fn same_answers<A: Side, B: Side>(inputs: &Inputs) {
     let mut random = Random::with_seed(2027);
@@ -444,6 +484,7 @@ pub fn same_answers<A: Side, B: Side>(inputs: &Inputs) {
         same_fingerprints::<A, B>(&mut random, printed);
         same_trailed::<A, B>(&mut random, &printed.record);
         same_expiries::<A, B>(&mut random, &printed.record);
+        same_unsigned::<A, B>(&printed.record);
     }
     for date in &inputs.dates {
         same_moments::<A, B>(&mut random, date);
@@ -461,6 +502,7 @@ pub fn same_answers<A: Side, B: Side>(inputs: &Inputs) {
         same_mail::<A, B>(&mut random, request, letter);
     }
     same_cabinets::<A, B>(&mut random, &inputs.filed);
+    same_old_records::<A, B>(&inputs.filed);
     let count = inputs.samples.len();
     assert_eq!(same_file(&inputs.file, A::line_at, B::line_at).0, count);
     let damaged = sample::damaged_anywhere(&mut random, &inputs.file, count);

@@ -26,6 +26,7 @@ pub const NOT_LATER: Refusal = (24, 0);
 pub const NO_PLACE: Refusal = (25, 0);
 pub const NOT_THERE: Refusal = (26, 0);
 pub const TVP_NOT_LATER: Refusal = (27, 0);
+pub const MODULE_UNSIGNED: Refusal = (28, 0);
 
 /// A refusal, and the record whose own it is: 1 the request, 2 the response, 0 neither.
 pub type NamedRefusal = (u8, Refusal);

@@ -4,11 +4,13 @@
 
 use super::{expected, lent, numbers, place, Numbers};
 use compare::kind::Kind;
-use compare::sample::{PublicKey, Subject};
+use compare::sample::Subject;
+use compare::worked::worked;
 use compare::{moment, record};
 use obscurlane::{
-    check_cabinet, count_keys, find_key, held_keys, Cabinet, HeldKey, CABINET_NUMBER_AT,
-    CABINET_PLACES, CABINET_SIZE, CABINET_TVP_AT, CABINET_WIDTH,
+    admit, check_cabinet, count_keys, find_key, held_keys, put_key, remove_key, Cabinet, HeldKey,
+    Identity, Reason, CABINET_NUMBER_AT, CABINET_PLACES, CABINET_SIZE, CABINET_TVP_AT,
+    CABINET_WIDTH,
 };
 
 pub const NO_CABINET: Numbers = (23, 0);
@@ -16,6 +18,14 @@ pub const NOT_LATER: Numbers = (24, 0);
 pub const NO_PLACE: Numbers = (25, 0);
 pub const NOT_THERE: Numbers = (26, 0);
 pub const TVP_NOT_LATER: Numbers = (27, 0);
+pub const UNSIGNED: Numbers = (28, 0);
+
+/// A put answers this, and a refused one leaves the bytes.
+pub fn expect_put(bytes: &mut [u8], record: &[u8], wanted: Result<(), Numbers>, choice: &str) {
+    let before = bytes.to_vec();
+    assert_eq!(numbers(put_key(bytes, record)), wanted, "{choice}");
+    assert!(wanted.is_ok() || bytes == before, "{choice}");
+}
 
 /// The TVP of a module of which no request was admitted.
 pub const START: &[u8; 16] = b"19930101T000000Z";
@@ -40,12 +50,19 @@ pub struct Held {
 }
 
 impl Held {
-    /// Of a record that is accepted, put in first.
+    /// Of a record that may stand in a place, put in first.
     pub fn of(record: &[u8]) -> Held {
-        let PublicKey { subject, expiry, .. } = PublicKey::of_record(record);
-        let expiry = moment::moment_of(&expiry).expect("accepted with it");
+        let fields: Vec<&[u8]> = record.split(|&byte| byte == b'|').collect();
+        let subject = record::read_identity(fields[1]).expect("a Subject");
+        let [manufacturer, mid, gnt] = [0, 1, 2].map(|index| subject.fields[index].to_vec());
+        let expiry = moment::moment_of(fields[3]).expect("an Expiry");
         let (tvp, record) = (START.to_vec(), record.to_vec());
-        Held { names: names(&subject), gnt: subject.gnt, tvp, expiry, record }
+        Held { names: (subject.kind, manufacturer, mid), gnt, tvp, expiry, record }
+    }
+
+    /// The unsigned key of a module.
+    pub fn is_old(&self) -> bool {
+        self.names.0 == Kind::Smid && self.record.windows(3).any(|marks| marks == b"|||")
     }
 
     pub fn place(&self) -> Vec<u8> {
@@ -85,6 +102,12 @@ impl Model {
         self.0.iter().position(|held| held.as_ref().is_some_and(|held| held.names == *names))
     }
 
+    /// The same, where the record there is not old.
+    fn current_of(&self, names: &Names) -> Option<usize> {
+        let is_old = |&place: &usize| self.0[place].as_ref().is_some_and(Held::is_old);
+        self.place_of(names).filter(|place| !is_old(place))
+    }
+
     fn count(&self) -> usize {
         self.0.iter().flatten().count()
     }
@@ -111,7 +134,7 @@ impl Model {
     }
 
     fn admit(&mut self, names: &Names, tvp: &[u8]) -> Result<(), Numbers> {
-        let place = self.place_of(names).ok_or(NOT_THERE)?;
+        let place = self.current_of(names).ok_or(NOT_THERE)?;
         let held = self.0[place].as_mut().expect("it was found");
         if tvp <= &held.tvp[..] {
             return Err(TVP_NOT_LATER);
@@ -121,7 +144,7 @@ impl Model {
     }
 
     fn find(&self, names: &Names) -> Result<(usize, &[u8]), Numbers> {
-        let place = self.place_of(names).ok_or(NOT_THERE)?;
+        let place = self.current_of(names).ok_or(NOT_THERE)?;
         let held = self.0[place].as_ref().expect("it was found");
         Ok((place * CABINET_WIDTH, &held.record))
     }
@@ -139,6 +162,11 @@ pub fn own(bytes: &[u8]) -> Result<(), Numbers> {
     expected(record::read(bytes, &Kind::PUBLIC_KEYS)).map(drop)
 }
 
+/// Whether a public key may stand in a place: it is accepted, or it is old, which is told after all other refusals.
+pub fn stands(bytes: &[u8]) -> bool {
+    matches!(own(bytes), Ok(()) | Err(UNSIGNED))
+}
+
 /// Whether these bytes of a place are all zeros, or a public key, zeros after it, a TVP and the seconds of its Expiry.
 pub fn is_place(bytes: &[u8]) -> bool {
     if bytes.iter().all(|&byte| byte == 0) {
@@ -147,7 +175,7 @@ pub fn is_place(bytes: &[u8]) -> bool {
     let len = bytes.iter().position(|&byte| byte == 0).unwrap_or(bytes.len());
     let (record, tvp) = (&bytes[..len], &bytes[CABINET_TVP_AT..CABINET_NUMBER_AT]);
     let is_right = || bytes == place_from(record, tvp, Held::of(record).expiry);
-    own(record).is_ok() && is_tvp(tvp) && is_right()
+    stands(record) && is_tvp(tvp) && is_right()
 }
 
 /// What an identity is refused with, before 26; and its three names.
@@ -184,12 +212,23 @@ impl Both {
         assert!(self.bytes == self.model.image());
         assert_eq!(check_cabinet(&self.bytes), Ok(()));
         assert_eq!(count_keys(&self.bytes), Ok(self.model.count()));
-        let keys = held_keys(&self.bytes).expect("a cabinet");
-        let held = self.model.0.iter().flatten();
-        assert!(keys.eq(held.map(|held| {
-            let Held { tvp, expiry, record, .. } = held;
-            HeldKey { record, tvp, expiry: *expiry }
-        })));
+        let mut keys = held_keys(&self.bytes).expect("a cabinet");
+        for held in self.model.0.iter().flatten() {
+            let Held { names, gnt, tvp, expiry, record } = held;
+            let key = HeldKey { record, tvp, expiry: *expiry };
+            assert_eq!(keys.next(), Some(key));
+            assert_eq!(key.is_old(), held.is_old());
+            let subject = Identity::read(key.subject()).expect("a Subject");
+            assert_eq!(subject.kind.name(), names.0.name());
+            assert_eq!([subject.manufacturer, subject.mid, subject.gnt], [&names.1, &names.2, gnt]);
+        }
+        assert_eq!(keys.next(), None);
+    }
+
+    /// Writes the plain cabinet's bytes, as if they had been stored.
+    pub fn store(&mut self) {
+        self.bytes = self.model.image();
+        self.agree();
     }
 
     pub fn put(&mut self, record: &[u8]) -> Result<(), Numbers> {
@@ -255,4 +294,41 @@ impl Both {
         assert_eq!(numbers(cabinet.find(identity)).map(<[u8]>::to_vec), found);
         found
     }
+}
+
+// ---- what is no cabinet
+
+/// 23 from every call, and no byte is another.
+pub fn expect_no_cabinet(bytes: &mut [u8], what: &str) {
+    let before = bytes.to_vec();
+    assert_eq!(numbers(check_cabinet(bytes)), Err(NO_CABINET), "{what}");
+    assert_eq!(numbers(count_keys(bytes)), Err(NO_CABINET), "{what}");
+    assert_eq!(numbers(held_keys(bytes).map(drop)), Err(NO_CABINET), "{what}");
+    assert_eq!(expected(compare::cabinet::check(bytes)), Err(NO_CABINET), "{what}");
+    let texts = ["PUBKEY_SM", "ID_SM", "ID_KMC", "VKLOADREQ"].map(worked);
+    for text in texts.into_iter().chain([Vec::new()]) {
+        assert_eq!(numbers(find_key(bytes, &text)), Err(NO_CABINET), "{what}");
+        assert_eq!(numbers(put_key(bytes, &text)), Err(NO_CABINET), "{what}");
+        assert_eq!(numbers(remove_key(bytes, &text)), Err(NO_CABINET), "{what}");
+        assert_eq!(numbers(admit(bytes, &text)), Err(NO_CABINET), "{what}");
+    }
+    assert_eq!(Cabinet::open(bytes).unwrap_err().reason, Reason::NotCabinet, "{what}");
+    assert!(bytes == before, "{what}");
+}
+
+/// A cabinet with these bytes in a place.
+pub fn with_bytes(cabinet: &[u8], place: usize, bytes: &[u8]) -> Vec<u8> {
+    let mut cabinet = cabinet.to_vec();
+    cabinet[place * CABINET_WIDTH..][..CABINET_WIDTH].copy_from_slice(bytes);
+    cabinet
+}
+
+/// A cabinet with these bytes at the front of a place, zeros after them, the TVP of a first put, and this number.
+pub fn with_place(cabinet: &[u8], place: usize, front: &[u8], number: i64) -> Vec<u8> {
+    with_bytes(cabinet, place, &place_with(front, number))
+}
+
+/// The sixteen bytes before the number of a place.
+pub fn tvp_in(cabinet: &[u8], place: usize) -> &[u8] {
+    &cabinet[place * CABINET_WIDTH..][CABINET_TVP_AT..CABINET_NUMBER_AT]
 }

@@ -8,6 +8,7 @@ pub mod confirm;
 pub mod dates;
 pub mod fingerprint;
 pub mod hash;
+pub mod keys;
 pub mod mail;
 pub mod reading;
 pub mod trailed;
@@ -121,7 +122,7 @@ pub fn expected_at(file: &[u8], place: usize) -> Option<LineNumbers> {
 
 /// How often each number was answered, 0 being accepted.
 #[derive(Debug, Default)]
-pub struct Seen([usize; 28]);
+pub struct Seen([usize; 29]);
 
 impl Seen {
     pub fn add<T>(&mut self, answer: &Result<T, Numbers>) {
