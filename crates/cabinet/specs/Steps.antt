@@ -85,7 +85,7 @@ first t (suc n) i = cond (t i) i (first t n (suc i))
 abbrev pub firstFrom : (ℕ → Bool) → ℕ → ℕ
 firstFrom t i = first t (64 - i) i
 
--- the place whose record has the names v; 64 where there is none, or where it is old
+-- place i; 64 where there is none, or where its record is old
 unfoldable pub unlessOldAt : Bytes → ℕ → ℕ
 unlessOldAt s i = cond (eqb i 64) 64 (cond (isOld (upTo 0 (partAt s i))) 64 i)
 
@@ -96,6 +96,7 @@ allPass t = eqb (firstFrom (λ i. not (t i)) 0) 64
 abbrev pub hasNames : Bytes → Bytes → ℕ → Bool
 hasNames s v i = startsSo (partAt s i) v
 
+-- the place whose record begins with the names v, unless it is old
 abbrev pub currentOf : Bytes → Bytes → ℕ
 currentOf s v = unlessOldAt s (firstFrom (hasNames s v) 0)
 

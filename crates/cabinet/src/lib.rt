@@ -321,7 +321,7 @@ pub fn remove_key(cabinet: &mut [u8], identity: &[u8]) -> Filed
 }
 
 // Admits a load request: the module of its ID_SM, by kind, Manufacturer and MID, is in the cabinet, and its TVP is later than the last one accepted for that module. The TVP
-// is then stored, and nothing else changes. 23 before all; the request's own numbers (another kind answers 2); 26 where the module is not there; 27 where the TVP is not
+// is then stored, and nothing else changes. 23 before all; the request's own numbers (another kind answers 2); 26 where the module is not there, or its record is old; 27 where the TVP is not
 // later: the request was answered before, or a later one was.
 pub fn admit(cabinet: &mut [u8], request: &[u8]) -> Filed
     ensures { λ r. ⌜ Files (admit (now (cabinet .entry)) (now (request .entry))) (now (cabinet .exit)) r ⌝ }
@@ -359,8 +359,8 @@ fn find_none(no: u8, field: u8) -> fields::Place
     }
 }
 
-// Where the public key of this identity's kind, Manufacturer and MID stands in the cabinet's bytes, with the numbers of `remove_key`; start and length are 0 with
-// a refusal.
+// Where the public key of this identity's kind, Manufacturer and MID stands in the cabinet's bytes, with the numbers of `remove_key`, and 26 too where it is
+// old; start and length are 0 with a refusal.
 pub fn key_place(cabinet: &[u8], identity: &[u8]) -> fields::Place
     ensures { λ r. ⌜ FindSaid (findKey (now (cabinet .entry)) (now (identity .entry))) (now (cabinet .entry)) r ⌝ }
 {
