@@ -18,7 +18,7 @@ use Rattle.text.specs.Text.{Bytes}
 use Rattle.text.specs.Seconds.{start, secondsBytes}
 use Rattle.text.specs.Later.{later}
 use Rattle.text.specs.Part.{Part}
-use Rattle.text.proofs.Tests.{T-true, T-false, by-test, cond-yes, cond-no}
+use Rattle.text.proofs.Tests.{T-true, T-false, by-test, cond-yes}
 use Rattle.text.proofs.Types.{timestamp-length}
 use Rattle.format.specs.Kinds.{REQ, name, identityKinds, pubkeyKinds}
 use Rattle.format.specs.Requests.{idSm, tvp}

@@ -4,7 +4,7 @@ use Prim.Native.Nat.{ℕ, zero, suc}
 use mathlib.Core.Path.{_≡_, refl, sym, ap, _∙_, subst}
 use mathlib.Core.Logic.{_↔_}
 use mathlib.Core.Option.{Option, none, some}
-use mathlib.Core.Bool.{Bool, true, false, cond, not, _&&_}
+use mathlib.Core.Bool.{Bool, true, false, cond, not}
 use mathlib.Core.List.{List, [], _∷_}
 use native.Mathlib.Omega.{arith}
 use lib.Dec.{T, eqb, leb}
@@ -18,7 +18,7 @@ use Rattle.format.specs.Build.{paired, attributed, unsignedModule, signe
 use Rattle.format.specs.Read.{Outcome, accepted, refused, provided, passing, ofKind, answer, markAfter, kindIn, checkNo, fieldsIn, fieldAnswer, each, wholeAnswer, judged, readAs, readOver, readIdentity, readUnder, readOf}
 use Rattle.format.specs.declared.Rules.{Rules}
 use Rattle.format.specs.declared.Rules.the-variants.{UpToE10, Today}
-use Rattle.format.proofs.Table.{All, every-kind, name-inj, among-one}
+use Rattle.format.proofs.Table.{every-kind, all-of, name-inj, among-one}
 use Rattle.format.proofs.Parts.{built-title}
 use Rattle.format.proofs.Outcomes.{never}
 use Rattle.format.proofs.Fields.{fit-at}
@@ -91,9 +91,6 @@ module _ (ks : List Kind) (s : Bytes) (k : Kind) (fs : List Bytes) where
   pub earlier-accepts : readOf ks s ≡ accepted k fs → (readUnder UpToE10 ks s ≡ accepted k fs) × T (signed Today k fs)
   earlier-accepts e = today-accepts (readUnder UpToE10 ks s) k fs (sym (today-read ks s) ∙ e)
 
-  pub still-accepts : readUnder UpToE10 ks s ≡ accepted k fs → T (signed Today k fs) → readOf ks s ≡ accepted k fs
-  still-accepts e t = today-read ks s ∙ ap today e ∙ rw (T-true (signed Today k fs) t)
-
   pub no-more-accepts : readUnder UpToE10 ks s ≡ accepted k fs → T (unsignedModule k fs) → readOf ks s ≡ refused moduleUnsigned 0
   no-more-accepts e t = today-read ks s ∙ ap today e ∙ rw (T-true (unsignedModule k fs) t)
 
@@ -106,13 +103,9 @@ still-refuses ks s n i e = today-read ks s ∙ ap today e
 abbrev ofEarlier : List ℕ
 ofEarlier = 0 ∷ 1 ∷ 2 ∷ 3 ∷ 4 ∷ 5 ∷ 6 ∷ 7 ∷ 8 ∷ 9 ∷ 14 ∷ []
 
-all-kinds : (P : Kind → Type 0) → ((k : Kind) → P k) → (ks : List Kind) → All P ks
-all-kinds P h [] = tt
-all-kinds P h (k ∷ ks) = (h k, all-kinds P h ks)
-
 earlier-gives : (ks : List Kind) (s : Bytes) → Gives ofEarlier (readUnder UpToE10 ks s)
 unfolding readUnder
-earlier-gives ks s = over-given ofEarlier tt readIdentity UpToE10 (tt, tt, tt, tt, tt) ks (all-kinds _ (every-kind (covers UpToE10 ofEarlier) tt) ks) s
+earlier-gives ks s = over-given ofEarlier tt readIdentity UpToE10 (tt, tt, tt, tt, tt) ks (all-of _ (every-kind (covers UpToE10 ofEarlier) tt) ks) s
 
 pub unsigned-ended : (ks : List Kind) (s : Bytes) → answer (readOf ks s) ≡ moduleUnsigned
     → (k : Kind) × (fs : List Bytes) × (readUnder UpToE10 ks s ≡ accepted k fs) × T (unsignedModule k fs)

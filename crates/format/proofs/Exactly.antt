@@ -20,10 +20,10 @@ use Rattle.text.proofs.Types.{hex-length, timestamp-length, point-hex}
 use Rattle.text.proofs.Hexadecimal.{check-hex}
 use Rattle.numbers.specs.Numbers.{tooLong, missingCheck, wrongCheck, wrongCount}
 use Rattle.format.specs.Kinds.{Kind, KEY, Field, name, mark, fieldsOf, identityFields, identityKinds, recordKinds, pubkeyKinds, keyKinds, among}
-use Rattle.format.specs.Build.{WithoutAll, recordOf, empty, Fits, FitAll, longestRecord, signed, PermittedOver, BuiltOver, NeverIdentity, IsIdentity, PermittedUnder, BuiltUnder, Permitted, Built}
+use Rattle.format.specs.Build.{WithoutAll, recordOf, empty, Fits, FitAll, longestRecord, PermittedOver, BuiltOver, NeverIdentity, IsIdentity, PermittedUnder, BuiltUnder, Permitted, Built}
 use Rattle.format.specs.Read.{Outcome, accepted, answer, title, markAfter, kindIn, body, check, endsIn, checkNo, cut, fieldsIn, judged, readAs, readOver, nobody, readIdentity, readUnder, readOf, readRecord}
 use Rattle.format.specs.declared.Rules.{Rules}
-use Rattle.format.specs.declared.Rules.the-variants.{UpToE10, Today}
+use Rattle.format.specs.declared.Rules.the-variants.{Today}
 use Rattle.format.proofs.Table.{name-inj, All, kindIn-some, kindIn-known, longestBounded, record-room, identity-row, pubkey-row, seven-fields}
 use Rattle.format.proofs.Parts.{record-length, ends-last, built-title, built-ends, built-check, built-parts, record-without, found-built}
 use Rattle.format.proofs.Outcomes.{never, provided-law, passing-law, ofKind-law, Honest, honest-map, honest-zero}

@@ -45,6 +45,10 @@ abbrev pub All : {A : Type 0} → (A → Type 0) → List A → Type 0
 All P [] = Unit {0}
 All P (x ∷ xs) = P x × All P xs
 
+pub all-of : (P : Kind → Type 0) → ((k : Kind) → P k) → (ks : List Kind) → All P ks
+all-of P h [] = tt
+all-of P h (k ∷ ks) = (h k, all-of P h ks)
+
 pub all-among : (P : Kind → Type 0) (ks : List Kind) → All P ks → (k : Kind) → T (among k ks) → P k
 all-among P [] h k t = absurd t
 all-among P (j ∷ ks) h k t =

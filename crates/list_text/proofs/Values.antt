@@ -3,7 +3,7 @@
 use mathlib.Core.Path.{_≡_, refl}
 use mathlib.Core.List.{[]}
 use Rattle.text.specs.Text.{ascii}
-use Rattle.format.specs.Read.{readRecord, readUnder, readOf, readOver}
+use Rattle.format.specs.Read.{readRecord, readUnder, readOver}
 use Rattle.format.specs.Files.{walkOver, walkFromOver, lineAtOver, lineOfOver}
 use Rattle.list_text.specs.Listing.{decimalText, lineText, endText, lineTexts, listText}
 

@@ -33,7 +33,7 @@ use Rattle.files.specs.declared.Line.the-variants.{Finished, Read}
 use Rattle.trailed.specs.Trailed.{trailer, recordIn, trailerIn, isTrailer, onlyIf, readTrailed}
 use Rattle.mail.specs.Mail.{linesIn, alone, readFound, readMail}
 use Rattle.mail.proofs.Blocks.{opened-found}
-use Rattle.expiry.specs.Expiry.{expiryBy, expiryUnder, expiryOf}
+use Rattle.expiry.specs.Expiry.{expiryBy, expiryUnder}
 use Rattle.shelf.specs.Places.{Names, Held, Place, holds, lookup, lowest, anyFree}
 use Rattle.shelf.specs.Cabinet.{places, width, Reading, about, declined, asks, reads, requests, zeros, shelf, putAt, putRead, removeAt, removeRead, unlessOld, admitAt, admitRead, leaving, told, onPlaces, makeCabinet, putKey, removeKey, admit, foundAt, findRead, findIn, findKey, countIn, countKeys, checkCabinet}
 use Rattle.shelf.proofs.Readings.{asks-own, reads-own, requests-own}

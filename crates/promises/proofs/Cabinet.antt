@@ -38,7 +38,7 @@ use Rattle.shelf.specs.Cabinet.{places, width, tvpAt, numberOf, about, asks, re
 use Rattle.shelf.specs.History.{nowhere, heldIn, textOf, tvpOf, lastPut, removals, lastTvp, admittedOf, Call, putting, removing, finding, admitting, checking, counting, Moment, putEvent, removeEvent, admitEvent, onto, noted, afterCall, run}
 use Rattle.shelf.proofs.Places.{names-refl, found-at, Once, distinct-once, once-distinct, lookup-at, lowest-there, lowest-free-at}
 use Rattle.shelf.proofs.Tvps.{start-tvp, tvp-parts, parts-tvp, AllEarlier, Under, rising-at, rising-apart, earlier-at}
-use Rattle.shelf.proofs.Readings.{asks-accepted, asks-refused, asked, reads-accepted, reads-refused, held-of, goes-in, key-current, current-key, requests-accepted, requests-refused, requested}
+use Rattle.shelf.proofs.Readings.{asks-accepted, asks-refused, asked, reads-accepted, reads-refused, held-of, key-current, current-key, requests-accepted, requests-refused, requested}
 use Rattle.shelf.proofs.Images.{Good, AllGood, lookup-good, decode-encode, shelf-image, shelf-some}
 use Rattle.shelf.proofs.Stores.{storedAt, put-23, put-own, put-later, put-first, remove-23, remove-own, remove-some, admit-23, admit-own, admit-none, admit-later, admit-not-later, find-23, find-own, find-some, find-none}
 use Rattle.shelf.proofs.Histories.{not-old, Kept, kept-run, good-empty, shelved-empty, lookup-empty, occupied-empty, shelf-empty, since-made, since-image}

@@ -13,7 +13,7 @@ use Rattle.hashing.specs.Blocks.{block, hashed}
 use Rattle.sha384.specs.Sha384.{K, padding, padded, H₀, word, words, schedule, rounds, compress, left384, sha384}
 use Rattle.format.specs.Attributes.{isCard, areAttributes}
 use Rattle.format.specs.Build.{withCheck, recordOf}
-use Rattle.format.specs.Read.{checkNo, identityAnswer, fieldAnswer, wholeAnswer, judged, readAs, readOver, readIdentity, readUnder, readOf, readRecord}
+use Rattle.format.specs.Read.{checkNo, identityAnswer, fieldAnswer, wholeAnswer, judged, readAs, readOver, readIdentity, readUnder, readRecord}
 use Rattle.format.specs.Files.{lineOfOver, lineAtOver}
 use Rattle.building.specs.Building.{buildAs, buildOf, build}
 use Rattle.agreement.specs.Texts.{sharedInfo, moduleText, centreText}
@@ -27,7 +27,7 @@ use Rattle.confirm.specs.Confirm.{confirmRequest, confirmResponse}
 use Rattle.sha1.specs.Sha1 as short
 use Rattle.trailed.specs.Trailed.{trailer, trailed, readTrailed, writeTrailed}
 use Rattle.mail.specs.Mail as mail
-use Rattle.expiry.specs.Expiry.{expiryUnder, expiryOf}
+use Rattle.expiry.specs.Expiry.{expiryUnder}
 use Rattle.shelf.specs.Cabinet as cabinet
 use Rattle.promises.specs.Values.{Value, AllCome, admittedFrom}
 use Rattle.promises.specs.Worked.{manufacturerIdFields, manufacturerId, moduleIdFields, moduleId, centreIdFields, centreId, manufacturerKeyFields, manufacturerKey, moduleKeyFields, moduleKey, centreKeyFields, centreKey, requestFields, request, responseFields, response, keyAttributes, keyFields, key, longAttributes, unsignedKeyFields, unsignedModuleFields, unsignedModuleKey}

@@ -14,7 +14,7 @@ use Rattle.format.specs.Kinds.{Kind, REQ, RESP, identityKinds, recordKinds, pub
 use Rattle.format.specs.Read.{Outcome, answer, judged, nobody, readIdentity, readUnder, readOf, readRecord}
 use Rattle.format.specs.declared.Rules.{Rules}
 use Rattle.format.specs.declared.Rules.the-variants.{UpToE10, Today}
-use Rattle.format.proofs.Table.{All, every-kind}
+use Rattle.format.proofs.Table.{All, every-kind, all-of}
 use Rattle.format.proofs.Refusals.{Gives, covers, check-given, judged-given, over-given}
 use Rattle.table.specs.Table.{kindsFrom}
 use Rattle.fields.specs.Attributes.{attributeNo}
@@ -37,11 +37,6 @@ abbrev In : List ℕ → ℕ → ℕ → Type 0
 In ns n i = T (oneOf ns n)
 
 -- ---- reading
-
--- what holds of every kind holds of those in a list
-all-of : (P : Kind → Type 0) → ((k : Kind) → P k) → (ks : List Kind) → All P ks
-all-of P h [] = tt
-all-of P h (k ∷ ks) = (h k, all-of P h ks)
 
 identity-given : (s : Bytes) → Gives ofIdentities (readIdentity s)
 unfolding readIdentity

@@ -1,17 +1,15 @@
 -- The promises about the two rule sets, from the laws of format.
 -- Assumes nothing.
-use Prim.Native.Nat.{ℕ}
-use mathlib.Core.Path.{_≡_, ap, _∙_}
-use mathlib.Core.Bool.{not}
+use mathlib.Core.Path.{ap}
 use mathlib.Core.List.{List}
 use lib.ListN.{length}
-use lib.Dec.{T, leb→le, le→leb}
+use lib.Dec.{leb→le, le→leb}
 use mir.Facts.{T-not}
 use denote.Ref.{now}
 use Rattle.text.specs.Text.{Bytes}
 use Rattle.text.proofs.Tests.{by-test}
 use Rattle.format.specs.Kinds.{Kind}
-use Rattle.format.specs.Build.{recordOf, longestRecord, unsignedModule, signed, PermittedUnder, BuiltUnder}
+use Rattle.format.specs.Build.{recordOf, longestRecord, unsignedModule, PermittedUnder, BuiltUnder}
 use Rattle.format.specs.Read.{answer, readUnder}
 use Rattle.format.specs.declared.Rules.the-variants.{UpToE10, Today}
 use Rattle.format.proofs.Exactly.{under-exact, under-says}

@@ -1,7 +1,6 @@
 -- `cabinet::admit` meets its contract.
 -- Assumes nothing.
 use mathlib.Core.Path.{sym, ap, _∙_}
-use native.Mathlib.Omega.{arith}
 use lib.ListN.{length}
 use borrow.Author.Tests.{not-true, not-false}
 use Rattle.cabinet.proofs.Bytes.{length-part}

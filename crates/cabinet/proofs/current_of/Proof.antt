@@ -1,8 +1,7 @@
 -- `cabinet::current_of` meets its contract.
 -- Assumes nothing.
-use mathlib.Core.Path.{_∙_, ap, sym}
+use mathlib.Core.Path.{_∙_, ap}
 use native.Mathlib.Omega.{arith}
-use Prim.Native.Nat.{ℕ}
 use denote.Ref.{now}
 use Rattle.cabinet.specs.Steps.{unlessOldAt}
 use Rattle.cabinet.proofs.Loops.{found-below}
