@@ -1,14 +1,14 @@
 // The three key agreement texts of a load request (STS 600-4-2, clause 5.6): the number of items, then of each item its
 // length and its bytes. The request is read once, and its fields go in as parts of its own bytes; only QE is decoded.
 ghost use Rattle.std.specs.Prelude.{◌≡◌, ◌+◌, ◌≤◌, length, T};
-ghost use Rattle.text.specs.Text.{isHex};
-ghost use Rattle.text.specs.Base16.{base16Decode};
+ghost use Rattle.text.specs.Text.{is_hex};
+ghost use Rattle.text.specs.Base16.{base16_decode};
 ghost use Rattle.format.specs.Kinds.{REQ};
-ghost use Rattle.format.specs.Read.{fieldsIn};
+ghost use Rattle.format.specs.Read.{fields_in};
 ghost use Rattle.put.specs.Put.{Put};
 ghost use Rattle.put.specs.Made.{Writes};
-ghost use Rattle.agreement.specs.Texts.{textMade, sharedInfo, moduleText, centreText};
-ghost use Rattle.agreement.specs.Steps.{lvItem, itemFor, itemsBy, text_of, Small, Suited, Places};
+ghost use Rattle.agreement.specs.Texts.{text_made, shared_info, module_text, centre_text};
+ghost use Rattle.agreement.specs.Steps.{lv_item, item_for, items_by, text_of, Small, Suited, Places};
 
 // A decoded point has so many bytes.
 pub const POINT_BYTES: usize = 97;
@@ -44,7 +44,7 @@ pub const CENTRE_FIELDS: [usize; 4] = [
 // The length of the item, and its bytes.
 fn put_item(out: &mut [u8], at: usize, item: &[u8]) -> usize
     requires { (length item.now ≤ 255) × (at + 1 + length item.now ≤ length out.old) }
-    ensures { Put out.old at (lvItem item.now) out.new result }
+    ensures { Put out.old at (lv_item item.now) out.new result }
 {
     let next = put::put_byte(out, at, item.len() as u8);
     put::put(out, next, item)
@@ -52,8 +52,8 @@ fn put_item(out: &mut [u8], at: usize, item: &[u8]) -> usize
 
 // A point, decoded, as an item.
 fn put_point(out: &mut [u8], at: usize, point: &[u8]) -> usize
-    requires { T (isHex 194 point.now) × (at + 98 ≤ length out.old) }
-    ensures { Put out.old at (lvItem (base16Decode point.now)) out.new result }
+    requires { T (is_hex 194 point.now) × (at + 98 ≤ length out.old) }
+    ensures { Put out.old at (lv_item (base16_decode point.now)) out.new result }
 {
     let next = put::put_byte(out, at, POINT_BYTES as u8);
     put::put_decoded(out, next, point)
@@ -68,8 +68,8 @@ fn put_field(
     lens: &[usize; 7],
     n: usize,
 ) -> usize
-    requires { Places request.now starts.now lens.now × Suited (fieldsIn REQ request.now) × (at + 1 + length (itemFor (fieldsIn REQ request.now) n) ≤ length out.old) }
-    ensures { Put out.old at (lvItem (itemFor (fieldsIn REQ request.now) n)) out.new result }
+    requires { Places request.now starts.now lens.now × Suited (fields_in REQ request.now) × (at + 1 + length (item_for (fields_in REQ request.now) n) ≤ length out.old) }
+    ensures { Put out.old at (lv_item (item_for (fields_in REQ request.now) n)) out.new result }
 {
     let bytes = places::field_at(request, starts, lens, n);
     if n == table::REQ_QE {
@@ -80,8 +80,8 @@ fn put_field(
 
 // The length of that item, without the byte that tells it.
 fn field_length(request: &[u8], starts: &[usize; 7], lens: &[usize; 7], n: usize) -> usize
-    requires { Places request.now starts.now lens.now × Suited (fieldsIn REQ request.now) }
-    ensures { result ≡ length (itemFor (fieldsIn REQ request.now) n) }
+    requires { Places request.now starts.now lens.now × Suited (fields_in REQ request.now) }
+    ensures { result ≡ length (item_for (fields_in REQ request.now) n) }
 {
     if n != table::REQ_QE {
         return places::field_at(request, starts, lens, n).len();
@@ -99,7 +99,7 @@ fn text_length(
     starts: &[usize; 7],
     lens: &[usize; 7],
 ) -> usize
-    requires { Small label.now fields.now × Places request.now starts.now lens.now × Suited (fieldsIn REQ request.now) }
+    requires { Small label.now fields.now × Places request.now starts.now lens.now × Suited (fields_in REQ request.now) }
     ensures { result ≡ length (text_of label.now fields.now request.now) }
 {
     // The count, and the label with its length.
@@ -121,7 +121,7 @@ fn put_text(
     starts: &[usize; 7],
     lens: &[usize; 7],
 ) -> usize
-    requires { Small label.now fields.now × Places request.now starts.now lens.now × Suited (fieldsIn REQ request.now) × (length (text_of label.now fields.now request.now) ≤ length out.old) }
+    requires { Small label.now fields.now × Places request.now starts.now lens.now × Suited (fields_in REQ request.now) × (length (text_of label.now fields.now request.now) ≤ length out.old) }
     ensures { Put out.old 0 (text_of label.now fields.now request.now) out.new result }
 {
     let next = put::put_byte(out, 0, (1 + fields.len()) as u8);
@@ -137,7 +137,7 @@ fn put_text(
 // The request's own refusal comes first, then 10; only then is anything written.
 fn write_text(label: &[u8], fields: &[usize], request: &[u8], out: &mut [u8]) -> put::Written
     requires { Small label.now fields.now }
-    ensures { Writes (textMade (itemsBy label.now fields.now) request.now (length out.old)) out.old out.new result }
+    ensures { Writes (text_made (items_by label.now fields.now) request.now (length out.old)) out.old out.new result }
 {
     let answer = reading::read_of(table::REQ, table::RESP, request);
     if answer.no != numbers::ACCEPTED {
@@ -160,7 +160,7 @@ fn write_text(label: &[u8], fields: &[usize], request: &[u8], out: &mut [u8]) ->
 
 // SharedInfo.
 pub fn shared_info(request: &[u8], out: &mut [u8]) -> put::Written
-    ensures { Writes (sharedInfo request.now (length out.old)) out.old out.new result }
+    ensures { Writes (shared_info request.now (length out.old)) out.old out.new result }
 {
     let label = SHARED_LABEL;
     let fields = SHARED_FIELDS;
@@ -169,7 +169,7 @@ pub fn shared_info(request: &[u8], out: &mut [u8]) -> put::Written
 
 // The module text, MacData_SM.
 pub fn module_text(request: &[u8], out: &mut [u8]) -> put::Written
-    ensures { Writes (moduleText request.now (length out.old)) out.old out.new result }
+    ensures { Writes (module_text request.now (length out.old)) out.old out.new result }
 {
     let label = MODULE_LABEL;
     let fields = MODULE_FIELDS;
@@ -178,7 +178,7 @@ pub fn module_text(request: &[u8], out: &mut [u8]) -> put::Written
 
 // The centre text, MacData_KMC.
 pub fn centre_text(request: &[u8], out: &mut [u8]) -> put::Written
-    ensures { Writes (centreText request.now (length out.old)) out.old out.new result }
+    ensures { Writes (centre_text request.now (length out.old)) out.old out.new result }
 {
     let label = CENTRE_LABEL;
     let fields = CENTRE_FIELDS;

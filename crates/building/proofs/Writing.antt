@@ -8,17 +8,17 @@ use native.Mathlib.Nat.{zero-add}
 use native.Mathlib.Numerals.{add-one}
 use lib.ListN.{length, take, drop, get_or, length-append, length-drop, take-append-drop}
 use lib.Seq.{length-take-le, take-suc, take_all, take-append_seam}
-use Rattle.crc16.specs.Crc.{crcOf}
+use Rattle.crc16.specs.Crc.{crc_of}
 use Rattle.text.specs.Text.{Bytes}
-use Rattle.text.specs.Base16.{checkText}
-use Rattle.text.proofs.Types.{hex-length}
-use Rattle.text.proofs.Hexadecimal.{check-hex}
-use Rattle.format.specs.Build.{joined, withCheck}
-use Rattle.format.proofs.Parts.{joined-append}
+use Rattle.text.specs.Base16.{check_text}
+use Rattle.text.proofs.Types.{hex_length}
+use Rattle.text.proofs.Hexadecimal.{check_hex}
+use Rattle.format.specs.Build.{joined, with_check}
+use Rattle.format.proofs.Parts.{joined_append}
 use Rattle.put.specs.Put.{Puts, Put}
-use Rattle.put.proofs.Pieces.{put_of, put-none, put-length, put_as, put_then}
+use Rattle.put.proofs.Pieces.{put_of, put_none, put_length, put_as, put_then}
 use Rattle.building.specs.Building.{sum, pieces}
-use Rattle.building.proofs.Pieces.{pieces-count}
+use Rattle.building.proofs.Pieces.{pieces_count}
 
 -- ---- the fields and their marks
 
@@ -33,27 +33,27 @@ pub record Through (o : Bytes) (at m : ℕ) (bytes : Bytes) (ns : List ℕ) (out
   pub room : at + length bytes + length ns ≤ length o
   pub written : Put o at (joined m (take j (pieces ns bytes))) out next
 
-pub through-none : (o : Bytes) (at m : ℕ) (bytes : Bytes) (ns : List ℕ) → sum ns ≡ length bytes → at + length bytes + length ns ≤ length o → Through o at m bytes ns o at 0
-through-none o at m bytes ns e h = record { whole = e; room = h; written = put-none (omega arith) }
+pub through_none : (o : Bytes) (at m : ℕ) (bytes : Bytes) (ns : List ℕ) → sum ns ≡ length bytes → at + length bytes + length ns ≤ length o → Through o at m bytes ns o at 0
+through_none o at m bytes ns e h = record { whole = e; room = h; written = put_none (omega arith) }
 
 module _ {o : Bytes} {at m : ℕ} {bytes : Bytes} {ns : List ℕ} {out : Bytes} {next j : ℕ} (w : Through o at m bytes ns out next j) where
-  pub through-length : length out ≡ length o
-  through-length = put-length w.written
+  pub through_length : length out ≡ length o
+  through_length = put_length w.written
 
-  pub through-all : length ns ≤ j → Put o at (joined m (pieces ns bytes)) out next
-  through-all h = put_as (ap (joined m) (take_all j (pieces ns bytes) (omega (arith, pieces-count ns bytes)))) w.written
+  pub through_all : length ns ≤ j → Put o at (joined m (pieces ns bytes)) out next
+  through_all h = put_as (ap (joined m) (take_all j (pieces ns bytes) (omega (arith, pieces_count ns bytes)))) w.written
 
   -- field j is f as the code has it
   module _ (h : j < length ns) {f : Bytes} (ef : f ≡ get_or (pieces ns bytes) j []) where
     more : joined m (take (j + 1) (pieces ns bytes)) ≡ joined m (take j (pieces ns bytes)) ++ f ++ (m ∷ [])
     more =
-        rw (add-one, take-suc (pieces ns bytes) j [] (omega (arith, pieces-count ns bytes)), joined-append, ← ef)
+        rw (add-one, take-suc (pieces ns bytes) j [] (omega (arith, pieces_count ns bytes)), joined_append, ← ef)
         (sym (append_assoc (joined m (take j (pieces ns bytes))) f (m ∷ [])))
 
     fits : next + length f + 1 ≤ length o
     fits =
         let fs = pieces ns bytes in
-        let parts = ap (λ (gs : List Bytes). length (joined m gs)) (sym (take-append-drop (j + 1) fs)) ∙ ap length (joined-append m (take (j + 1) fs) (drop (j + 1) fs)) in
+        let parts = ap (λ (gs : List Bytes). length (joined m gs)) (sym (take-append-drop (j + 1) fs)) ∙ ap length (joined_append m (take (j + 1) fs) (drop (j + 1) fs)) in
         omega (
           arith,
           w.written.next,
@@ -67,10 +67,10 @@ module _ {o : Bytes} {at m : ℕ} {bytes : Bytes} {ns : List ℕ} {out : Bytes} 
         )
 
     -- f is written, and then its mark
-    pub through-next : {out' out'' : Bytes} {n' n'' : ℕ} → Puts out next f out' n' → Puts out' n' (m ∷ []) out'' n'' → Through o at m bytes ns out'' n'' (j + 1)
-    through-next p q =
-        let a = put_of (omega (arith, fits, through-length)) p in
-        let b = put_of (omega (arith, fits, through-length, a.next, put-length a)) q in
+    pub through_next : {out' out'' : Bytes} {n' n'' : ℕ} → Puts out next f out' n' → Puts out' n' (m ∷ []) out'' n'' → Through o at m bytes ns out'' n'' (j + 1)
+    through_next p q =
+        let a = put_of (omega (arith, fits, through_length)) p in
+        let b = put_of (omega (arith, fits, through_length, a.next, put_length a)) q in
         record { whole = w.whole; room = w.room; written = put_as (sym more) (put_then (put_then w.written a) b) }
 
 -- ---- the record
@@ -85,7 +85,7 @@ pub headed : (o t bytes : Bytes) (ns : List ℕ) (m : ℕ) {o₁ out : Bytes} {a
     → Puts o 0 t o₁ a → Puts o₁ a (m ∷ []) out next → Headed o t bytes ns m out next
 headed o t bytes ns m e h p q =
     let a = put_of (omega arith) p in
-    let b = put_of (omega (arith, a.next, put-length a)) q in
+    let b = put_of (omega (arith, a.next, put_length a)) q in
     record { whole = e; room = h; written = put_then a b }
 
 -- what is written from the front
@@ -94,24 +94,24 @@ front {o} {v} {out} {r} p = rw (p.written, p.next, zero-add) (take-append_seam v
 
 module _ {o t bytes : Bytes} {ns : List ℕ} {m : ℕ} {out : Bytes} {next : ℕ} (w : Headed o t bytes ns m out next) where
   long : (length out ≡ length o) × (next ≡ length t + 1)
-  long = (put-length w.written, omega (arith, w.written.next, length-append t (m ∷ [])))
+  long = (put_length w.written, omega (arith, w.written.next, length-append t (m ∷ [])))
 
-  pub headed-room : next + length bytes + length ns ≤ length out
-  headed-room = omega (arith, w.room, long)
+  pub headed_room : next + length bytes + length ns ≤ length out
+  headed_room = omega (arith, w.room, long)
 
   module _ {out' : Bytes} {end : ℕ} (p : Put out next (joined m (pieces ns bytes)) out' end) where
     rest : end + 4 ≤ length out'
-    rest = omega (arith, w.room, long, p.next, put-length p, joined_length m ns bytes w.whole)
+    rest = omega (arith, w.room, long, p.next, put_length p, joined_length m ns bytes w.whole)
 
-    pub headed-end : end ≤ length out'
-    headed-end = omega (arith, rest)
+    pub headed_end : end ≤ length out'
+    headed_end = omega (arith, rest)
 
     -- n is the check and c its text as the code has them
-    pub headed-sealed : {c out'' : Bytes} {n r : ℕ} → n ≡ crcOf (take (end - 0) out') → c ≡ checkText n → Puts out' end c out'' r
-        → Put o 0 (withCheck (joined m (t ∷ pieces ns bytes))) out'' r
-    unfolding withCheck
-    headed-sealed {n = n} en ec q =
+    pub headed_sealed : {c out'' : Bytes} {n r : ℕ} → n ≡ crc_of (take (end - 0) out') → c ≡ check_text n → Puts out' end c out'' r
+        → Put o 0 (with_check (joined m (t ∷ pieces ns bytes))) out'' r
+    unfolding with_check
+    headed_sealed {n = n} en ec q =
         let u = put_as (append_assoc t (m ∷ []) (joined m (pieces ns bytes))) (put_then w.written p) in
         let z : end - 0 ≡ end = omega arith in
-        let s = put_of (omega (arith, rest, ap length ec, hex-length 4 (checkText n) (check-hex n))) q in
-        put_then u (put_as (ec ∙ ap checkText (en ∙ rw (z, front u))) s)
+        let s = put_of (omega (arith, rest, ap length ec, hex_length 4 (check_text n) (check_hex n))) q in
+        put_then u (put_as (ec ∙ ap check_text (en ∙ rw (z, front u))) s)

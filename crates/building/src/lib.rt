@@ -2,11 +2,11 @@
 // and lengths and has no `requires`. The order is 2, 5, then the fields from left to right (6, or 7 before 9), then 8, 14, 1
 // and 10; nothing is written before all of them are asked. The table and the tests of a field are the reader's.
 ghost use Rattle.std.specs.Prelude.{◌≡◌, ◌∷◌, ◌+◌, ◌≤◌, length, eqb};
-ghost use Rattle.format.specs.Build.{joined, withCheck};
+ghost use Rattle.format.specs.Build.{joined, with_check};
 ghost use Rattle.put.specs.Put.{Put};
 ghost use Rattle.put.specs.Made.{Writes};
 ghost use Rattle.building.specs.Building.{sum, pieces, build};
-ghost use Rattle.building.specs.Steps.{countNo, places_by, Lie};
+ghost use Rattle.building.specs.Steps.{count_no, places_by, Lie};
 
 const CHECK_LENGTH: usize = 4;
 
@@ -29,7 +29,7 @@ fn do_add_up(lens: &[usize], total: usize) -> bool
 }
 
 fn count_no(row: usize, bytes: &[u8], lens: &[usize]) -> u8
-    ensures { result ≡ countNo row bytes.now lens.now }
+    ensures { result ≡ count_no row bytes.now lens.now }
 {
     if row == table::NONE {
         return numbers::UNKNOWN_KIND;
@@ -102,7 +102,7 @@ fn put_record(
     sizes: &[usize; 7],
 ) -> usize
     requires { (sum lens.now ≡ length bytes.now) × Lie bytes.now lens.now starts.now sizes.now × (length kind.now + 1 + length bytes.now + length lens.now + 4 ≤ length out.old) }
-    ensures { Put out.old 0 (withCheck (joined mark (kind.now ∷ pieces lens.now bytes.now))) out.new result }
+    ensures { Put out.old 0 (with_check (joined mark (kind.now ∷ pieces lens.now bytes.now))) out.new result }
 {
     let named = put::put(out, 0, kind);
     let marked = put::put_byte(out, named, mark);

@@ -1,4 +1,4 @@
--- What the calls of the cabinet answer: document 02, E8 and E10. `makeCabinet`, `putKey`, `removeKey`, `admit`, `findKey`, `countKeys` and `checkCabinet` of shelf say it;
+-- What the calls of the cabinet answer: document 02, E8 and E10. `make_cabinet`, `put_key`, `remove_key`, `admit`, `find_key`, `count_keys` and `check_cabinet` of shelf say it;
 -- here it is put into the words of an answer.
 -- Assumes nothing.
 use Rattle.std.specs.Prelude.{ℕ, ◌≡◌, length}
@@ -6,7 +6,7 @@ use Rattle.std.specs.Borrow.{Bor}
 use Rattle.text.specs.Text.{Bytes}
 use Rattle.fields.specs.Fields.{PartSaid, PlaceSaid}
 use Rattle.fields.specs.declared.Place.{Place}
-use Rattle.shelf.specs.Cabinet.{Result, Finding, countKeys, checkCabinet}
+use Rattle.shelf.specs.Cabinet.{Result, Finding, count_keys, check_cabinet}
 use Rattle.cabinet.specs.declared.Filed.{Filed}
 use Rattle.cabinet.specs.declared.Counted.{Counted}
 
@@ -20,13 +20,13 @@ pub record Files (x : Result) (after : Bytes) (r : Filed) : Type 0 where
 
 -- whether the bytes are a cabinet
 abbrev pub checked : Bytes → Filed
-checked s = record { no = checkCabinet s; field = 0 }
+checked s = record { no = check_cabinet s; field = 0 }
 
 abbrev pub counted : Bytes → Counted
-counted s = record { no = (countKeys s).no; count = (countKeys s).count }
+counted s = record { no = (count_keys s).no; count = (count_keys s).count }
 
-abbrev pub foundIn : Finding → Place
-foundIn x = record { no = x.no; field = x.field; start = x.start; len = length x.text }
+abbrev pub found_in : Finding → Place
+found_in x = record { no = x.no; field = x.field; start = x.start; len = length x.text }
 
 -- the record that was found in s, as start and length, and as a part of it
 abbrev pub FindSaid : Finding → Bytes → Place → Type 0

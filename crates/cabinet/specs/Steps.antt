@@ -6,19 +6,19 @@ use Rattle.std.proofs.Math.Option.{Option, none, some}
 use Rattle.text.specs.Text.{Bytes, same}
 use Rattle.text.specs.Later.{later}
 use Rattle.format.specs.Files.{up_to}
-use Rattle.frame.specs.Frame.{part_of, partStart}
-use Rattle.subjects.specs.Subjects.{identityPart}
+use Rattle.frame.specs.Frame.{part_of, part_start}
+use Rattle.subjects.specs.Subjects.{identity_part}
 use Rattle.shelf.specs.Places.{Place}
-use Rattle.shelf.specs.Cabinet.{zeros, decode, isOld}
+use Rattle.shelf.specs.Cabinet.{zeros, decode, is_old}
 
 -- ---- one place
 
 abbrev pub is_zero : ℕ → Bool
 is_zero c = eqb c 0
 
-abbrev pub isPlace : Option Place → Bool
-isPlace none = false
-isPlace (some p) = true
+abbrev pub is_place : Option Place → Bool
+is_place none = false
+is_place (some p) = true
 
 abbrev pub is_some : Option (List Place) → Bool
 is_some none = false
@@ -29,45 +29,45 @@ abbrev pub part_at : Bytes → ℕ → Bytes
 part_at s i = take 1024 (drop (i * 1024) s)
 
 -- the bytes s with v in place i
-abbrev pub withPart : Bytes → ℕ → Bytes → Bytes
-withPart s i v = (take (i * 1024) s ++ v) ++ drop (i * 1024 + 1024) s
+abbrev pub with_part : Bytes → ℕ → Bytes → Bytes
+with_part s i v = (take (i * 1024) s ++ v) ++ drop (i * 1024 + 1024) s
 
 -- the text, and zeros after it up to n bytes
 abbrev pub padded : ℕ → Bytes → Bytes
 padded n text = text ++ zeros (n - length text)
 
 -- what is written into a place: the text with zeros after it, the TVP, and the number, with zeros where these are empty
-abbrev pub filledWith : Bytes → Bytes → Bytes → Bytes
-filledWith text tvp number = (padded 1000 text ++ padded 16 tvp) ++ padded 8 number
+abbrev pub filled_with : Bytes → Bytes → Bytes → Bytes
+filled_with text tvp number = (padded 1000 text ++ padded 16 tvp) ++ padded 8 number
 
 -- the bytes of a place with another text and another number, and with another TVP
-abbrev pub keyIn : Bytes → Bytes → Bytes → Bytes
-keyIn b text number = (padded 1000 text ++ take 16 (drop 1000 b)) ++ padded 8 number
+abbrev pub key_in : Bytes → Bytes → Bytes → Bytes
+key_in b text number = (padded 1000 text ++ take 16 (drop 1000 b)) ++ padded 8 number
 
-abbrev pub tvpBetween : Bytes → Bytes → Bytes
-tvpBetween b tvp = (take 1000 b ++ padded 16 tvp) ++ drop 1016 b
+abbrev pub tvp_between : Bytes → Bytes → Bytes
+tvp_between b tvp = (take 1000 b ++ padded 16 tvp) ++ drop 1016 b
 
 -- ---- the names
 
 -- what stands in an identity before its third field; nothing, where its bytes have not so many marks
-unfoldable pub namesIn : Bytes → Bytes
-namesIn s = cond (leb (partStart (code ":") s 3) (length s)) (take (partStart (code ":") s 3) s) []
+unfoldable pub names_in : Bytes → Bytes
+names_in s = cond (leb (part_start (code ":") s 3) (length s)) (take (part_start (code ":") s 3) s) []
 
 -- the first field of a record, of any bytes, alone or in its place
-unfoldable pub subjectAt : Bytes → Bytes
-subjectAt s = part_of (code "|") s 1
+unfoldable pub subject_at : Bytes → Bytes
+subject_at s = part_of (code "|") s 1
 
 -- what stands there begins with v
-unfoldable pub startsSo : Bytes → Bytes → Bool
-startsSo s v = same (take (length v) (drop (partStart (code "|") s 1) s)) v
+unfoldable pub starts_so : Bytes → Bytes → Bool
+starts_so s v = same (take (length v) (drop (part_start (code "|") s 1) s)) v
 
 -- the third field of the identity i is after that of the identity in the place s
-unfoldable pub isLaterThan : Bytes → Bytes → Bool
-isLaterThan i s = later (identityPart i 3) (identityPart (subjectAt s) 3)
+unfoldable pub is_later_than : Bytes → Bytes → Bool
+is_later_than i s = later (identity_part i 3) (identity_part (subject_at s) 3)
 
 -- the TVP is after that in the place s
-unfoldable pub isLaterTvp : Bytes → Bytes → Bool
-isLaterTvp t s = later t (take 16 (drop 1000 s))
+unfoldable pub is_later_tvp : Bytes → Bytes → Bool
+is_later_tvp t s = later t (take 16 (drop 1000 s))
 
 -- ---- all places
 
@@ -77,41 +77,41 @@ first t zero i = i
 first t (suc n) i = cond (t i) i (first t n (suc i))
 
 -- of the places from i on
-abbrev pub firstFrom : (ℕ → Bool) → ℕ → ℕ
-firstFrom t i = first t (64 - i) i
+abbrev pub first_from : (ℕ → Bool) → ℕ → ℕ
+first_from t i = first t (64 - i) i
 
 -- place i; 64 where there is none, or where its record is old
-unfoldable pub unlessOldAt : Bytes → ℕ → ℕ
-unlessOldAt s i = cond (eqb i 64) 64 (cond (isOld (up_to 0 (part_at s i))) 64 i)
+unfoldable pub unless_old_at : Bytes → ℕ → ℕ
+unless_old_at s i = cond (eqb i 64) 64 (cond (is_old (up_to 0 (part_at s i))) 64 i)
 
 -- every place passes the test
-abbrev pub allPass : (ℕ → Bool) → Bool
-allPass t = eqb (firstFrom (λ i. not (t i)) 0) 64
+abbrev pub all_pass : (ℕ → Bool) → Bool
+all_pass t = eqb (first_from (λ i. not (t i)) 0) 64
 
-abbrev pub hasNames : Bytes → Bytes → ℕ → Bool
-hasNames s v i = startsSo (part_at s i) v
+abbrev pub has_names : Bytes → Bytes → ℕ → Bool
+has_names s v i = starts_so (part_at s i) v
 
 -- the place whose record begins with the names v, unless it is old
-abbrev pub currentOf : Bytes → Bytes → ℕ
-currentOf s v = unlessOldAt s (firstFrom (hasNames s v) 0)
+abbrev pub current_of : Bytes → Bytes → ℕ
+current_of s v = unless_old_at s (first_from (has_names s v) 0)
 
-abbrev pub isPlaceAt : Bytes → ℕ → Bool
-isPlaceAt s i = isPlace (decode (part_at s i))
+abbrev pub is_place_at : Bytes → ℕ → Bool
+is_place_at s i = is_place (decode (part_at s i))
 
-abbrev pub isFreeAt : Bytes → ℕ → Bool
-isFreeAt s i = is_zero (get_or s (i * 1024) 0)
+abbrev pub is_free_at : Bytes → ℕ → Bool
+is_free_at s i = is_zero (get_or s (i * 1024) 0)
 
-abbrev pub isHeldAt : Bytes → ℕ → Bool
-isHeldAt s i = not (isFreeAt s i)
+abbrev pub is_held_at : Bytes → ℕ → Bool
+is_held_at s i = not (is_free_at s i)
 
 -- no later place begins with the names of place i
-unfoldable pub aloneAt : Bytes → ℕ → Bool
-aloneAt s i = cond (isFreeAt s i) true (eqb (firstFrom (hasNames s (namesIn (subjectAt (part_at s i)))) (i + 1)) 64)
+unfoldable pub alone_at : Bytes → ℕ → Bool
+alone_at s i = cond (is_free_at s i) true (eqb (first_from (has_names s (names_in (subject_at (part_at s i)))) (i + 1)) 64)
 
 -- how many of n places from i on are occupied
-unfoldable pub occupiedOf : Bytes → ℕ → ℕ → ℕ
-occupiedOf s zero i = 0
-occupiedOf s (suc n) i = cond (isFreeAt s i) 0 1 + occupiedOf s n (suc i)
+unfoldable pub occupied_of : Bytes → ℕ → ℕ → ℕ
+occupied_of s zero i = 0
+occupied_of s (suc n) i = cond (is_free_at s i) 0 1 + occupied_of s n (suc i)
 
 -- ---- what the functions need
 

@@ -8,9 +8,9 @@ mod writing;
 
 ghost use Rattle.std.specs.Prelude.{◌≡◌, ◌+◌, ◌-◌, ◌≤◌, ◌<◌, length};
 ghost use Rattle.text.specs.Text.{every};
-ghost use Rattle.shelf.specs.Cabinet.{decode, shelf, makeCabinet, putKey, removeKey, admit, findKey};
+ghost use Rattle.shelf.specs.Cabinet.{decode, shelf, make_cabinet, put_key, remove_key, admit, find_key};
 ghost use Rattle.cabinet.specs.Cabinet.{Files, counted, checked, FindSaid, FindPart};
-ghost use Rattle.cabinet.specs.Steps.{is_zero, isPlace, is_some, part_at, firstFrom, currentOf, allPass, hasNames, isPlaceAt, isFreeAt, isHeldAt, aloneAt, occupiedOf, Sized, PlaceIn};
+ghost use Rattle.cabinet.specs.Steps.{is_zero, is_place, is_some, part_at, first_from, current_of, all_pass, has_names, is_place_at, is_free_at, is_held_at, alone_at, occupied_of, Sized, PlaceIn};
 
 pub const PLACES: usize = 64;
 
@@ -64,7 +64,7 @@ fn are_zeros(s: &[u8]) -> bool
 // Whether the bytes are all zeros, or a public key, zeros after it, a TVP and the number of its Expiry: the record is what stands before the first zero.
 fn is_place(place: &[u8]) -> bool
     requires { length place.now ≡ 1024 }
-    ensures { result ≡ isPlace (decode place.now) }
+    ensures { result ≡ is_place (decode place.now) }
 {
     let len = frame::next_mark(0, place, 0);
     if len == 0 {
@@ -102,7 +102,7 @@ fn place_at<'a>(cabinet: &'a [u8], i: usize) -> &'a [u8]
 // The lowest place at or after `from` whose record has these names, or PLACES.
 fn place_of(cabinet: &[u8], from: usize, names: &[u8]) -> usize
     requires { Sized cabinet.now × (from ≤ 64) }
-    ensures { result ≡ firstFrom (hasNames cabinet.now names.now) from }
+    ensures { result ≡ first_from (has_names cabinet.now names.now) from }
 {
     let mut i = from;
     while i < PLACES {
@@ -117,7 +117,7 @@ fn place_of(cabinet: &[u8], from: usize, names: &[u8]) -> usize
 // The place of the record with these names; PLACES where there is none, or where it is old.
 fn current_of(cabinet: &[u8], names: &[u8]) -> usize
     requires { Sized cabinet.now }
-    ensures { result ≡ currentOf cabinet.now names.now }
+    ensures { result ≡ current_of cabinet.now names.now }
 {
     let its = place_of(cabinet, 0, names);
     if its == PLACES {
@@ -132,7 +132,7 @@ fn current_of(cabinet: &[u8], names: &[u8]) -> usize
 // Whether every place is all zeros or holds a record.
 fn are_places(cabinet: &[u8]) -> bool
     requires { Sized cabinet.now }
-    ensures { result ≡ allPass (isPlaceAt cabinet.now) }
+    ensures { result ≡ all_pass (is_place_at cabinet.now) }
 {
     let mut i = 0;
     while i < PLACES {
@@ -147,7 +147,7 @@ fn are_places(cabinet: &[u8]) -> bool
 // Whether no later place shares the names of place i.
 fn is_alone(cabinet: &[u8], i: usize) -> bool
     requires { PlaceIn cabinet.now i }
-    ensures { result ≡ aloneAt cabinet.now i }
+    ensures { result ≡ alone_at cabinet.now i }
 {
     let place = place_at(cabinet, i);
     if place[0] == 0 {
@@ -159,7 +159,7 @@ fn is_alone(cabinet: &[u8], i: usize) -> bool
 // Whether no two places share their names.
 fn are_distinct(cabinet: &[u8]) -> bool
     requires { Sized cabinet.now }
-    ensures { result ≡ allPass (aloneAt cabinet.now) }
+    ensures { result ≡ all_pass (alone_at cabinet.now) }
 {
     let mut i = 0;
     while i < PLACES {
@@ -186,7 +186,7 @@ fn is_cabinet(cabinet: &[u8]) -> bool
 // The lowest free place, or PLACES.
 fn free_at(cabinet: &[u8]) -> usize
     requires { Sized cabinet.now }
-    ensures { result ≡ firstFrom (isFreeAt cabinet.now) 0 }
+    ensures { result ≡ first_from (is_free_at cabinet.now) 0 }
 {
     let mut i = 0;
     while i < PLACES {
@@ -201,7 +201,7 @@ fn free_at(cabinet: &[u8]) -> usize
 // The lowest occupied place at or after `from`, or PLACES.
 fn occupied_from(cabinet: &[u8], from: usize) -> usize
     requires { Sized cabinet.now × (from ≤ 64) }
-    ensures { result ≡ firstFrom (isHeldAt cabinet.now) from }
+    ensures { result ≡ first_from (is_held_at cabinet.now) from }
 {
     let mut at = from;
     while at < PLACES {
@@ -217,7 +217,7 @@ fn occupied_from(cabinet: &[u8], from: usize) -> usize
 // a wide one, with a constant.
 fn occupied_in(cabinet: &[u8]) -> usize
     requires { Sized cabinet.now }
-    ensures { result ≡ occupiedOf cabinet.now 64 0 }
+    ensures { result ≡ occupied_of cabinet.now 64 0 }
 {
     let mut count = 0;
     let mut at = occupied_from(cabinet, 0);
@@ -232,7 +232,7 @@ fn occupied_in(cabinet: &[u8]) -> usize
 
 // Makes the lent bytes an empty cabinet: 23 where they are not SIZE.
 pub fn make_cabinet(cabinet: &mut [u8]) -> Filed
-    ensures { Files (makeCabinet cabinet.old) cabinet.new result }
+    ensures { Files (make_cabinet cabinet.old) cabinet.new result }
 {
     if cabinet.len() != SIZE {
         return file(numbers::NOT_CABINET, 0);
@@ -272,7 +272,7 @@ pub fn count_keys(cabinet: &[u8]) -> Counted
 // 19930101T000000Z as TVP. 23 before all; the record's own numbers (another kind answers 2); 24 where its GNT is not later than that of the one it is to replace; 25 where no
 // place is free.
 pub fn put_key(cabinet: &mut [u8], record: &[u8]) -> Filed
-    ensures { Files (putKey cabinet.old «record».now) cabinet.new result }
+    ensures { Files (put_key cabinet.old «record».now) cabinet.new result }
 {
     if !is_cabinet(cabinet) {
         return file(numbers::NOT_CABINET, 0);
@@ -302,7 +302,7 @@ pub fn put_key(cabinet: &mut [u8], record: &[u8]) -> Filed
 // Takes the public key of this identity's kind, Manufacturer and MID out: its place is all zeros afterwards, the TVP too. 23 before all; the identity's own numbers; 26 where
 // there is none.
 pub fn remove_key(cabinet: &mut [u8], identity: &[u8]) -> Filed
-    ensures { Files (removeKey cabinet.old identity.now) cabinet.new result }
+    ensures { Files (remove_key cabinet.old identity.now) cabinet.new result }
 {
     if !is_cabinet(cabinet) {
         return file(numbers::NOT_CABINET, 0);
@@ -362,7 +362,7 @@ fn find_none(no: u8, field: u8) -> fields::Place
 // Where the public key of this identity's kind, Manufacturer and MID stands in the cabinet's bytes, with the numbers of `remove_key`, and 26 too where it is
 // old; start and length are 0 with a refusal.
 pub fn key_place(cabinet: &[u8], identity: &[u8]) -> fields::Place
-    ensures { FindSaid (findKey cabinet.now identity.now) cabinet.now result }
+    ensures { FindSaid (find_key cabinet.now identity.now) cabinet.now result }
 {
     if !is_cabinet(cabinet) {
         return find_none(numbers::NOT_CABINET, 0);
@@ -385,7 +385,7 @@ pub fn key_place(cabinet: &[u8], identity: &[u8]) -> fields::Place
 
 // The record itself, a part of the cabinet's bytes; with a refusal an empty part at their front.
 pub fn find_key<'a>(cabinet: &'a [u8], identity: &[u8], no: &mut u8, field: &mut u8) -> &'a [u8]
-    ensures { FindPart (findKey cabinet.now identity.now) cabinet.entry result no.new field.new }
+    ensures { FindPart (find_key cabinet.now identity.now) cabinet.entry result no.new field.new }
 {
     let place = key_place(cabinet, identity);
     *no = place.no;

@@ -1,11 +1,11 @@
 // The names that tell two Subjects apart. Two accepted identities share the three exactly where they begin alike, up to the third ':', so they are compared where they
 // stand: in a Subject, in a lent identity, in the ID_SM of a request.
 ghost use Rattle.std.specs.Prelude.{◌≡◌};
-ghost use Rattle.cabinet.specs.Steps.{namesIn, subjectAt, startsSo, isLaterThan};
+ghost use Rattle.cabinet.specs.Steps.{names_in, subject_at, starts_so, is_later_than};
 
 // What stands in an identity before its GNT: its kind's name, Manufacturer and MID, each followed by ':'. Nothing, of bytes without so many marks.
 pub(crate) fn names_in<'a>(identity: &'a [u8]) -> &'a [u8]
-    ensures { result.now ≡ namesIn identity.now }
+    ensures { result.now ≡ names_in identity.now }
 {
     let end = frame::part_start(b':', identity, table::IDENTITY_GNT);
     if identity.len() < end {
@@ -16,14 +16,14 @@ pub(crate) fn names_in<'a>(identity: &'a [u8]) -> &'a [u8]
 
 // The Subject of a record, alone or in its place.
 pub(crate) fn subject_in<'a>(bytes: &'a [u8]) -> &'a [u8]
-    ensures { result.now ≡ subjectAt bytes.now }
+    ensures { result.now ≡ subject_at bytes.now }
 {
     frame::part(b'|', bytes, table::PUBKEY_SUBJECT)
 }
 
 // The Subject of the record in a place begins with these names.
 pub(crate) fn has_names(place: &[u8], names: &[u8]) -> bool
-    ensures { result ≡ startsSo place.now names.now }
+    ensures { result ≡ starts_so place.now names.now }
 {
     let start = frame::part_start(b'|', place, table::PUBKEY_SUBJECT);
     if place.len() < start {
@@ -38,7 +38,7 @@ pub(crate) fn has_names(place: &[u8], names: &[u8]) -> bool
 
 // The GNT of this Subject is later than that of the record in a place.
 pub(crate) fn is_later_than(subject: &[u8], place: &[u8]) -> bool
-    ensures { result ≡ isLaterThan subject.now place.now }
+    ensures { result ≡ is_later_than subject.now place.now }
 {
     text::is_later(
         subjects::field_in(subject, table::IDENTITY_GNT),

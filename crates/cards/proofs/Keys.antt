@@ -9,12 +9,12 @@ use native.Mathlib.Omega.{arith}
 use lib.Dec.{T, T_not, eqb, ltb}
 use mir.Facts.{and_yes, or_yes}
 use borrow.Author.Tests.{eq-eqb, ne_eqb, lt-ltb, le-ltb}
-use Rattle.text.specs.Text.{Bytes, between, every, all_of, same, after, decimal, alphanumeric, isAlphanumeric}
-use Rattle.text.proofs.Tests.{by-test, T_true, T_false, between-low, between-high, same→eq, same_refl}
-use Rattle.text.proofs.Types.{alphanumeric-length}
-use Rattle.text.proofs.Order.{by_order, after_less, after_equal, after_more, after-neither}
+use Rattle.text.specs.Text.{Bytes, between, every, all_of, same, after, decimal, alphanumeric, is_alphanumeric}
+use Rattle.text.proofs.Tests.{by_test, T_true, T_false, between_low, between_high, same→eq, same_refl}
+use Rattle.text.proofs.Types.{alphanumeric_length}
+use Rattle.text.proofs.Order.{by_order, after_less, after_equal, after_more, after_neither}
 use Rattle.format.specs.Attributes.{Row, holds}
-use Rattle.cards.specs.Steps.{key_of, holdsAt}
+use Rattle.cards.specs.Steps.{key_of, holds_at}
 
 -- ---- three characters, each of them a byte, and the first not 0
 
@@ -23,7 +23,7 @@ pub data Name : Bytes → Type 0 where
 
 module _ (c : ℕ) where
   within : (low high : ℕ) → 0 < low → high < 256 → T (between low high c) → (0 < c) × (c < 256)
-  within low high l h t = let x = between-low low high c t in let y = between-high low high c t in (omega arith, omega arith)
+  within low high l h t = let x = between_low low high c t in let y = between_high low high c t in (omega arith, omega arith)
 
   is_byte : T (alphanumeric c) → (0 < c) × (c < 256)
   is_byte t =
@@ -38,18 +38,18 @@ letters a b c t =
     let t₃ = and_yes (alphanumeric c) true t₂.1 in
     name a b c (is_byte a t₁.0).0 (is_byte a t₁.0).1 (is_byte b t₂.0).1 (is_byte c t₃.0).1
 
-pub is_name : (n : Bytes) → T (isAlphanumeric 3 n) → Name n
-unfolding isAlphanumeric
+pub is_name : (n : Bytes) → T (is_alphanumeric 3 n) → Name n
+unfolding is_alphanumeric
 is_name [] t = absurd t
 is_name (a ∷ []) t = absurd t
 is_name (a ∷ b ∷ []) t = absurd t
 is_name (a ∷ b ∷ c ∷ []) t = letters a b c t
-is_name (a ∷ b ∷ c ∷ d ∷ n) t = absurd (omega (arith, alphanumeric-length 3 (a ∷ b ∷ c ∷ d ∷ n) t))
+is_name (a ∷ b ∷ c ∷ d ∷ n) t = absurd (omega (arith, alphanumeric_length 3 (a ∷ b ∷ c ∷ d ∷ n) t))
 
 -- ---- names by their keys
 
-pub after-key : {n m : Bytes} → Name n → Name m → after n m ≡ ltb (key_of m) (key_of n)
-after-key (name a b c a₀ a₁ b₁ c₁) (name x y z x₀ x₁ y₁ z₁) =
+pub after_key : {n m : Bytes} → Name n → Name m → after n m ≡ ltb (key_of m) (key_of n)
+after_key (name a b c a₀ a₁ b₁ c₁) (name x y z x₀ x₁ y₁ z₁) =
     by_order a x
     (λ h. after_less a x (b ∷ c ∷ []) (y ∷ z ∷ []) h ∙ not_behind (omega arith))
     (λ d. after_equal a x (b ∷ c ∷ []) (y ∷ z ∷ []) d ∙ by_order b y
@@ -73,27 +73,27 @@ after_none (name a b c a₀ a₁ b₁ c₁) = sym (lt-ltb 0 (key_of (a ∷ b ∷
 
 pub same_key : (n m : Bytes) → Name n → Name m → same n m ≡ eqb (key_of n) (key_of m)
 same_key n m p q =
-    by-test (same n m)
+    by_test (same n m)
     (λ t. T_true (same n m) t ∙ sym (eq-eqb (key_of n) (key_of m) (ap key_of (same→eq n m t))))
     (λ t. T_false (same n m) t ∙ sym (ne_eqb (key_of n) (key_of m) (λ e. T_not (same n m) t (rw (equal e) (same_refl m)))))
   where
     equal : key_of n ≡ key_of m → n ≡ m
     equal e =
-        after-neither n m (after-key p q ∙ le-ltb (key_of m) (key_of n) (omega arith)) (after-key q p ∙ le-ltb (key_of n) (key_of m) (omega arith))
+        after_neither n m (after_key p q ∙ le-ltb (key_of m) (key_of n) (omega arith)) (after_key q p ∙ le-ltb (key_of n) (key_of m) (omega arith))
 
 -- ---- what rows say, by the name's key
 
 -- the names of the rows are such names
 abbrev pub AllNamed : List Row → Type 0
-AllNamed rs = T (all_of (map (λ (r : Row). isAlphanumeric 3 r.name) rs))
+AllNamed rs = T (all_of (map (λ (r : Row). is_alphanumeric 3 r.name) rs))
 
-pub first-named : (r : Row) (rs : List Row) → AllNamed (r ∷ rs) → Name r.name × AllNamed rs
-first-named r rs a =
-    let a' = and_yes (isAlphanumeric 3 r.name) (all_of (map (λ (r : Row). isAlphanumeric 3 r.name) rs)) a in
+pub first_named : (r : Row) (rs : List Row) → AllNamed (r ∷ rs) → Name r.name × AllNamed rs
+first_named r rs a =
+    let a' = and_yes (is_alphanumeric 3 r.name) (all_of (map (λ (r : Row). is_alphanumeric 3 r.name) rs)) a in
     (is_name r.name a'.0, a'.1)
 
-pub holds-key : (rs : List Row) → AllNamed rs → (n v : Bytes) → Name n → holds rs n v ≡ holdsAt rs (key_of n) v
-holds-key [] a n v p = refl
-holds-key (r ∷ rs) a n v p =
-    let a' = first-named r rs a in
-    rw (same_key n r.name p a'.0, holds-key rs a'.1 n v p)
+pub holds_key : (rs : List Row) → AllNamed rs → (n v : Bytes) → Name n → holds rs n v ≡ holds_at rs (key_of n) v
+holds_key [] a n v p = refl
+holds_key (r ∷ rs) a n v p =
+    let a' = first_named r rs a in
+    rw (same_key n r.name p a'.0, holds_key rs a'.1 n v p)

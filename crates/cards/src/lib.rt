@@ -1,8 +1,8 @@
 // The attributes of a wrapped key (STS 600-4-2, clause 7.5.1 and Appendix B): whether a list of them is permitted. The list is walked
 // once: its names ascend, and so do those that are required, so each required name is looked for in its turn.
 ghost use Rattle.std.specs.Prelude.{◌≡◌, ◌&&◌, [], ◌+◌, ◌*◌};
-ghost use Rattle.format.specs.Attributes.{appendixB, isGroupName, areCards, hasNeeded, cardsIn, areAttributes};
-ghost use Rattle.cards.specs.Steps.{holdsAt, keyIn, neededAfter};
+ghost use Rattle.format.specs.Attributes.{appendix_b, is_group_name, are_cards, has_needed, cards_in, are_attributes};
+ghost use Rattle.cards.specs.Steps.{holds_at, key_in, needed_after};
 
 // ---- the names of Appendix B by their keys
 
@@ -41,7 +41,7 @@ const LONGEST_VALUE: usize = 252;
 
 // 1-99P; that the characters are printable is asked of the whole field.
 fn is_group_name(value: &[u8]) -> bool
-    ensures { result ≡ isGroupName value.now }
+    ensures { result ≡ is_group_name value.now }
 {
     if value.len() < 1 {
         return false;
@@ -51,7 +51,7 @@ fn is_group_name(value: &[u8]) -> bool
 
 // The value of a name is what Appendix B says; a name that does not stand there may have any.
 fn does_hold(key: u32, value: &[u8]) -> bool
-    ensures { result ≡ holdsAt appendixB key value.now }
+    ensures { result ≡ holds_at appendix_b key value.now }
 {
     if key == ACT {
         return text::is_timestamp(value);
@@ -85,7 +85,7 @@ fn does_hold(key: u32, value: &[u8]) -> bool
 
 // The key of a card's name, a name of three letters or digits whose value fits it; NONE where it is no card.
 fn card_key(card: &[u8]) -> u32
-    ensures { result ≡ keyIn card.now }
+    ensures { result ≡ key_in card.now }
 {
     if card.len() < 3 {
         return NONE;
@@ -109,7 +109,7 @@ fn card_key(card: &[u8]) -> u32
 // The required name to look for behind a card, where `needed` was looked for so far: the next where this is its card, and NONE behind
 // the last.
 fn needed_after(needed: u32, key: u32) -> u32
-    ensures { result ≡ neededAfter needed key }
+    ensures { result ≡ needed_after needed key }
 {
     if key != needed {
         return needed;
@@ -137,7 +137,7 @@ fn needed_after(needed: u32, key: u32) -> u32
 
 // Each part that ';' ends is a card, their names ascend, and every name that Appendix B requires is among them.
 fn are_cards(list: &[u8]) -> bool
-    ensures { result ≡ (areCards [] (cardsIn list.now) && hasNeeded appendixB (cardsIn list.now)) }
+    ensures { result ≡ (are_cards [] (cards_in list.now) && has_needed appendix_b (cards_in list.now)) }
 {
     let mut before = NONE;
     let mut needed = ACT;
@@ -158,7 +158,7 @@ fn are_cards(list: &[u8]) -> bool
 
 // The list is one that clause 7.5.1 and Appendix B permit.
 pub fn are_attributes(list: &[u8]) -> bool
-    ensures { result ≡ areAttributes list.now }
+    ensures { result ≡ are_attributes list.now }
 {
     if list.len() == 0 {
         return false;

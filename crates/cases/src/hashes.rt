@@ -32,12 +32,12 @@ fn piece_size(n: usize) -> usize
 #[derive(Drop)]
 struct Given {
     sha384: sha384::Sha384,
-    sha1: sha1::Sha1,
+    sha1: sha_1::Sha1,
 }
 
 fn begin() -> Given {
     let sha384 = sha384::Sha384::begin();
-    let sha1 = sha1::Sha1::begin();
+    let sha1 = sha_1::Sha1::begin();
     Given { sha384, sha1 }
 }
 
@@ -72,7 +72,7 @@ pub(crate) fn print_sha384_by_state(n: usize, a: &[u8]) {
 }
 
 pub(crate) fn print_sha1(a: &[u8]) {
-    let digest = sha1::sha1_of(a);
+    let digest = sha_1::sha1_of(a);
     print_bytes(&digest);
 }
 

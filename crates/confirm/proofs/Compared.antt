@@ -10,15 +10,15 @@ use lib.Seq.{drop-cons, take_all}
 use lib.Bits.{bit_or, bit_xor, bit_and, or_add_and, xor_add_and, and_le_l, and_le_r, or_zero_l, xor_self}
 use lib.Dec.{T, eqb, eqb→eq, eqb_refl}
 use mir.Facts.{and_yes, yes_and}
-use Rattle.text.specs.Text.{Bytes, same, isHex}
-use Rattle.text.specs.Base16.{base16, base16Decode}
+use Rattle.text.specs.Text.{Bytes, same, is_hex}
+use Rattle.text.specs.Base16.{base16, base16_decode}
 use Rattle.text.proofs.Tests.{same→eq, same_refl}
-use Rattle.text.proofs.Types.{hex-length, hex-characters}
-use Rattle.text.proofs.Hexadecimal.{AreBytes, decode-encode, encode-decode}
+use Rattle.text.proofs.Types.{hex_length, hex_characters}
+use Rattle.text.proofs.Hexadecimal.{AreBytes, decode_encode, encode_decode}
 use Rattle.put.specs.Put.{Puts}
 use Rattle.put.specs.Decoded.{decoded}
-use Rattle.put.proofs.Pieces.{put_of, put-fills}
-use Rattle.put.proofs.Decoding.{hex-decoded, hex-bytes}
+use Rattle.put.proofs.Pieces.{put_of, put_fills}
+use Rattle.put.proofs.Decoding.{hex_decoded, hex_bytes}
 
 both_ways : (a b : Bool) → (T a → T b) → (T b → T a) → a ≡ b
 both_ways true true f g = refl
@@ -55,41 +55,41 @@ byte_more d x y = both_ways (eqb (bit_or d (bit_xor x y)) 0) (eqb d 0 && eqb x y
 abbrev pub Compared : Bytes → Bytes → ℕ → ℕ → Type 0
 Compared a b d i = same a b ≡ (eqb d 0 && same (drop i a) (drop i b))
 
-pub compared-more : (a b : Bytes) (d : ℕ) {i : ℕ} → length a ≡ length b → i < length a → Compared a b d i → Compared a b (bit_or d (bit_xor (get_or a i 0) (get_or b i 0))) (i + 1)
-compared-more a b d {i} l h c =
+pub compared_more : (a b : Bytes) (d : ℕ) {i : ℕ} → length a ≡ length b → i < length a → Compared a b d i → Compared a b (bit_or d (bit_xor (get_or a i 0) (get_or b i 0))) (i + 1)
+compared_more a b d {i} l h c =
     let x = get_or a i 0 in
     let y = get_or b i 0 in
     let rest = same (drop (suc i) a) (drop (suc i) b) in
     let one : same (drop i a) (drop i b) ≡ (eqb x y && rest) = rw (drop-cons a i 0 h, drop-cons b i 0 (omega (arith, l))) in
     c ∙ ap (λ (r : Bool). eqb d 0 && r) one ∙ sym (and_assoc (eqb d 0) (eqb x y) rest) ∙ rw (byte_more d x y, add-one)
 
-pub compared-all : (a b : Bytes) (d : ℕ) {i : ℕ} → length a ≡ length b → length a ≤ i → Compared a b d i → eqb d 0 ≡ same a b
-compared-all a b d {i} l h c =
+pub compared_all : (a b : Bytes) (d : ℕ) {i : ℕ} → length a ≡ length b → length a ≤ i → Compared a b d i → eqb d 0 ≡ same a b
+compared_all a b d {i} l h c =
     sym (c ∙ rw (drop_of_length-le a {i = i} h, drop_of_length-le b {i = i} (omega (arith, l))) (and-true (eqb d 0)))
 
 -- ---- the characters of a tag are those of its bytes
 
-pub same-said : (f t : Bytes) → T (isHex 48 f) → AreBytes t → same (base16Decode f) t ≡ same f (base16 t)
-same-said f t h b = both_ways (same (base16Decode f) t) (same f (base16 t)) up down
+pub same_said : (f t : Bytes) → T (is_hex 48 f) → AreBytes t → same (base16_decode f) t ≡ same f (base16 t)
+same_said f t h b = both_ways (same (base16_decode f) t) (same f (base16 t)) up down
   where
-    again : base16 (base16Decode f) ≡ f
-    again = encode-decode 24 f (hex-length 48 f h) (hex-characters 48 f h)
+    again : base16 (base16_decode f) ≡ f
+    again = encode_decode 24 f (hex_length 48 f h) (hex_characters 48 f h)
 
-    up : T (same (base16Decode f) t) → T (same f (base16 t))
-    up s = rw (sym again ∙ ap base16 (same→eq (base16Decode f) t s)) (same_refl (base16 t))
+    up : T (same (base16_decode f) t) → T (same f (base16 t))
+    up s = rw (sym again ∙ ap base16 (same→eq (base16_decode f) t s)) (same_refl (base16 t))
 
-    down : T (same f (base16 t)) → T (same (base16Decode f) t)
-    down s = rw (ap base16Decode (same→eq f (base16 t) s) ∙ decode-encode t b) (same_refl t)
+    down : T (same f (base16 t)) → T (same (base16_decode f) t)
+    down s = rw (ap base16_decode (same→eq f (base16 t) s) ∙ decode_encode t b) (same_refl t)
 
 -- a MacTag, decoded, fills an array of 24 bytes
-module _ (f : Bytes) {o : Bytes} {r : ℕ} (h : T (isHex 48 f)) (p : Puts (replicate 24 0) 0 (decoded f) o r) where
+module _ (f : Bytes) {o : Bytes} {r : ℕ} (h : T (is_hex 48 f)) (p : Puts (replicate 24 0) 0 (decoded f) o r) where
   abbrev size : length (decoded f) ≡ 24
-  size = ap length (hex-decoded 48 f h) ∙ hex-bytes 48 f h
+  size = ap length (hex_decoded 48 f h) ∙ hex_bytes 48 f h
 
-  pub tag-length : r ≡ 24
-  tag-length = omega (arith, (put_of (omega (arith, size)) p).next, size)
+  pub tag_length : r ≡ 24
+  tag_length = omega (arith, (put_of (omega (arith, size)) p).next, size)
 
-  pub decoded-tag : take r o ≡ base16Decode f
-  decoded-tag =
-      let e : o ≡ base16Decode f = put-fills size p ∙ hex-decoded 48 f h in
-      rw (e, tag-length) (take_all 24 (base16Decode f) (omega (arith, hex-bytes 48 f h)))
+  pub decoded_tag : take r o ≡ base16_decode f
+  decoded_tag =
+      let e : o ≡ base16_decode f = put_fills size p ∙ hex_decoded 48 f h in
+      rw (e, tag_length) (take_all 24 (base16_decode f) (omega (arith, hex_bytes 48 f h)))

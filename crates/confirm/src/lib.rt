@@ -6,8 +6,8 @@ mod texts;
 
 ghost use Rattle.std.specs.Prelude.{◌≡◌, length};
 ghost use Rattle.places.specs.Places.{field_at};
-ghost use Rattle.confirm.specs.Confirm.{Confirms, confirmRequest, confirmResponse};
-ghost use Rattle.confirm.specs.Steps.{answersAt};
+ghost use Rattle.confirm.specs.Confirm.{Confirms, confirm_request, confirm_response};
+ghost use Rattle.confirm.specs.Steps.{answers_at};
 
 // Z has so many bytes: two shared secrets of 48.
 pub const Z_BYTES: usize = 96;
@@ -65,7 +65,7 @@ fn does_answer(
     its_starts: &[usize; 7],
     its_lens: &[usize; 7],
 ) -> bool
-    ensures { result ≡ answersAt (field_at request.now starts.now lens.now) (field_at response.now its_starts.now its_lens.now) }
+    ensures { result ≡ answers_at (field_at request.now starts.now lens.now) (field_at response.now its_starts.now its_lens.now) }
 {
     let id_kmc = places::field_at(request, starts, lens, table::REQ_ID_KMC);
     let its_id_kmc = places::field_at(response, its_starts, its_lens, table::RESP_ID_KMC);
@@ -85,7 +85,7 @@ fn does_answer(
 // Of a request: whether its MacTag is right for Z. With 0 the MacKey and the KEK stand at the front of the lent outputs; with any
 // refusal neither is touched.
 pub fn confirm_request(z: &[u8], request: &[u8], mac_key: &mut [u8], kek: &mut [u8]) -> Confirmed
-    ensures { Confirms (confirmRequest z.now request.now (length mac_key.old) (length kek.old)) mac_key.old kek.old mac_key.new kek.new result }
+    ensures { Confirms (confirm_request z.now request.now (length mac_key.old) (length kek.old)) mac_key.old kek.old mac_key.new kek.new result }
 {
     let asked = reading::read_of(table::REQ, table::RESP, request);
     if asked.no != numbers::ACCEPTED {
@@ -117,7 +117,7 @@ pub fn confirm_request(z: &[u8], request: &[u8], mac_key: &mut [u8], kek: &mut [
 
 // Of a response, with the request that it answers: whether the response's MacTag is right for Z. The request's is not looked at.
 pub fn confirm_response(z: &[u8], request: &[u8], response: &[u8]) -> Confirmed
-    ensures { result ≡ confirmResponse z.now request.now response.now }
+    ensures { result ≡ confirm_response z.now request.now response.now }
 {
     let asked = reading::read_of(table::REQ, table::RESP, request);
     if asked.no != numbers::ACCEPTED {

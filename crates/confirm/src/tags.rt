@@ -1,12 +1,12 @@
 // Keys and tags. No branch and no place depends on Z, on a key or on a tag that is made: what is compared is compared to its end.
 ghost use Rattle.std.specs.Prelude.{◌≡◌, length, T};
-ghost use Rattle.text.specs.Text.{same, isHex};
-ghost use Rattle.text.specs.Base16.{base16Decode};
+ghost use Rattle.text.specs.Text.{same, is_hex};
+ghost use Rattle.text.specs.Base16.{base16_decode};
 ghost use Rattle.format.specs.Kinds.{REQ};
-ghost use Rattle.format.specs.Read.{fieldsIn};
-ghost use Rattle.items.specs.Items.{lvConcat};
+ghost use Rattle.format.specs.Read.{fields_in};
+ghost use Rattle.items.specs.Items.{lv_concat};
 ghost use Rattle.hmac.specs.Hmac.{hmac};
-ghost use Rattle.agreement.specs.Texts.{moduleItems, centreItems};
+ghost use Rattle.agreement.specs.Texts.{module_items, centre_items};
 ghost use Rattle.agreement.specs.Steps.{text_of, Small, Suited, Places};
 ghost use Rattle.confirm.specs.Confirm.{derived};
 
@@ -14,8 +14,8 @@ use crate::texts;
 
 // MacKey and KEK, one behind the other. The counter is 1.
 pub(crate) fn derived(z: &[u8], request: &[u8], starts: &[usize; 7], lens: &[usize; 7]) -> [u8; 48]
-    requires { Places request.now starts.now lens.now × Suited (fieldsIn REQ request.now) }
-    ensures { result ≡ derived z.now (fieldsIn REQ request.now) }
+    requires { Places request.now starts.now lens.now × Suited (fields_in REQ request.now) }
+    ensures { result ≡ derived z.now (fields_in REQ request.now) }
 {
     let label = agreement::SHARED_LABEL;
     let fields = agreement::SHARED_FIELDS;
@@ -32,7 +32,7 @@ fn tag_of(
     starts: &[usize; 7],
     lens: &[usize; 7],
 ) -> [u8; 24]
-    requires { Small label.now fields.now × Places request.now starts.now lens.now × Suited (fieldsIn REQ request.now) }
+    requires { Small label.now fields.now × Places request.now starts.now lens.now × Suited (fields_in REQ request.now) }
     ensures { result ≡ hmac mac_key.now (text_of label.now fields.now request.now) }
 {
     let begun = hmac::begin(mac_key);
@@ -47,8 +47,8 @@ pub(crate) fn module_tag(
     starts: &[usize; 7],
     lens: &[usize; 7],
 ) -> [u8; 24]
-    requires { Places request.now starts.now lens.now × Suited (fieldsIn REQ request.now) }
-    ensures { result ≡ hmac mac_key.now (lvConcat (moduleItems (fieldsIn REQ request.now))) }
+    requires { Places request.now starts.now lens.now × Suited (fields_in REQ request.now) }
+    ensures { result ≡ hmac mac_key.now (lv_concat (module_items (fields_in REQ request.now))) }
 {
     let label = agreement::MODULE_LABEL;
     let fields = agreement::MODULE_FIELDS;
@@ -62,8 +62,8 @@ pub(crate) fn centre_tag(
     starts: &[usize; 7],
     lens: &[usize; 7],
 ) -> [u8; 24]
-    requires { Places request.now starts.now lens.now × Suited (fieldsIn REQ request.now) }
-    ensures { result ≡ hmac mac_key.now (lvConcat (centreItems (fieldsIn REQ request.now))) }
+    requires { Places request.now starts.now lens.now × Suited (fields_in REQ request.now) }
+    ensures { result ≡ hmac mac_key.now (lv_concat (centre_items (fields_in REQ request.now))) }
 {
     let label = agreement::CENTRE_LABEL;
     let fields = agreement::CENTRE_FIELDS;
@@ -87,8 +87,8 @@ fn are_same(a: &[u8], b: &[u8]) -> bool
 // Whether a MacTag says this tag. It is the MacTag that is decoded, because making characters of the tag would take branches on it.
 // As many bytes are compared as were decoded, which are all of them: LLVM is not to know how many, or it makes constants for them.
 pub(crate) fn is_tag(mac_tag: &[u8], tag: &[u8]) -> bool
-    requires { T (isHex 48 mac_tag.now) × (length tag.now ≡ 24) }
-    ensures { result ≡ same (base16Decode mac_tag.now) tag.now }
+    requires { T (is_hex 48 mac_tag.now) × (length tag.now ≡ 24) }
+    ensures { result ≡ same (base16_decode mac_tag.now) tag.now }
 {
     let mut said = [0u8; 24];
     let len = put::put_decoded(&mut said, 0, mac_tag);

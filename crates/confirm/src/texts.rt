@@ -1,24 +1,24 @@
 // The key agreement texts, given to a hash piece by piece: no copy of a text is made. What they are made of is `agreement`'s.
 ghost use Rattle.std.specs.Prelude.{◌≡◌, ◌≤◌, length, T};
-ghost use Rattle.text.specs.Text.{isHex};
-ghost use Rattle.text.specs.Base16.{base16Decode};
+ghost use Rattle.text.specs.Text.{is_hex};
+ghost use Rattle.text.specs.Base16.{base16_decode};
 ghost use Rattle.sha384.specs.State.{added};
 ghost use Rattle.format.specs.Kinds.{REQ};
-ghost use Rattle.format.specs.Read.{fieldsIn};
-ghost use Rattle.agreement.specs.Steps.{lvItem, itemFor, text_of, Small, Suited, Places};
+ghost use Rattle.format.specs.Read.{fields_in};
+ghost use Rattle.agreement.specs.Steps.{lv_item, item_for, text_of, Small, Suited, Places};
 
 // The length of the item, and its bytes.
 fn add_item(hash: sha384::Sha384, item: &[u8]) -> sha384::Sha384
     requires { length item.now ≤ 255 }
-    ensures { result ≡ added hash (lvItem item.now) }
+    ensures { result ≡ added hash (lv_item item.now) }
 {
     hash.add(&[item.len() as u8]).add(item)
 }
 
 // A point, decoded, as an item. In its array the length stands before it.
 fn add_point(hash: sha384::Sha384, point: &[u8]) -> sha384::Sha384
-    requires { T (isHex 194 point.now) }
-    ensures { result ≡ added hash (lvItem (base16Decode point.now)) }
+    requires { T (is_hex 194 point.now) }
+    ensures { result ≡ added hash (lv_item (base16_decode point.now)) }
 {
     let mut item = [0u8; 98];
     item[0] = agreement::POINT_BYTES as u8;
@@ -34,8 +34,8 @@ fn add_field(
     lens: &[usize; 7],
     n: usize,
 ) -> sha384::Sha384
-    requires { Places request.now starts.now lens.now × Suited (fieldsIn REQ request.now) }
-    ensures { result ≡ added hash (lvItem (itemFor (fieldsIn REQ request.now) n)) }
+    requires { Places request.now starts.now lens.now × Suited (fields_in REQ request.now) }
+    ensures { result ≡ added hash (lv_item (item_for (fields_in REQ request.now) n)) }
 {
     let bytes = places::field_at(request, starts, lens, n);
     if n == table::REQ_QE {
@@ -53,7 +53,7 @@ pub(crate) fn add_text(
     starts: &[usize; 7],
     lens: &[usize; 7],
 ) -> sha384::Sha384
-    requires { Small label.now fields.now × Places request.now starts.now lens.now × Suited (fieldsIn REQ request.now) }
+    requires { Small label.now fields.now × Places request.now starts.now lens.now × Suited (fields_in REQ request.now) }
     ensures { result ≡ added hash (text_of label.now fields.now request.now) }
 {
     let counted = hash.add(&[(1 + fields.len()) as u8]);

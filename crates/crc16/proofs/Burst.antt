@@ -10,56 +10,56 @@ use lib.Pow.{pow-add, pow_mono, pow_pos}
 use lib.Bits.{bit_xor, xor_self, xor_comm, xor_lt, xor_shifted, xor_block}
 use lib.ListN.{length, get_or, get_or-eq_default}
 use lib.Seq.{ext_get_or}
-use Rattle.crc16.specs.Crc.{begin, bitSteps, add, addAll, crcOf}
+use Rattle.crc16.specs.Crc.{begin, bit_steps, add, add_all, crc_of}
 use Rattle.crc16.specs.Damage.{AreBytes, SameCheck, Near, bits_of, NeighboursCaught, BurstCaught}
-use Rattle.crc16.proofs.Xor.{xor_assoc, xor-equal, xor-pairs}
-use Rattle.crc16.proofs.Steps.{steps-xor, steps-down, steps-add, steps-kernel}
+use Rattle.crc16.proofs.Xor.{xor_assoc, xor_equal, xor_pairs}
+use Rattle.crc16.proofs.Steps.{steps_xor, steps_down, steps_add, steps_kernel}
 
 -- ---- the check in closed form
 
-one_byte : (s x w : ℕ) → x < 2 ^ 8 → bit_xor (add s x) w ≡ bitSteps 8 (bit_xor s (w * 2 ^ 8 + x))
+one_byte : (s x w : ℕ) → x < 2 ^ 8 → bit_xor (add s x) w ≡ bit_steps 8 (bit_xor s (w * 2 ^ 8 + x))
 unfolding add
 one_byte s x w h =
-    ap (bit_xor (bitSteps 8 (bit_xor s x))) (sym (steps-down 8 w))
-    ∙ sym (steps-xor 8 (bit_xor s x) (w * 2 ^ 8))
-    ∙ ap (bitSteps 8) (xor_assoc s x (w * 2 ^ 8) ∙ ap (bit_xor s) (xor_comm x (w * 2 ^ 8) ∙ xor_shifted w 8 x h))
+    ap (bit_xor (bit_steps 8 (bit_xor s x))) (sym (steps_down 8 w))
+    ∙ sym (steps_xor 8 (bit_xor s x) (w * 2 ^ 8))
+    ∙ ap (bit_steps 8) (xor_assoc s x (w * 2 ^ 8) ∙ ap (bit_xor s) (xor_comm x (w * 2 ^ 8) ∙ xor_shifted w 8 x h))
 
-closed : (xs : List ℕ) (s : ℕ) → AreBytes xs → addAll s xs ≡ bitSteps (8 * length xs) (bit_xor s (bits_of xs))
-unfolding addAll bitSteps bits_of
+closed : (xs : List ℕ) (s : ℕ) → AreBytes xs → add_all s xs ≡ bit_steps (8 * length xs) (bit_xor s (bits_of xs))
+unfolding add_all bit_steps bits_of
 closed [] s h = sym (xor_comm s 0)
 closed (x ∷ xs) s h =
     closed xs (add s x) (λ k. h (suc k))
-    ∙ ap (bitSteps (8 * length xs)) (one_byte s x (bits_of xs) (h 0))
-    ∙ sym (steps-add 8 (8 * length xs) (bit_xor s (bits_of xs * 2 ^ 8 + x)))
-    ∙ ap (λ (n : ℕ). bitSteps n (bit_xor s (bits_of xs * 2 ^ 8 + x))) (let e : 8 + 8 * length xs ≡ 8 * suc (length xs) = omega arith in e)
+    ∙ ap (bit_steps (8 * length xs)) (one_byte s x (bits_of xs) (h 0))
+    ∙ sym (steps_add 8 (8 * length xs) (bit_xor s (bits_of xs * 2 ^ 8 + x)))
+    ∙ ap (λ (n : ℕ). bit_steps n (bit_xor s (bits_of xs * 2 ^ 8 + x))) (let e : 8 + 8 * length xs ≡ 8 * suc (length xs) = omega arith in e)
 
 -- the checks of two lists of equal length differ by the steps of what the lists differ by
-pub checks-apart : (xs ys : List ℕ) → AreBytes xs → AreBytes ys → length xs ≡ length ys
-    → bit_xor (crcOf xs) (crcOf ys) ≡ bitSteps (8 * length xs) (bit_xor (bits_of xs) (bits_of ys))
-unfolding crcOf
-checks-apart xs ys bx by l =
+pub checks_apart : (xs ys : List ℕ) → AreBytes xs → AreBytes ys → length xs ≡ length ys
+    → bit_xor (crc_of xs) (crc_of ys) ≡ bit_steps (8 * length xs) (bit_xor (bits_of xs) (bits_of ys))
+unfolding crc_of
+checks_apart xs ys bx by l =
     let n : ℕ = 8 * length xs in
-    ap₂ bit_xor (closed xs begin bx) (closed ys begin by ∙ ap (λ (k : ℕ). bitSteps (8 * k) (bit_xor begin (bits_of ys))) (sym l))
-    ∙ sym (steps-xor n (bit_xor begin (bits_of xs)) (bit_xor begin (bits_of ys)))
-    ∙ ap (bitSteps n) (xor-pairs begin (bits_of xs) begin (bits_of ys) ∙ ap (λ (x : ℕ). bit_xor x (bit_xor (bits_of xs) (bits_of ys))) (xor_self begin))
+    ap₂ bit_xor (closed xs begin bx) (closed ys begin by ∙ ap (λ (k : ℕ). bit_steps (8 * k) (bit_xor begin (bits_of ys))) (sym l))
+    ∙ sym (steps_xor n (bit_xor begin (bits_of xs)) (bit_xor begin (bits_of ys)))
+    ∙ ap (bit_steps n) (xor_pairs begin (bits_of xs) begin (bits_of ys) ∙ ap (λ (x : ℕ). bit_xor x (bit_xor (bits_of xs) (bits_of ys))) (xor_self begin))
 
 -- equal checks: it is stepped to 0
-pub stepped-out : (xs ys : List ℕ) → SameCheck xs ys → bitSteps (8 * length xs) (bit_xor (bits_of xs) (bits_of ys)) ≡ 0
-stepped-out xs ys c =
-    sym (checks-apart xs ys c.bytes-x c.bytes-y c.long) ∙ ap (λ (x : ℕ). bit_xor x (crcOf ys)) c.check ∙ xor_self (crcOf ys)
+pub stepped_out : (xs ys : List ℕ) → SameCheck xs ys → bit_steps (8 * length xs) (bit_xor (bits_of xs) (bits_of ys)) ≡ 0
+stepped_out xs ys c =
+    sym (checks_apart xs ys c.bytes_x c.bytes_y c.long) ∙ ap (λ (x : ℕ). bit_xor x (crc_of ys)) c.check ∙ xor_self (crc_of ys)
 
 -- ---- lists of bytes as numbers
 
-bits-same : (xs ys : List ℕ) → AreBytes xs → AreBytes ys → length xs ≡ length ys → bits_of xs ≡ bits_of ys → xs ≡ ys
+bits_same : (xs ys : List ℕ) → AreBytes xs → AreBytes ys → length xs ≡ length ys → bits_of xs ≡ bits_of ys → xs ≡ ys
 unfolding bits_of
-bits-same [] [] bx by l e = refl
-bits-same [] (y ∷ ys) bx by l e = absurd (omega arith)
-bits-same (x ∷ xs) [] bx by l e = absurd (omega arith)
-bits-same (x ∷ xs) (y ∷ ys) bx by l e =
+bits_same [] [] bx by l e = refl
+bits_same [] (y ∷ ys) bx by l e = absurd (omega arith)
+bits_same (x ∷ xs) [] bx by l e = absurd (omega arith)
+bits_same (x ∷ xs) (y ∷ ys) bx by l e =
     let hx : x < 256 = bx 0 in
     let hy : y < 256 = by 0 in
     let first : x ≡ y = omega arith in
-    let rest : xs ≡ ys = bits-same xs ys (λ k. bx (suc k)) (λ k. by (suc k)) (omega arith) (omega arith) in
+    let rest : xs ≡ ys = bits_same xs ys (λ k. bx (suc k)) (λ k. by (suc k)) (omega arith) (omega arith) in
     cc
 
 -- the lists agree from place k on: they differ in the 8 * k low bits alone
@@ -83,7 +83,7 @@ low (suc k) (x ∷ xs) (y ∷ ys) bx by l h =
 -- and in no more bits than they have
 pub apart_fits : (xs ys : List ℕ) → SameCheck xs ys → bit_xor (bits_of xs) (bits_of ys) < 2 ^ (8 * length xs)
 apart_fits xs ys c =
-    low (length xs) xs ys c.bytes-x c.bytes-y c.long
+    low (length xs) xs ys c.bytes_x c.bytes_y c.long
     (λ j t. get_or-eq_default xs 0 t ∙ sym (get_or-eq_default ys 0 (omega (arith, c.long))))
 
 -- the lists agree but at i and i + 1: they differ within sixteen bits, from bit 8 * i on
@@ -110,26 +110,26 @@ window (suc i) (x ∷ xs) (y ∷ ys) bx by l n =
 -- ---- sixteen bits in a row
 
 -- what stands p places up has n - p steps left, of n, when it is down
-brought-down : (n p w : ℕ) → p ≤ n → bitSteps n (w * 2 ^ p) ≡ bitSteps (n - p) w
-brought-down n p w h =
-    ap (λ (k : ℕ). bitSteps k (w * 2 ^ p)) (let q : n ≡ p + (n - p) = omega arith in q)
-    ∙ steps-add p (n - p) (w * 2 ^ p) ∙ ap (bitSteps (n - p)) (steps-down p w)
+brought_down : (n p w : ℕ) → p ≤ n → bit_steps n (w * 2 ^ p) ≡ bit_steps (n - p) w
+brought_down n p w h =
+    ap (λ (k : ℕ). bit_steps k (w * 2 ^ p)) (let q : n ≡ p + (n - p) = omega arith in q)
+    ∙ steps_add p (n - p) (w * 2 ^ p) ∙ ap (bit_steps (n - p)) (steps_down p w)
 
 -- a word above 0 stands inside the bits that there are
 inside : (n p w : ℕ) → suc w * 2 ^ p < 2 ^ n → p < n
 inside n p w h = lt_of_not-le (λ (q : n ≤ p). let m = pow_mono q in omega (arith, suc-mul w (2 ^ p)))
 
-pub burst-caught : BurstCaught
-burst-caught xs ys c p zero hw d =
-    bits-same xs ys c.bytes-x c.bytes-y c.long (xor-equal (bits_of xs) (bits_of ys) (d ∙ zero-mul (2 ^ p)))
-burst-caught xs ys c p (suc w) hw d =
+pub burst_caught : BurstCaught
+burst_caught xs ys c p zero hw d =
+    bits_same xs ys c.bytes_x c.bytes_y c.long (xor_equal (bits_of xs) (bits_of ys) (d ∙ zero-mul (2 ^ p)))
+burst_caught xs ys c p (suc w) hw d =
     let n : ℕ = 8 * length xs in
     let fits : suc w * 2 ^ p < 2 ^ n = subst (λ (x : ℕ). x < 2 ^ n) d (apart_fits xs ys c) in
     let in-them : p ≤ n = let q = inside n p w fits in omega arith in
-    let z : suc w ≡ 0 = steps-kernel (n - p) (suc w) hw (sym (brought-down n p (suc w) in-them) ∙ ap (bitSteps n) (sym d) ∙ stepped-out xs ys c) in
+    let z : suc w ≡ 0 = steps_kernel (n - p) (suc w) hw (sym (brought_down n p (suc w) in-them) ∙ ap (bit_steps n) (sym d) ∙ stepped_out xs ys c) in
     absurd (omega arith)
 
-pub neighbours-caught : NeighboursCaught
-neighbours-caught xs ys c i n =
-    let (w, small, e) = window i xs ys c.bytes-x c.bytes-y c.long n in
-    burst-caught xs ys c (8 * i) w small e
+pub neighbours_caught : NeighboursCaught
+neighbours_caught xs ys c i n =
+    let (w, small, e) = window i xs ys c.bytes_x c.bytes_y c.long n in
+    burst_caught xs ys c (8 * i) w small e

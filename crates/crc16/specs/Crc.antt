@@ -10,27 +10,27 @@ abbrev pub begin : ℕ
 begin = 0xFFFF
 
 -- one bit: the state moves down one place, and where a 1 falls out the feedback is mixed in
-unfoldable pub bitStep : ℕ → ℕ
-bitStep s = bit_xor (s / 2) (s % 2 * 0xA001)
+unfoldable pub bit_step : ℕ → ℕ
+bit_step s = bit_xor (s / 2) (s % 2 * 0xA001)
 
 -- n bits
-unfoldable pub bitSteps : ℕ → ℕ → ℕ
-bitSteps zero s = s
-bitSteps (suc n) s = bitSteps n (bitStep s)
+unfoldable pub bit_steps : ℕ → ℕ → ℕ
+bit_steps zero s = s
+bit_steps (suc n) s = bit_steps n (bit_step s)
 
 -- given one byte: it is mixed into the low end, and its eight bits are stepped through
 unfoldable pub add : ℕ → ℕ → ℕ
-add s b = bitSteps 8 (bit_xor s b)
+add s b = bit_steps 8 (bit_xor s b)
 
 -- given one byte after another
-unfoldable pub addAll : ℕ → List ℕ → ℕ
-addAll s [] = s
-addAll s (b ∷ bs) = addAll (add s b) bs
+unfoldable pub add_all : ℕ → List ℕ → ℕ
+add_all s [] = s
+add_all s (b ∷ bs) = add_all (add s b) bs
 
 -- ended: no final change
 abbrev pub end : ℕ → ℕ
 end s = s
 
 -- the check of a list of bytes
-unfoldable pub crcOf : List ℕ → ℕ
-crcOf bs = end (addAll begin bs)
+unfoldable pub crc_of : List ℕ → ℕ
+crc_of bs = end (add_all begin bs)

@@ -3,7 +3,7 @@
 -- Assumes nothing.
 use Rattle.std.specs.Prelude.{ℕ, zero, suc, ◌+◌, ◌*◌, ◌/◌, ◌%◌, ◌^◌, ◌≤◌, ◌<◌, ◌≡◌, ◌≢◌, List, [], ◌∷◌, ◌++◌, length, get_or, replicate}
 use Rattle.std.specs.Int.Bits.{bit_xor}
-use Rattle.crc16.specs.Crc.{crcOf}
+use Rattle.crc16.specs.Crc.{crc_of}
 
 -- every element is a byte
 abbrev pub AreBytes : List ℕ → Type 0
@@ -11,10 +11,10 @@ AreBytes xs = (k : ℕ) → get_or xs k 0 < 256
 
 -- two lists of bytes of equal length that the check does not tell apart
 pub record SameCheck (xs ys : List ℕ) : Type 0 where
-  pub bytes-x : AreBytes xs
-  pub bytes-y : AreBytes ys
+  pub bytes_x : AreBytes xs
+  pub bytes_y : AreBytes ys
   pub long : length xs ≡ length ys
-  pub check : crcOf xs ≡ crcOf ys
+  pub check : crc_of xs ≡ crc_of ys
 
 -- the lists differ at most at the two neighbouring places i and i + 1
 abbrev pub Near : ℕ → List ℕ → List ℕ → Type 0
@@ -51,18 +51,18 @@ abbrev pub OddCaught : Type 0
 OddCaught = (xs ys : List ℕ) → SameCheck xs ys → flips xs ys % 2 ≡ 1 → ⊥
 
 -- and so do two, anywhere apart in at most so many bits
-abbrev pub mostBits : ℕ
-mostBits = 32767
+abbrev pub most_bits : ℕ
+most_bits = 32767
 
 abbrev pub TwoCaught : Type 0
-TwoCaught = (xs ys : List ℕ) → SameCheck xs ys → 8 * length xs ≤ mostBits → flips xs ys ≡ 2 → ⊥
+TwoCaught = (xs ys : List ℕ) → SameCheck xs ys → 8 * length xs ≤ most_bits → flips xs ys ≡ 2 → ⊥
 
 -- in one bit more they do not: 32,768 bits, and the same with the first and the last flipped, which are 32,767 apart
 abbrev pub zeros : List ℕ
 zeros = replicate 4096 0
 
-abbrev pub bothEnds : List ℕ
-bothEnds = 1 ∷ replicate 4094 0 ++ 128 ∷ []
+abbrev pub both_ends : List ℕ
+both_ends = 1 ∷ replicate 4094 0 ++ 128 ∷ []
 
 abbrev pub EndsPass : Type 0
-EndsPass = SameCheck zeros bothEnds × (8 * length zeros ≡ mostBits + 1) × (flips zeros bothEnds ≡ 2)
+EndsPass = SameCheck zeros both_ends × (8 * length zeros ≡ most_bits + 1) × (flips zeros both_ends ≡ 2)

@@ -1,12 +1,12 @@
 // CRC16-MODBUS, the check at the end of every record (STS 600-4-2, clause 5.5): a small state handed on by value,
 // begun, given one byte after another, ended. Bit by bit: there is no table, in the compiled code either.
 ghost use Rattle.std.specs.Prelude.{◌≡◌};
-ghost use Rattle.crc16.specs.Crc.{begin, bitStep, bitSteps, add, end, crcOf};
+ghost use Rattle.crc16.specs.Crc.{begin, bit_step, bit_steps, add, end, crc_of};
 
 // One bit. The feedback is masked, which is quicker than choosing it; of a product by the bit LLVM makes a jump, and the bits
 // of a record are not to be guessed.
 fn bit(state: u16) -> u16
-    ensures { result ≡ bitStep state }
+    ensures { result ≡ bit_step state }
 {
     (state >> 1) ^ (((state & 1) * 0xFFFF) & 0xA001)
 }
@@ -14,7 +14,7 @@ fn bit(state: u16) -> u16
 // The eight bits of a byte. Nested calls, because LLVM takes a loop of bit steps for a CRC and puts a table of
 // 512 bytes in its place.
 fn eight(state: u16) -> u16
-    ensures { result ≡ bitSteps 8 state }
+    ensures { result ≡ bit_steps 8 state }
 {
     bit(bit(bit(bit(bit(bit(bit(bit(state))))))))
 }
@@ -52,7 +52,7 @@ impl Crc {
 
 // The check of a slice.
 pub fn crc_of(bytes: &[u8]) -> u16
-    ensures { result ≡ crcOf bytes.now }
+    ensures { result ≡ crc_of bytes.now }
 {
     let mut crc = Crc::begin();
     let mut i = 0;

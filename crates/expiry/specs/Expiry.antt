@@ -2,9 +2,9 @@
 -- Assumes nothing.
 use Rattle.std.specs.Prelude.{List, [], pos, get_or}
 use Rattle.text.specs.Text.{Bytes}
-use Rattle.text.specs.Seconds.{momentOf}
-use Rattle.format.specs.Kinds.{pubkeyKinds}
-use Rattle.format.specs.Read.{Outcome, accepted, refused, readUnder}
+use Rattle.text.specs.Seconds.{moment_of}
+use Rattle.format.specs.Kinds.{pubkey_kinds}
+use Rattle.format.specs.Read.{Outcome, accepted, refused, read_under}
 use Rattle.format.specs.declared.Rules.{Rules}
 use Rattle.format.specs.declared.Rules.TheVariants.{Today}
 use Rattle.expiry.specs.declared.Expiry.{Expiry}
@@ -14,13 +14,13 @@ abbrev pub expiry : List Bytes → Bytes
 expiry fs = get_or fs 2 []
 
 -- the number that the date call gives for it; 0 with a refusal
-abbrev pub expiryBy : Outcome → Expiry
-expiryBy (accepted k fs) = record { no = 0; field = 0; seconds = (momentOf (expiry fs)).seconds }
-expiryBy (refused n i) = record { no = n; field = i; seconds = pos 0 }
+abbrev pub expiry_by : Outcome → Expiry
+expiry_by (accepted k fs) = record { no = 0; field = 0; seconds = (moment_of (expiry fs)).seconds }
+expiry_by (refused n i) = record { no = n; field = i; seconds = pos 0 }
 
 -- under some rules, and today
-unfoldable pub expiryUnder : Rules → Bytes → Expiry
-expiryUnder rules s = expiryBy (readUnder rules pubkeyKinds s)
+unfoldable pub expiry_under : Rules → Bytes → Expiry
+expiry_under rules s = expiry_by (read_under rules pubkey_kinds s)
 
-abbrev pub expiryOf : Bytes → Expiry
-expiryOf = expiryUnder Today
+abbrev pub expiry_of : Bytes → Expiry
+expiry_of = expiry_under Today

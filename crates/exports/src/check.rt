@@ -1,6 +1,6 @@
 // The check, whole and byte by byte.
 ghost use Rattle.std.specs.Prelude.{◌≡◌};
-ghost use Rattle.crc16.specs.Crc.{begin, add, end, crcOf};
+ghost use Rattle.crc16.specs.Crc.{begin, add, end, crc_of};
 
 // The state before the first byte.
 #[unsafe(no_mangle)]
@@ -29,7 +29,7 @@ pub extern "C" fn obscurlane_crc_end(state: u16) -> u16
 // The check of the bytes.
 #[unsafe(no_mangle)]
 pub extern "C" fn obscurlane_crc_of(bytes: &[u8]) -> u16
-    ensures { result ≡ crcOf bytes.now }
+    ensures { result ≡ crc_of bytes.now }
 {
     crc16::crc_of(bytes)
 }

@@ -1,7 +1,7 @@
 // HMAC, and the confirmation tags of a key agreement.
 ghost use Rattle.std.specs.Prelude.{◌≡◌, length};
 ghost use Rattle.hmac.specs.Hmac.{hmac};
-ghost use Rattle.confirm.specs.Confirm.{Confirms, confirmRequest, confirmResponse};
+ghost use Rattle.confirm.specs.Confirm.{Confirms, confirm_request, confirm_response};
 
 // The 24 bytes of a tag.
 #[repr(C)]
@@ -27,7 +27,7 @@ pub extern "C" fn obscurlane_confirm_request(
     mac_key: &mut [u8],
     kek: &mut [u8],
 ) -> confirm::Confirmed
-    ensures { Confirms (confirmRequest z.now request.now (length mac_key.old) (length kek.old)) mac_key.old kek.old mac_key.new kek.new result }
+    ensures { Confirms (confirm_request z.now request.now (length mac_key.old) (length kek.old)) mac_key.old kek.old mac_key.new kek.new result }
 {
     confirm::confirm_request(z, request, mac_key, kek)
 }
@@ -39,7 +39,7 @@ pub extern "C" fn obscurlane_confirm_response(
     request: &[u8],
     response: &[u8],
 ) -> confirm::Confirmed
-    ensures { result ≡ confirmResponse z.now request.now response.now }
+    ensures { result ≡ confirm_response z.now request.now response.now }
 {
     confirm::confirm_response(z, request, response)
 }

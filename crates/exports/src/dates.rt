@@ -1,12 +1,12 @@
 // A date as a number: the seconds since 19930101T000000Z.
 ghost use Rattle.std.specs.Prelude.{◌≡◌};
-ghost use Rattle.text.specs.Seconds.{momentOf};
-ghost use Rattle.expiry.specs.Expiry.{expiryOf};
+ghost use Rattle.text.specs.Seconds.{moment_of};
+ghost use Rattle.expiry.specs.Expiry.{expiry_of};
 
 // Of a TIMESTAMP.
 #[unsafe(no_mangle)]
 pub extern "C" fn obscurlane_moment_of(s: &[u8]) -> text::Moment
-    ensures { result ≡ momentOf s.now }
+    ensures { result ≡ moment_of s.now }
 {
     text::moment_of(s)
 }
@@ -14,7 +14,7 @@ pub extern "C" fn obscurlane_moment_of(s: &[u8]) -> text::Moment
 // Of Expiry of a public key.
 #[unsafe(no_mangle)]
 pub extern "C" fn obscurlane_expiry_of(record: &[u8]) -> expiry::Expiry
-    ensures { result ≡ expiryOf «record».now }
+    ensures { result ≡ expiry_of «record».now }
 {
     expiry::expiry_of(record)
 }

@@ -1,12 +1,12 @@
 // The centre's key cabinet, in 65,536 bytes that the caller lends to every call.
 ghost use Rattle.std.specs.Prelude.{◌≡◌};
-ghost use Rattle.shelf.specs.Cabinet.{makeCabinet, putKey, removeKey, admit, findKey};
+ghost use Rattle.shelf.specs.Cabinet.{make_cabinet, put_key, remove_key, admit, find_key};
 ghost use Rattle.cabinet.specs.Cabinet.{Files, checked, counted, FindSaid};
 
 // Makes the lent bytes an empty cabinet.
 #[unsafe(no_mangle)]
 pub extern "C" fn obscurlane_make_cabinet(cabinet: &mut [u8]) -> cabinet::Filed
-    ensures { Files (makeCabinet cabinet.old) cabinet.new result }
+    ensures { Files (make_cabinet cabinet.old) cabinet.new result }
 {
     cabinet::make_cabinet(cabinet)
 }
@@ -30,7 +30,7 @@ pub extern "C" fn obscurlane_count_keys(cabinet: &[u8]) -> cabinet::Counted
 // Puts a public key in.
 #[unsafe(no_mangle)]
 pub extern "C" fn obscurlane_put_key(cabinet: &mut [u8], record: &[u8]) -> cabinet::Filed
-    ensures { Files (putKey cabinet.old «record».now) cabinet.new result }
+    ensures { Files (put_key cabinet.old «record».now) cabinet.new result }
 {
     cabinet::put_key(cabinet, record)
 }
@@ -38,7 +38,7 @@ pub extern "C" fn obscurlane_put_key(cabinet: &mut [u8], record: &[u8]) -> cabin
 // Takes the public key of an identity out.
 #[unsafe(no_mangle)]
 pub extern "C" fn obscurlane_remove_key(cabinet: &mut [u8], identity: &[u8]) -> cabinet::Filed
-    ensures { Files (removeKey cabinet.old identity.now) cabinet.new result }
+    ensures { Files (remove_key cabinet.old identity.now) cabinet.new result }
 {
     cabinet::remove_key(cabinet, identity)
 }
@@ -54,7 +54,7 @@ pub extern "C" fn obscurlane_admit(cabinet: &mut [u8], request: &[u8]) -> cabine
 // Where the public key of an identity stands in the cabinet's bytes.
 #[unsafe(no_mangle)]
 pub extern "C" fn obscurlane_find_key(cabinet: &[u8], identity: &[u8]) -> fields::Place
-    ensures { FindSaid (findKey cabinet.now identity.now) cabinet.now result }
+    ensures { FindSaid (find_key cabinet.now identity.now) cabinet.now result }
 {
     cabinet::key_place(cabinet, identity)
 }

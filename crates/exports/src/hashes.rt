@@ -3,7 +3,7 @@ ghost use Rattle.std.specs.Prelude.{◌≡◌, length};
 ghost use Rattle.sha384.specs.Sha384.{sha384};
 ghost use Rattle.sha384.specs.State.{begun, added, ended};
 ghost use Rattle.put.specs.Made.{Writes};
-ghost use Rattle.fingerprint.specs.Fingerprint.{checkFingerprint, writeFingerprint};
+ghost use Rattle.fingerprint.specs.Fingerprint.{check_fingerprint, write_fingerprint};
 
 // The 48 bytes of a hash.
 #[repr(C)]
@@ -49,7 +49,7 @@ pub extern "C" fn obscurlane_sha384_of(bytes: &[u8]) -> Digest
 // Whether the Fingerprint in the Subject of a public key is the right one.
 #[unsafe(no_mangle)]
 pub extern "C" fn obscurlane_check_fingerprint(record: &[u8]) -> fingerprint::Checked
-    ensures { result ≡ checkFingerprint «record».now }
+    ensures { result ≡ check_fingerprint «record».now }
 {
     fingerprint::check_fingerprint(record)
 }
@@ -57,7 +57,7 @@ pub extern "C" fn obscurlane_check_fingerprint(record: &[u8]) -> fingerprint::Ch
 // The Fingerprint that is right for a public key.
 #[unsafe(no_mangle)]
 pub extern "C" fn obscurlane_write_fingerprint(record: &[u8], out: &mut [u8]) -> put::Written
-    ensures { Writes (writeFingerprint «record».now (length out.old)) out.old out.new result }
+    ensures { Writes (write_fingerprint «record».now (length out.old)) out.old out.new result }
 {
     fingerprint::write_fingerprint(record, out)
 }

@@ -1,11 +1,11 @@
 // SHA-1, whole and slice by slice, and manufacturers' record files.
 ghost use Rattle.std.specs.Prelude.{◌≡◌, length};
-ghost use Rattle.sha1.specs.Sha1.{sha1};
-ghost use Rattle.sha1.specs.State.{begun, added, ended};
+ghost use Rattle.sha_1.specs.Sha1.{sha1};
+ghost use Rattle.sha_1.specs.State.{begun, added, ended};
 ghost use Rattle.put.specs.Made.{Writes};
 ghost use Rattle.reading.specs.Reading.{answer_of};
-ghost use Rattle.files.specs.Walk.{lineSaid};
-ghost use Rattle.trailed.specs.Trailed.{readTrailed, trailedAt, countTrailed, writeTrailed};
+ghost use Rattle.files.specs.Walk.{line_said};
+ghost use Rattle.trailed.specs.Trailed.{read_trailed, trailed_at, count_trailed, write_trailed};
 ghost use Rattle.exports.specs.Exports.{found};
 
 use crate::walking;
@@ -19,15 +19,15 @@ pub struct Sha1Digest {
 
 // The state before the first byte.
 #[unsafe(no_mangle)]
-pub extern "C" fn obscurlane_sha1_begin() -> sha1::Sha1
+pub extern "C" fn obscurlane_sha1_begin() -> sha_1::Sha1
     ensures { result ≡ begun }
 {
-    sha1::Sha1::begin()
+    sha_1::Sha1::begin()
 }
 
 // The state with these bytes too.
 #[unsafe(no_mangle)]
-pub extern "C" fn obscurlane_sha1_add(state: sha1::Sha1, bytes: &[u8]) -> sha1::Sha1
+pub extern "C" fn obscurlane_sha1_add(state: sha_1::Sha1, bytes: &[u8]) -> sha_1::Sha1
     ensures { result ≡ added state bytes.now }
 {
     state.add(bytes)
@@ -35,7 +35,7 @@ pub extern "C" fn obscurlane_sha1_add(state: sha1::Sha1, bytes: &[u8]) -> sha1::
 
 // The hash of all bytes given.
 #[unsafe(no_mangle)]
-pub extern "C" fn obscurlane_sha1_end(state: sha1::Sha1) -> Sha1Digest
+pub extern "C" fn obscurlane_sha1_end(state: sha_1::Sha1) -> Sha1Digest
     ensures { result.bytes ≡ ended state }
 {
     let bytes = state.end();
@@ -47,14 +47,14 @@ pub extern "C" fn obscurlane_sha1_end(state: sha1::Sha1) -> Sha1Digest
 pub extern "C" fn obscurlane_sha1_of(bytes: &[u8]) -> Sha1Digest
     ensures { result.bytes ≡ sha1 bytes.now }
 {
-    let bytes = sha1::sha1_of(bytes);
+    let bytes = sha_1::sha1_of(bytes);
     Sha1Digest { bytes }
 }
 
 // Reads a line of a manufacturer's record file: a record and its trailer.
 #[unsafe(no_mangle)]
 pub extern "C" fn obscurlane_read_trailed(line: &[u8]) -> reading::Answer
-    ensures { result ≡ answer_of (readTrailed line.now) }
+    ensures { result ≡ answer_of (read_trailed line.now) }
 {
     trailed::read_trailed(line)
 }
@@ -62,7 +62,7 @@ pub extern "C" fn obscurlane_read_trailed(line: &[u8]) -> reading::Answer
 // The line that begins at a place of such a file.
 #[unsafe(no_mangle)]
 pub extern "C" fn obscurlane_trailed_at(file: &[u8], place: usize) -> walking::Found
-    ensures { result ≡ found (lineSaid (trailedAt file.now place)) }
+    ensures { result ≡ found (line_said (trailed_at file.now place)) }
 {
     walking::find(trailed::trailed_at(file, place))
 }
@@ -70,7 +70,7 @@ pub extern "C" fn obscurlane_trailed_at(file: &[u8], place: usize) -> walking::F
 // How many lines such a file has, and how many of them are accepted.
 #[unsafe(no_mangle)]
 pub extern "C" fn obscurlane_count_trailed(file: &[u8]) -> files::Totals
-    ensures { result ≡ countTrailed file.now }
+    ensures { result ≡ count_trailed file.now }
 {
     trailed::count_trailed(file)
 }
@@ -78,7 +78,7 @@ pub extern "C" fn obscurlane_count_trailed(file: &[u8]) -> files::Totals
 // The line of a record with its trailer, from the front of a lent output.
 #[unsafe(no_mangle)]
 pub extern "C" fn obscurlane_write_trailed(record: &[u8], out: &mut [u8]) -> put::Written
-    ensures { Writes (writeTrailed «record».now (length out.old)) out.old out.new result }
+    ensures { Writes (write_trailed «record».now (length out.old)) out.old out.new result }
 {
     trailed::write_trailed(record, out)
 }

@@ -2,9 +2,9 @@
 ghost use Rattle.std.specs.Prelude.{◌≡◌};
 ghost use Rattle.format.specs.Files.{line_at, walk};
 ghost use Rattle.items.specs.Place.{ItemPlaced};
-ghost use Rattle.files.specs.Walk.{lineSaid, totalsOf};
+ghost use Rattle.files.specs.Walk.{line_said, totals_of};
 ghost use Rattle.files.specs.Steps.{Begins};
-ghost use Rattle.newer.specs.Newer.{newer, choiceSaid};
+ghost use Rattle.newer.specs.Newer.{newer, choice_said};
 ghost use Rattle.exports.specs.Exports.{found, PlaceStepped};
 
 // What stands at a place of a file, or that it is finished.
@@ -64,7 +64,7 @@ pub(crate) fn find(line: files::Line) -> Found
 // The line that begins at a place of a file.
 #[unsafe(no_mangle)]
 pub extern "C" fn obscurlane_line_at(file: &[u8], place: usize) -> Found
-    ensures { result ≡ found (lineSaid (line_at file.now place)) }
+    ensures { result ≡ found (line_said (line_at file.now place)) }
 {
     find(files::line_at(file, place))
 }
@@ -90,7 +90,7 @@ pub extern "C" fn obscurlane_reader_step(file: &[u8], place: &mut usize) -> Foun
 // How many lines a file has, and how many of them are accepted records.
 #[unsafe(no_mangle)]
 pub extern "C" fn obscurlane_count(file: &[u8]) -> files::Totals
-    ensures { result ≡ totalsOf (walk file.now) }
+    ensures { result ≡ totals_of (walk file.now) }
 {
     files::count(file)
 }
@@ -98,7 +98,7 @@ pub extern "C" fn obscurlane_count(file: &[u8]) -> files::Totals
 // Which of two public keys is the newer.
 #[unsafe(no_mangle)]
 pub extern "C" fn obscurlane_newer(first: &[u8], second: &[u8]) -> newer::Choice
-    ensures { result ≡ choiceSaid (newer first.now second.now) }
+    ensures { result ≡ choice_said (newer first.now second.now) }
 {
     newer::newer_of(first, second)
 }

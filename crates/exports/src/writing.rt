@@ -2,7 +2,7 @@
 ghost use Rattle.std.specs.Prelude.{length};
 ghost use Rattle.put.specs.Made.{Writes};
 ghost use Rattle.building.specs.Building.{build};
-ghost use Rattle.agreement.specs.Texts.{sharedInfo, moduleText, centreText};
+ghost use Rattle.agreement.specs.Texts.{shared_info, module_text, centre_text};
 
 // Builds a record of the named kind from the bytes of all fields one after another and the fields' lengths.
 #[unsafe(no_mangle)]
@@ -20,7 +20,7 @@ pub extern "C" fn obscurlane_build(
 // SharedInfo of a load request.
 #[unsafe(no_mangle)]
 pub extern "C" fn obscurlane_shared_info(request: &[u8], out: &mut [u8]) -> put::Written
-    ensures { Writes (sharedInfo request.now (length out.old)) out.old out.new result }
+    ensures { Writes (shared_info request.now (length out.old)) out.old out.new result }
 {
     agreement::shared_info(request, out)
 }
@@ -28,7 +28,7 @@ pub extern "C" fn obscurlane_shared_info(request: &[u8], out: &mut [u8]) -> put:
 // MacData_SM of a load request.
 #[unsafe(no_mangle)]
 pub extern "C" fn obscurlane_module_text(request: &[u8], out: &mut [u8]) -> put::Written
-    ensures { Writes (moduleText request.now (length out.old)) out.old out.new result }
+    ensures { Writes (module_text request.now (length out.old)) out.old out.new result }
 {
     agreement::module_text(request, out)
 }
@@ -36,7 +36,7 @@ pub extern "C" fn obscurlane_module_text(request: &[u8], out: &mut [u8]) -> put:
 // MacData_KMC of a load request.
 #[unsafe(no_mangle)]
 pub extern "C" fn obscurlane_centre_text(request: &[u8], out: &mut [u8]) -> put::Written
-    ensures { Writes (centreText request.now (length out.old)) out.old out.new result }
+    ensures { Writes (centre_text request.now (length out.old)) out.old out.new result }
 {
     agreement::centre_text(request, out)
 }

@@ -5,16 +5,16 @@ use Rattle.std.specs.Borrow.{Bor}
 use Rattle.text.specs.Text.{Bytes}
 use Rattle.text.specs.Part.{Part}
 use Rattle.format.specs.Kinds.{Kind}
-use Rattle.format.specs.Read.{Outcome, readIdentity, read_of}
+use Rattle.format.specs.Read.{Outcome, read_identity, read_of}
 use Rattle.fields.specs.declared.Place.{Place}
 
 -- o is what a reading call says of s
 pub data Reads (s : Bytes) : Outcome → Type 0 where
-  identity : Reads s (readIdentity s)
+  identity : Reads s (read_identity s)
   records : (ks : List Kind) → Reads s (read_of ks s)
 
 -- the part of s at a place, and the place's numbers
 pub record Handed (at : Place) (s r : Bor Bytes) (no field : ℕ) : Type 0 where
-  pub its-part : Part s at.start (take at.len (drop at.start s.now)) r
-  pub its-no : no ≡ at.no
-  pub its-field : field ≡ at.field
+  pub its_part : Part s at.start (take at.len (drop at.start s.now)) r
+  pub its_no : no ≡ at.no
+  pub its_field : field ≡ at.field

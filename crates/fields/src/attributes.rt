@@ -1,18 +1,18 @@
 // One attribute of a wrapped key (document 02, E1; STS 600-4-2, clause 7.5.1), by its number from 1 or by its name: its card,
 // name and value without the ';'. A record of another kind answers 2 in its place.
 ghost use Rattle.std.specs.Prelude.{◌≡◌, take};
-ghost use Rattle.format.specs.Kinds.{keyKinds};
-ghost use Rattle.format.specs.Attributes.{cardsIn};
+ghost use Rattle.format.specs.Kinds.{key_kinds};
+ghost use Rattle.format.specs.Attributes.{cards_in};
 ghost use Rattle.format.specs.Read.{read_of};
 ghost use Rattle.reading.specs.Reading.{answer_of};
-ghost use Rattle.fields.specs.Attributes.{listSaid, cardsSaid, numberNamed, AttributeSaid, AttributePlaced};
+ghost use Rattle.fields.specs.Attributes.{list_said, cards_said, number_named, AttributeSaid, AttributePlaced};
 
 // ---- the list and its cards
 
 // The list: field 2, empty with a refusal.
 fn list_of<'a>(answer: reading::Answer, record: &'a [u8]) -> &'a [u8]
-    requires { answer ≡ answer_of (read_of keyKinds «record».now) }
-    ensures { result.now ≡ listSaid (read_of keyKinds «record».now) }
+    requires { answer ≡ answer_of (read_of key_kinds «record».now) }
+    ensures { result.now ≡ list_said (read_of key_kinds «record».now) }
 {
     let starts = answer.starts;
     let lens = answer.lens;
@@ -30,7 +30,7 @@ fn name_of<'a>(card: &'a [u8]) -> &'a [u8]
 
 // The number, from 1, of the card with this name; 0 where no card has it.
 fn number_named(list: &[u8], name: &[u8]) -> usize
-    ensures { result ≡ numberNamed name.now (cardsIn list.now) }
+    ensures { result ≡ number_named name.now (cards_in list.now) }
 {
     let mut number: usize = 1;
     let mut i: usize = 0;
@@ -61,8 +61,8 @@ fn nowhere(no: u8, field: u8) -> crate::Place
 
 // Where the wanted card stands in the record that a reading call answered so.
 fn card_place(answer: reading::Answer, record: &[u8], wanted: usize) -> crate::Place
-    requires { answer ≡ answer_of (read_of keyKinds «record».now) }
-    ensures { AttributePlaced (read_of keyKinds «record».now) wanted «record».now result }
+    requires { answer ≡ answer_of (read_of key_kinds «record».now) }
+    ensures { AttributePlaced (read_of key_kinds «record».now) wanted «record».now result }
 {
     if answer.no != numbers::ACCEPTED {
         return nowhere(answer.no, answer.field);
@@ -90,7 +90,7 @@ fn card_place(answer: reading::Answer, record: &[u8], wanted: usize) -> crate::P
 // Where the attribute of a wanted number stands, counted from 1; number and field number are those of reading a KEY.1. A
 // number that the list hasn't is 12, after every other. With a refusal start and length are 0.
 pub fn attribute_place(record: &[u8], wanted: usize) -> crate::Place
-    ensures { AttributePlaced (read_of keyKinds «record».now) wanted «record».now result }
+    ensures { AttributePlaced (read_of key_kinds «record».now) wanted «record».now result }
 {
     card_place(
         reading::read_of(table::KEY, table::ROWS, record),
@@ -101,7 +101,7 @@ pub fn attribute_place(record: &[u8], wanted: usize) -> crate::Place
 
 // The same of the attribute with a name, which is its card's first three characters; 12 where no card has it.
 pub fn attribute_named_place(record: &[u8], name: &[u8]) -> crate::Place
-    ensures { AttributePlaced (read_of keyKinds «record».now) (numberNamed name.now (cardsSaid (read_of keyKinds «record».now))) «record».now result }
+    ensures { AttributePlaced (read_of key_kinds «record».now) (number_named name.now (cards_said (read_of key_kinds «record».now))) «record».now result }
 {
     let answer = reading::read_of(table::KEY, table::ROWS, record);
     let wanted = number_named(list_of(answer, record), name);
@@ -110,14 +110,14 @@ pub fn attribute_named_place(record: &[u8], name: &[u8]) -> crate::Place
 
 // The attribute that stands there, as a part of the caller's own bytes; with a refusal an empty one, at their front.
 pub fn attribute<'a>(record: &'a [u8], wanted: usize, no: &mut u8, field: &mut u8) -> &'a [u8]
-    ensures { AttributeSaid (read_of keyKinds «record».now) wanted «record».entry result no.new field.new }
+    ensures { AttributeSaid (read_of key_kinds «record».now) wanted «record».entry result no.new field.new }
 {
     crate::part_at(attribute_place(record, wanted), record, no, field)
 }
 
 // The same of the attribute with a name.
 pub fn attribute_named<'a>(record: &'a [u8], name: &[u8], no: &mut u8, field: &mut u8) -> &'a [u8]
-    ensures { AttributeSaid (read_of keyKinds «record».now) (numberNamed name.now (cardsSaid (read_of keyKinds «record».now))) «record».entry result no.new field.new }
+    ensures { AttributeSaid (read_of key_kinds «record».now) (number_named name.now (cards_said (read_of key_kinds «record».now))) «record».entry result no.new field.new }
 {
     crate::part_at(attribute_named_place(record, name), record, no, field)
 }

@@ -5,10 +5,10 @@ mod attributes;
 
 ghost use Rattle.std.specs.Prelude.{◌≡◌, ◌+◌, ◌≤◌, length, T};
 ghost use Rattle.text.specs.Text.{Bytes, between};
-ghost use Rattle.format.specs.Read.{Outcome, readIdentity, read_of, readRecord};
-ghost use Rattle.table.specs.Table.{kindsFrom};
+ghost use Rattle.format.specs.Read.{Outcome, read_identity, read_of, read_record};
+ghost use Rattle.table.specs.Table.{kinds_from};
 ghost use Rattle.reading.specs.Reading.{answer_of};
-ghost use Rattle.fields.specs.Fields.{wantedNo, FieldSaid, Placed};
+ghost use Rattle.fields.specs.Fields.{wanted_no, FieldSaid, Placed};
 ghost use Rattle.fields.specs.Steps.{Reads, Handed};
 
 pub use attributes::{attribute, attribute_named, attribute_named_place, attribute_place};
@@ -25,7 +25,7 @@ pub struct Place {
 
 // A refusal's own number, and 12 for a field that the accepted kind hasn't.
 fn wanted_no(answer: reading::Answer, wanted: usize) -> u8
-    ensures { ((o : Outcome) (s : Bytes) → Reads s o → answer ≡ answer_of o → result ≡ wantedNo o wanted) × (result ≡ 0 → T (between 1 7 wanted)) }
+    ensures { ((o : Outcome) (s : Bytes) → Reads s o → answer ≡ answer_of o → result ≡ wanted_no o wanted) × (result ≡ 0 → T (between 1 7 wanted)) }
 {
     if answer.no != numbers::ACCEPTED {
         return answer.no;
@@ -64,21 +64,21 @@ fn place_from(answer: reading::Answer, wanted: usize) -> Place
 // Where the wanted field of an identity stands, counted from 1; number and field number are those that `read_identity`
 // answers. A number that the kind hasn't is 12, after every other. With a refusal start and length are 0.
 pub fn identity_place(identity: &[u8], wanted: usize) -> Place
-    ensures { Placed (readIdentity identity.now) wanted identity.now result }
+    ensures { Placed (read_identity identity.now) wanted identity.now result }
 {
     place_from(reading::read_identity(identity), wanted)
 }
 
 // The same of a record of the kinds in the table's rows from `from` to before `to`.
 fn place_of(from: usize, to: usize, record: &[u8], wanted: usize) -> Place
-    ensures { Placed (read_of (kindsFrom from to) «record».now) wanted «record».now result }
+    ensures { Placed (read_of (kinds_from from to) «record».now) wanted «record».now result }
 {
     place_from(reading::read_of(from, to, record), wanted)
 }
 
 // The same of a record of any of the five record kinds.
 pub fn record_place(record: &[u8], wanted: usize) -> Place
-    ensures { Placed (readRecord «record».now) wanted «record».now result }
+    ensures { Placed (read_record «record».now) wanted «record».now result }
 {
     place_of(table::ECDSA, table::ROWS, record, wanted)
 }
@@ -102,7 +102,7 @@ pub fn identity_field<'a>(
     no: &mut u8,
     field: &mut u8,
 ) -> &'a [u8]
-    ensures { FieldSaid (readIdentity identity.now) wanted identity.entry result no.new field.new }
+    ensures { FieldSaid (read_identity identity.now) wanted identity.entry result no.new field.new }
 {
     part_at(identity_place(identity, wanted), identity, no, field)
 }
@@ -116,14 +116,14 @@ fn field_of<'a>(
     no: &mut u8,
     field: &mut u8,
 ) -> &'a [u8]
-    ensures { FieldSaid (read_of (kindsFrom from to) «record».now) wanted «record».entry result no.new field.new }
+    ensures { FieldSaid (read_of (kinds_from from to) «record».now) wanted «record».entry result no.new field.new }
 {
     part_at(place_of(from, to, record, wanted), record, no, field)
 }
 
 // The same of a record of any of the five record kinds.
 pub fn record_field<'a>(record: &'a [u8], wanted: usize, no: &mut u8, field: &mut u8) -> &'a [u8]
-    ensures { FieldSaid (readRecord «record».now) wanted «record».entry result no.new field.new }
+    ensures { FieldSaid (read_record «record».now) wanted «record».entry result no.new field.new }
 {
     field_of(table::ECDSA, table::ROWS, record, wanted, no, field)
 }

@@ -8,11 +8,11 @@ use lib.ListN.{length, take, drop}
 use Rattle.text.specs.Text.{Bytes}
 use Rattle.format.specs.Read.{Outcome, accepted, refused}
 use Rattle.format.specs.Files as files
-use Rattle.format.specs.Files.{Said, finished, read, lineAtOver, walkOver, one, acceptedLines}
+use Rattle.format.specs.Files.{Said, finished, read, line_at_over, walk_over, one, accepted_lines}
 use Rattle.format.proofs.Outcomes.{Numbered, NeverZero}
-use Rattle.format.proofs.Lines.{at-end, at-line, at-unfinished, by_place, next-beyond, next-inside, rest, rest-walk, rest-onward, rest-step}
+use Rattle.format.proofs.Lines.{at_end, at_line, at_unfinished, by_place, next_beyond, next_inside, rest, rest_walk, rest_onward, rest_step}
 use Rattle.reading.specs.Reading.{answer_of}
-use Rattle.files.specs.Walk.{lineSaid, totalsOf}
+use Rattle.files.specs.Walk.{line_said, totals_of}
 use Rattle.files.specs.declared.Line.TheVariants.{Finished, Read}
 
 -- ---- the number of a line: 0 is an accepted line's alone
@@ -32,38 +32,38 @@ SaidCounts (read l) = Counts (answer_of l.said).no l.said
 -- a line was read at the place, with this number and this next place
 pub record Told (call : Bytes → Outcome) (file : Bytes) (place n next : ℕ) : Type 0 where
   pub line : files.Line
-  pub is : lineAtOver call file place ≡ read line
-  pub its-number : Counts n line.said
-  pub its-next : next ≡ line.next
+  pub is : line_at_over call file place ≡ read line
+  pub its_number : Counts n line.said
+  pub its_next : next ≡ line.next
 
 module _ (call : Bytes → Outcome) (never-zero : NeverZero call) (file : Bytes) (place : ℕ) where
-  said-counts : SaidCounts (lineAtOver call file place)
-  said-counts =
-      by_place file place (λ h. rw (at-end call file place h) tt)
-      (λ e f h. let l = take (e - place) (drop place file) in rw (at-line call file place e f h) (number_counts (call l) (never-zero l)))
-      (λ e f l h. rw (at-unfinished call file place e f l h) (λ z. absurd (omega arith), λ n. refl))
+  said_counts : SaidCounts (line_at_over call file place)
+  said_counts =
+      by_place file place (λ h. rw (at_end call file place h) tt)
+      (λ e f h. let l = take (e - place) (drop place file) in rw (at_line call file place e f h) (number_counts (call l) (never-zero l)))
+      (λ e f l h. rw (at_unfinished call file place e f l h) (λ z. absurd (omega arith), λ n. refl))
 
-  pub told : (n f k start len next : ℕ) → Read n f k start len next ≡ lineSaid (lineAtOver call file place) → Told call file place n next
-  told n f k start len next = go (lineAtOver call file place) refl said-counts
+  pub told : (n f k start len next : ℕ) → Read n f k start len next ≡ line_said (line_at_over call file place) → Told call file place n next
+  told n f k start len next = go (line_at_over call file place) refl said_counts
     where
-      go : (s : Said) → lineAtOver call file place ≡ s → SaidCounts s → Read n f k start len next ≡ lineSaid s → Told call file place n next
+      go : (s : Said) → line_at_over call file place ≡ s → SaidCounts s → Read n f k start len next ≡ line_said s → Told call file place n next
       go (finished p) e t r = absurd (let z : ◌≡◌ {A = ℕ} 0 1 = cc in omega arith)
-      go (read l) e t r = record { line = l; is = e; its-number = rw (number r) t; its-next = cc }
+      go (read l) e t r = record { line = l; is = e; its_number = rw (number r) t; its_next = cc }
         where
-          number : Read n f k start len next ≡ lineSaid (read l) → n ≡ (answer_of l.said).no
+          number : Read n f k start len next ≡ line_said (read l) → n ≡ (answer_of l.said).no
           number h = cc
 
 module _ {call : Bytes → Outcome} {file : Bytes} {place n next : ℕ} (t : Told call file place n next) where
-  pub told-beyond : place < next
-  told-beyond = rw t.its-next (next-beyond call file place t.line t.is)
+  pub told_beyond : place < next
+  told_beyond = rw t.its_next (next_beyond call file place t.line t.is)
 
-  pub told-inside : next ≤ length file
-  told-inside = rw t.its-next (next-inside call file place t.line t.is)
+  pub told_inside : next ≤ length file
+  told_inside = rw t.its_next (next_inside call file place t.line t.is)
 
 -- ---- so many lines, and so many accepted ones, stand before the place
 pub record Counted (call : Bytes → Outcome) (file : Bytes) (lines accepted place : ℕ) : Type 0 where
-  pub its-lines : length (walkOver call file) ≡ lines + length (rest call file place)
-  pub its-accepted : acceptedLines (walkOver call file) ≡ accepted + acceptedLines (rest call file place)
+  pub its_lines : length (walk_over call file) ≡ lines + length (rest call file place)
+  pub its_accepted : accepted_lines (walk_over call file) ≡ accepted + accepted_lines (rest call file place)
   pub few : lines ≤ place
   pub fewer : accepted ≤ lines
   pub inside : place ≤ length file
@@ -71,39 +71,39 @@ pub record Counted (call : Bytes → Outcome) (file : Bytes) (lines accepted pla
 pub counted_none : (call : Bytes → Outcome) (file : Bytes) → Counted call file 0 0 0
 counted_none call file =
     record {
-      its-lines = rw (rest-walk call file) (omega arith);
-      its-accepted = rw (rest-walk call file) (omega arith);
+      its_lines = rw (rest_walk call file) (omega arith);
+      its_accepted = rw (rest_walk call file) (omega arith);
       few = omega arith;
       fewer = omega arith;
       inside = omega arith;
     }
 
 module _ {call : Bytes → Outcome} {file : Bytes} {lines accepted place : ℕ} (c : Counted call file lines accepted place) where
-  pub counted-all : (p : ℕ) → Finished p ≡ lineSaid (lineAtOver call file place) → record { lines = lines; accepted = accepted } ≡ totalsOf (walkOver call file)
-  counted-all p q = go (lineAtOver call file place) refl q
+  pub counted_all : (p : ℕ) → Finished p ≡ line_said (line_at_over call file place) → record { lines = lines; accepted = accepted } ≡ totals_of (walk_over call file)
+  counted_all p q = go (line_at_over call file place) refl q
     where
-      go : (s : Said) → lineAtOver call file place ≡ s → Finished p ≡ lineSaid s → record { lines = lines; accepted = accepted } ≡ totalsOf (walkOver call file)
+      go : (s : Said) → line_at_over call file place ≡ s → Finished p ≡ line_said s → record { lines = lines; accepted = accepted } ≡ totals_of (walk_over call file)
       go (finished o) e r =
-          let none : rest call file place ≡ [] = rest-onward call file place ∙ rw e in
-          let ls : lines ≡ length (walkOver call file) = omega (arith, c.its-lines, ap length none) in
-          let few : accepted ≡ acceptedLines (walkOver call file) = omega (arith, c.its-accepted, ap acceptedLines none) in
+          let none : rest call file place ≡ [] = rest_onward call file place ∙ rw e in
+          let ls : lines ≡ length (walk_over call file) = omega (arith, c.its_lines, ap length none) in
+          let few : accepted ≡ accepted_lines (walk_over call file) = omega (arith, c.its_accepted, ap accepted_lines none) in
           cc
       go (read l) e r = absurd (let z : ◌≡◌ {A = ℕ} 0 1 = cc in omega arith)
 
   module _ {n next : ℕ} (t : Told call file place n next) where
-    counted-on : (a : ℕ) → a ≡ accepted + one t.line.said → a ≤ accepted + 1 → Counted call file (lines + 1) a next
-    counted-on a e h =
-        let more : rest call file place ≡ t.line ∷ rest call file next = rw t.its-next (rest-step call file place t.line t.is) in
+    counted_on : (a : ℕ) → a ≡ accepted + one t.line.said → a ≤ accepted + 1 → Counted call file (lines + 1) a next
+    counted_on a e h =
+        let more : rest call file place ≡ t.line ∷ rest call file next = rw t.its_next (rest_step call file place t.line t.is) in
         record {
-          its-lines = omega (arith, c.its-lines, ap length more);
-          its-accepted = omega (arith, c.its-accepted, ap acceptedLines more);
-          few = omega (arith, c.few, told-beyond t);
+          its_lines = omega (arith, c.its_lines, ap length more);
+          its_accepted = omega (arith, c.its_accepted, ap accepted_lines more);
+          few = omega (arith, c.few, told_beyond t);
           fewer = omega (arith, c.fewer);
-          inside = told-inside t;
+          inside = told_inside t;
         }
 
-    pub counted-accepted : {a : ℕ} → n ≡ 0 → a ≡ accepted + 1 → Counted call file (lines + 1) a next
-    counted-accepted {a} z e = counted-on a (omega (arith, t.its-number.0 z)) (omega arith)
+    pub counted_accepted : {a : ℕ} → n ≡ 0 → a ≡ accepted + 1 → Counted call file (lines + 1) a next
+    counted_accepted {a} z e = counted_on a (omega (arith, t.its_number.0 z)) (omega arith)
 
-    pub counted-refused : {a : ℕ} → (n ≡ 0 → ⊥) → a ≡ accepted → Counted call file (lines + 1) a next
-    counted-refused {a} z e = counted-on a (omega (arith, t.its-number.1 z)) (omega arith)
+    pub counted_refused : {a : ℕ} → (n ≡ 0 → ⊥) → a ≡ accepted → Counted call file (lines + 1) a next
+    counted_refused {a} z e = counted_on a (omega (arith, t.its_number.1 z)) (omega arith)

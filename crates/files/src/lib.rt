@@ -2,8 +2,8 @@
 // any bytes and any place have an answer.
 ghost use Rattle.std.specs.Prelude.{◌≡◌};
 ghost use Rattle.format.specs.Files.{line_at, walk};
-ghost use Rattle.files.specs.Walk.{lineEnd, lastLine, lineSaid, nextOf, totalsOf};
-ghost use Rattle.files.specs.Steps.{Begins, Stepped, stepFrom};
+ghost use Rattle.files.specs.Walk.{line_end, last_line, line_said, next_of, totals_of};
+ghost use Rattle.files.specs.Steps.{Begins, Stepped, step_from};
 
 // What stands at a place of a file.
 #[derive(Drop)]
@@ -36,7 +36,7 @@ pub struct Totals {
 
 // The first line feed at or after the place, or the end of the bytes when none follows; a place past the end is answered as it is.
 pub fn line_end(file: &[u8], place: usize) -> usize
-    ensures { result ≡ lineEnd file.now place }
+    ensures { result ≡ line_end file.now place }
 {
     let mut i = place;
     let at = loop {
@@ -53,7 +53,7 @@ pub fn line_end(file: &[u8], place: usize) -> usize
 
 // What is said at a place after which no line feed follows, in a file of so many bytes: that it is finished, or that its last line is not, 11.
 pub fn last_line(bytes: usize, place: usize) -> Line
-    ensures { result ≡ lastLine bytes place }
+    ensures { result ≡ last_line bytes place }
 {
     if bytes <= place {
         return Line::Finished { place };
@@ -71,7 +71,7 @@ pub fn last_line(bytes: usize, place: usize) -> Line
 // The line at a place: the record call's answer for it (an empty line answers 2, one over 1,024 bytes 1), and where it
 // stands. An unfinished last line answers 11, before any other number and at any length; its next place is the end.
 pub fn line_at(file: &[u8], place: usize) -> Line
-    ensures { result ≡ lineSaid (line_at file.now place) }
+    ensures { result ≡ line_said (line_at file.now place) }
 {
     let end = line_end(file, place);
     if file.len() <= end {
@@ -90,7 +90,7 @@ pub fn line_at(file: &[u8], place: usize) -> Line
 
 // The lines of a file from its start to its end, an unfinished last line too, and those that are accepted.
 pub fn count(file: &[u8]) -> Totals
-    ensures { result ≡ totalsOf (walk file.now) }
+    ensures { result ≡ totals_of (walk file.now) }
 {
     let mut lines: usize = 0;
     let mut accepted: usize = 0;
@@ -111,7 +111,7 @@ pub fn count(file: &[u8]) -> Totals
 
 // The next place that an answer names.
 fn next_of(line: Line) -> usize
-    ensures { result ≡ nextOf line }
+    ensures { result ≡ next_of line }
 {
     match line {
         Line::Finished { place } => place,
@@ -146,7 +146,7 @@ impl<'a> Reader<'a> {
 
 // One step of a reader that stands at the place. Its parameters are plain, so a caller's proof needs no walk by hand.
 pub fn step_from(file: &[u8], place: usize) -> Line
-    ensures { result ≡ stepFrom file.now place }
+    ensures { result ≡ step_from file.now place }
 {
     let mut reader = Reader { file, place };
     reader.step()

@@ -4,12 +4,12 @@ use Rattle.std.specs.Prelude.{ℕ, cond, [], ◌++◌, length, take, leb}
 use Prim.Native.Char.{code}
 use Rattle.text.specs.Text.{Bytes, ascii}
 use Rattle.format.specs.Read.{body}
-use Rattle.frame.specs.Frame.{partStart}
+use Rattle.frame.specs.Frame.{part_start}
 
 -- what stands before the fourth field of an identity; nothing, where its bytes have not so many marks
-unfoldable pub frontAt : Bytes → Bytes
-frontAt s = cond (leb (partStart (code ":") (body s) 4) (length s)) (take (partStart (code ":") (body s) 4) s) []
+unfoldable pub front_at : Bytes → Bytes
+front_at s = cond (leb (part_start (code ":") (body s) 4) (length s)) (take (part_start (code ":") (body s) 4) s) []
 
 -- the text that is hashed, of any bytes for a Subject
-unfoldable pub textAt : Bytes → Bytes → Bytes
-textAt s q = frontAt s ++ q ++ ascii ":"
+unfoldable pub text_at : Bytes → Bytes → Bytes
+text_at s q = front_at s ++ q ++ ascii ":"

@@ -4,10 +4,10 @@
 ghost use Rattle.std.specs.Prelude.{◌≡◌, length};
 ghost use Rattle.sha384.specs.Sha384.{sha384};
 ghost use Rattle.places.specs.Places.{field_at};
-ghost use Rattle.subjects.specs.Subjects.{identityPart};
+ghost use Rattle.subjects.specs.Subjects.{identity_part};
 ghost use Rattle.put.specs.Made.{Writes};
-ghost use Rattle.fingerprint.specs.Fingerprint.{printOf, checkFingerprint, writeFingerprint};
-ghost use Rattle.fingerprint.specs.Steps.{frontAt, textAt};
+ghost use Rattle.fingerprint.specs.Fingerprint.{print_of, check_fingerprint, write_fingerprint};
+ghost use Rattle.fingerprint.specs.Steps.{front_at, text_at};
 
 // A Fingerprint has so many characters.
 const CHARACTERS: usize = 16;
@@ -25,7 +25,7 @@ pub struct Checked {
 // What stands in an identity before its Fingerprint: its kind name, Manufacturer, MID and GNT, each followed by ':'. Nothing, of
 // bytes without so many marks.
 fn front_of<'a>(identity: &'a [u8]) -> &'a [u8]
-    ensures { result.now ≡ frontAt identity.now }
+    ensures { result.now ≡ front_at identity.now }
 {
     let body = frame::body_of(identity);
     let end = frame::part_start(b':', body, table::IDENTITY_FINGERPRINT);
@@ -38,7 +38,7 @@ fn front_of<'a>(identity: &'a [u8]) -> &'a [u8]
 // Of the public key whose fields stand at these places: of what stands in its Subject before the Fingerprint, of Q's
 // characters, and of ':'.
 fn hash_of(key: &[u8], starts: &[usize; 7], lens: &[usize; 7]) -> [u8; 48]
-    ensures { result ≡ sha384 (textAt (field_at key.now starts.now lens.now 1) (field_at key.now starts.now lens.now 2)) }
+    ensures { result ≡ sha384 (text_at (field_at key.now starts.now lens.now 1) (field_at key.now starts.now lens.now 2)) }
 {
     let subject = places::field_at(key, starts, lens, table::PUBKEY_SUBJECT);
     let q = places::field_at(key, starts, lens, table::PUBKEY_Q);
@@ -49,8 +49,8 @@ fn hash_of(key: &[u8], starts: &[usize; 7], lens: &[usize; 7]) -> [u8; 48]
 // The Fingerprint that is right for it, where its Subject has one: as many characters as stand there. So the number of bytes is not known
 // when it is compiled, and LLVM leaves the loop that writes them as it is.
 fn right_print(key: &[u8], starts: &[usize; 7], lens: &[usize; 7]) -> [u8; 16]
-    requires { length (identityPart (field_at key.now starts.now lens.now 1) 4) ≡ 16 }
-    ensures { result ≡ printOf (textAt (field_at key.now starts.now lens.now 1) (field_at key.now starts.now lens.now 2)) }
+    requires { length (identity_part (field_at key.now starts.now lens.now 1) 4) ≡ 16 }
+    ensures { result ≡ print_of (text_at (field_at key.now starts.now lens.now 1) (field_at key.now starts.now lens.now 2)) }
 {
     let subject = places::field_at(key, starts, lens, table::PUBKEY_SUBJECT);
     let bytes = subjects::field_in(subject, table::IDENTITY_FINGERPRINT).len() / 2;
@@ -64,7 +64,7 @@ fn right_print(key: &[u8], starts: &[usize; 7], lens: &[usize; 7]) -> [u8; 16]
 
 // 15 where the Fingerprint in the Subject of an accepted public key is not the right one; any other kind answers 2 in its place.
 pub fn check_fingerprint(record: &[u8]) -> Checked
-    ensures { result ≡ checkFingerprint «record».now }
+    ensures { result ≡ check_fingerprint «record».now }
 {
     let answer = reading::read_of(table::ECDSA, table::REQ, record);
     if answer.no != numbers::ACCEPTED {
@@ -93,7 +93,7 @@ pub fn check_fingerprint(record: &[u8]) -> Checked
 // Writes the sixteen characters that are right, whatever stands in the Subject, from the front of a lent output; or refuses,
 // 10 last, and leaves it untouched.
 pub fn write_fingerprint(record: &[u8], out: &mut [u8]) -> put::Written
-    ensures { Writes (writeFingerprint «record».now (length out.old)) out.old out.new result }
+    ensures { Writes (write_fingerprint «record».now (length out.old)) out.old out.new result }
 {
     let answer = reading::read_of(table::ECDSA, table::REQ, record);
     if answer.no != numbers::ACCEPTED {

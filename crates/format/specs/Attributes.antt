@@ -5,8 +5,8 @@
 use Rattle.std.specs.Prelude.{ℕ, ◌≡◌, Bool, true, false, cond, not, ◌&&◌, ◌||◌, List, [], ◌∷◌, length, take, drop, T, leb}
 use Prim.Native.String.{String}
 use Prim.Native.Char.{code}
-use Rattle.text.specs.Text.{Bytes, ascii, between, all_of, same, after, isTimestamp, isDigits, isAlphanumeric, isOctet}
-use Rattle.format.specs.Parts.{joined, WithoutAll, endsIn, cut}
+use Rattle.text.specs.Text.{Bytes, ascii, between, all_of, same, after, is_timestamp, is_digits, is_alphanumeric, is_octet}
+use Rattle.format.specs.Parts.{joined, WithoutAll, ends_in, cut}
 
 -- ---- Appendix B: each name, what its value is, and whether the card is required
 
@@ -22,20 +22,20 @@ abbrev pub optional : String → (Bytes → Bool) → Row
 optional n is = record { name = ascii n; content = is; needed = false }
 
 -- 1-99P
-abbrev pub isGroupName : Bytes → Bool
-isGroupName v = between 1 99 (length v)
+abbrev pub is_group_name : Bytes → Bool
+is_group_name v = between 1 99 (length v)
 
-abbrev pub appendixB : List Row
-appendixB =
-    required "ACT" isTimestamp
-    ∷ required "BDT" isTimestamp
-    ∷ required "DKG" (isDigits 2)
-    ∷ optional "IUT" isTimestamp
-    ∷ required "KEN" isOctet
-    ∷ required "KRN" (isDigits 1)
-    ∷ required "KTC" (isDigits 1)
-    ∷ required "SGC" (isDigits 10)
-    ∷ optional "SGN" isGroupName
+abbrev pub appendix_b : List Row
+appendix_b =
+    required "ACT" is_timestamp
+    ∷ required "BDT" is_timestamp
+    ∷ required "DKG" (is_digits 2)
+    ∷ optional "IUT" is_timestamp
+    ∷ required "KEN" is_octet
+    ∷ required "KRN" (is_digits 1)
+    ∷ required "KTC" (is_digits 1)
+    ∷ required "SGC" (is_digits 10)
+    ∷ optional "SGN" is_group_name
     ∷ []
 
 -- ---- a card
@@ -52,43 +52,43 @@ holds [] n v = true
 holds (r ∷ rs) n v = cond (same n r.name) (r.content v) (holds rs n v)
 
 -- document 000's limit of a value
-abbrev pub longestValue : ℕ
-longestValue = 252
+abbrev pub longest_value : ℕ
+longest_value = 252
 
 -- a name (3AN), and a value of at most 252 characters that is what Appendix B says
-unfoldable pub isCard : Bytes → Bool
-isCard card =
-    all_of (isAlphanumeric 3 (name_of card) ∷ leb (length (value_of card)) longestValue ∷ holds appendixB (name_of card) (value_of card) ∷ [])
+unfoldable pub is_card : Bytes → Bool
+is_card card =
+    all_of (is_alphanumeric 3 (name_of card) ∷ leb (length (value_of card)) longest_value ∷ holds appendix_b (name_of card) (value_of card) ∷ [])
 
 -- ---- the cards of a list
 
 -- each is a card, and their names stand in strictly ascending order, the first of them behind the name n
-abbrev pub areCards : Bytes → List Bytes → Bool
-areCards n [] = true
-areCards n (c ∷ cs) = isCard c && (after (name_of c) n && areCards (name_of c) cs)
+abbrev pub are_cards : Bytes → List Bytes → Bool
+are_cards n [] = true
+are_cards n (c ∷ cs) = is_card c && (after (name_of c) n && are_cards (name_of c) cs)
 
-abbrev pub hasName : List Bytes → Bytes → Bool
-hasName [] n = false
-hasName (c ∷ cs) n = same (name_of c) n || hasName cs n
+abbrev pub has_name : List Bytes → Bytes → Bool
+has_name [] n = false
+has_name (c ∷ cs) n = same (name_of c) n || has_name cs n
 
 -- every card that the rows require is there
-abbrev pub hasNeeded : List Row → List Bytes → Bool
-hasNeeded [] cs = true
-hasNeeded (r ∷ rs) cs = (not r.needed || hasName cs r.name) && hasNeeded rs cs
+abbrev pub has_needed : List Row → List Bytes → Bool
+has_needed [] cs = true
+has_needed (r ∷ rs) cs = (not r.needed || has_name cs r.name) && has_needed rs cs
 
 -- ---- a list
 
 -- DFPARSE at ';'
-abbrev pub cardsIn : Bytes → List Bytes
-cardsIn s = cut (code ";") s
+abbrev pub cards_in : Bytes → List Bytes
+cards_in s = cut (code ";") s
 
 -- a list that is permitted: the last card is ended too, the cards in their order, and every one that is required
-unfoldable pub areAttributes : Bytes → Bool
-areAttributes s = all_of (endsIn (code ";") s ∷ areCards [] (cardsIn s) ∷ hasNeeded appendixB (cardsIn s) ∷ [])
+unfoldable pub are_attributes : Bytes → Bool
+are_attributes s = all_of (ends_in (code ";") s ∷ are_cards [] (cards_in s) ∷ has_needed appendix_b (cards_in s) ∷ [])
 
 -- the same by the build rule, DFCONCAT(';', cards)
 pub record Listed (s : Bytes) (cs : List Bytes) : Type 0 where
   pub written : s ≡ joined (code ";") cs
   pub apart : WithoutAll (code ";") cs
-  pub in_order : T (areCards [] cs)
-  pub complete : T (hasNeeded appendixB cs)
+  pub in_order : T (are_cards [] cs)
+  pub complete : T (has_needed appendix_b cs)

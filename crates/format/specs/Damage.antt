@@ -5,8 +5,8 @@ use mathlib.Core.List.{List, [], ◌∷◌, Memᴰ}
 use Rattle.crc16.specs.Damage.{AreBytes, Near, flips}
 use Rattle.text.specs.Text.{Bytes, part}
 use Rattle.format.specs.Kinds.{Kind}
-use Rattle.format.specs.Read.{Outcome, accepted, refused, body, check, readRecord}
-use Rattle.format.specs.Files.{lineFeed, Line, walkOver}
+use Rattle.format.specs.Read.{Outcome, accepted, refused, body, check, read_record}
+use Rattle.format.specs.Files.{line_feed, Line, walk_over}
 
 -- the files differ at place p
 abbrev pub Differ : Bytes → Bytes → ℕ → Type 0
@@ -24,21 +24,21 @@ abbrev pub Refused : Outcome → Type 0
 Refused o = (n i : ℕ) × (o ≡ refused n i) × (n ≢ 0)
 
 -- the bytes of a file in the line l
-abbrev pub bytesIn : Line → Bytes → Bytes
-bytesIn l file = part l.start l.size file
+abbrev pub bytes_in : Line → Bytes → Bytes
+bytes_in l file = part l.start l.size file
 
 -- b is a with damage, where `call` is asked about each line, and `Harm` says how the bytes of a damaged line stand to what it was
 pub record DamagedOver (call : Bytes → Outcome) (Harm : Bytes → Bytes → Type 0) (a b : Bytes) : Type 0 where
-  pub bytes-a : AreBytes a
-  pub bytes-b : AreBytes b
+  pub bytes_a : AreBytes a
+  pub bytes_b : AreBytes b
   -- two record files of equal length
   pub long : length a ≡ length b
   -- no differing byte is a line feed in either file
-  pub no-feed : (p : ℕ) → Differ a b p → (get_or a p 0 ≢ lineFeed) × (get_or b p 0 ≢ lineFeed)
+  pub no-feed : (p : ℕ) → Differ a b p → (get_or a p 0 ≢ line_feed) × (get_or b p 0 ≢ line_feed)
   -- they differ only inside lines which the first accepts
-  pub in-accepted : (l : Line) → Memᴰ l (walkOver call a) → (p : ℕ) → Inside l p → Differ a b p → Accepted l.said
+  pub in_accepted : (l : Line) → Memᴰ l (walk_over call a) → (p : ℕ) → Inside l p → Differ a b p → Accepted l.said
   -- in each such line so
-  pub harmed : (l : Line) → Memᴰ l (walkOver call a) → (p : ℕ) → Inside l p → Differ a b p → Harm (bytesIn l a) (bytesIn l b)
+  pub harmed : (l : Line) → Memᴰ l (walk_over call a) → (p : ℕ) → Inside l p → Differ a b p → Harm (bytes_in l a) (bytes_in l b)
 
 -- within two neighbouring places: demand 3
 abbrev pub WithinTwo : Bytes → Bytes → Type 0
@@ -46,8 +46,8 @@ WithinTwo x y = (i : ℕ) × Near i x y
 
 -- in an odd number of bits or in two, all before the last four bytes of a record: E12
 pub record Flipped (x y : Bytes) : Type 0 where
-  pub before-check : check x ≡ check y
-  pub odd-or-two : (flips x y % 2 ≡ 1) ⊎ (flips x y ≡ 2)
+  pub before_check : check x ≡ check y
+  pub odd_or_two : (flips x y % 2 ≡ 1) ⊎ (flips x y ≡ 2)
 
 -- in the last four bytes of a record alone, however
 abbrev pub InCheck : Bytes → Bytes → Type 0
@@ -59,7 +59,7 @@ Either P Q x y = P x y ⊎ Q x y
 
 -- demand 3 in plain files
 abbrev pub Damaged : Bytes → Bytes → Type 0
-Damaged = DamagedOver readRecord WithinTwo
+Damaged = DamagedOver read_record WithinTwo
 
 -- what makes a call catch it: of two lines of one length, of which the second is the first so harmed, it accepts only one, unless they are the same
 abbrev pub Catches : (Bytes → Outcome) → (Bytes → Bytes → Type 0) → Type 0
@@ -72,9 +72,9 @@ pub record Caught (a b : Bytes) (l m : Line) : Type 0 where
   pub same_size : l.size ≡ m.size
   pub same_next : l.next ≡ m.next
   -- a line that differs is refused in the second
-  pub refused-there : (p : ℕ) → Inside l p → Differ a b p → Refused m.said
+  pub refused_there : (p : ℕ) → Inside l p → Differ a b p → Refused m.said
   -- every other line gives the same answer with the same fields
-  pub same-said : ((p : ℕ) → Inside l p → get_or a p 0 ≡ get_or b p 0) → l.said ≡ m.said
+  pub same_said : ((p : ℕ) → Inside l p → get_or a p 0 ≡ get_or b p 0) → l.said ≡ m.said
 
 -- line by line: as many lines, and each caught
 unfoldable pub AllCaught : Bytes → Bytes → List Line → List Line → Type 0

@@ -4,10 +4,10 @@
 use Rattle.std.specs.Prelude.{ℕ, zero, suc, ◌+◌, cond, List, [], ◌∷◌, length, drop, leb, ltb, eqb}
 use Rattle.text.specs.Text.{Bytes}
 use Rattle.numbers.specs.Numbers.{unfinished}
-use Rattle.format.specs.Read.{Outcome, accepted, refused, readRecord}
+use Rattle.format.specs.Read.{Outcome, accepted, refused, read_record}
 
-abbrev pub lineFeed : ℕ
-lineFeed = 0x0A
+abbrev pub line_feed : ℕ
+line_feed = 0x0A
 
 -- what stands before the first c, or everything if there is none
 abbrev pub up_to : ℕ → Bytes → Bytes
@@ -29,17 +29,17 @@ pub data Said : Type 0 where
 -- ---- the line at a place, which `call` is asked about
 
 -- the bytes l from the place to the first line feed, or to the end: number 11 where no line feed follows
-unfoldable pub lineOfOver : (Bytes → Outcome) → Bytes → ℕ → Bytes → Line
-lineOfOver call file place l =
+unfoldable pub line_of_over : (Bytes → Outcome) → Bytes → ℕ → Bytes → Line
+line_of_over call file place l =
     cond (ltb (place + length l) (length file))
     (record { said = call l; start = place; size = length l; next = place + length l + 1 })
     (record { said = refused unfinished 0; start = place; size = length l; next = length file })
 
-unfoldable pub lineAtOver : (Bytes → Outcome) → Bytes → ℕ → Said
-lineAtOver call file place =
+unfoldable pub line_at_over : (Bytes → Outcome) → Bytes → ℕ → Said
+line_at_over call file place =
     cond (leb (length file) place)
     (finished place)
-    (read (lineOfOver call file place (up_to lineFeed (drop place file))))
+    (read (line_of_over call file place (up_to line_feed (drop place file))))
 
 -- ---- walking from a place: call after call, until the file is finished
 
@@ -48,32 +48,32 @@ onward (finished p) walk = []
 onward (read l) walk = l ∷ walk l.next
 
 -- at most `most` lines
-unfoldable pub walkFromOver : (Bytes → Outcome) → ℕ → Bytes → ℕ → List Line
-walkFromOver call zero file place = []
-walkFromOver call (suc most) file place = onward (lineAtOver call file place) (λ next. walkFromOver call most file next)
+unfoldable pub walk_from_over : (Bytes → Outcome) → ℕ → Bytes → ℕ → List Line
+walk_from_over call zero file place = []
+walk_from_over call (suc most) file place = onward (line_at_over call file place) (λ next. walk_from_over call most file next)
 
 -- all lines: no file has more lines than bytes
-unfoldable pub walkOver : (Bytes → Outcome) → Bytes → List Line
-walkOver call file = walkFromOver call (length file) file 0
+unfoldable pub walk_over : (Bytes → Outcome) → Bytes → List Line
+walk_over call file = walk_from_over call (length file) file 0
 
 -- ---- the lines of a file, said without any walk: ls, each of which has its line feed, from place p on, and then t, which has none
 
-unfoldable pub linesFromOver : (Bytes → Outcome) → ℕ → List Bytes → Bytes → List Line
-linesFromOver call p [] [] = []
-linesFromOver call p [] (c ∷ t) = record { said = refused unfinished 0; start = p; size = length (c ∷ t); next = p + length (c ∷ t) } ∷ []
-linesFromOver call p (l ∷ ls) t =
-    record { said = call l; start = p; size = length l; next = p + length l + 1 } ∷ linesFromOver call (p + length l + 1) ls t
+unfoldable pub lines_from_over : (Bytes → Outcome) → ℕ → List Bytes → Bytes → List Line
+lines_from_over call p [] [] = []
+lines_from_over call p [] (c ∷ t) = record { said = refused unfinished 0; start = p; size = length (c ∷ t); next = p + length (c ∷ t) } ∷ []
+lines_from_over call p (l ∷ ls) t =
+    record { said = call l; start = p; size = length l; next = p + length l + 1 } ∷ lines_from_over call (p + length l + 1) ls t
 
 -- ---- a plain file: every line is a record
 
 abbrev pub line_at : Bytes → ℕ → Said
-line_at = lineAtOver readRecord
+line_at = line_at_over read_record
 
 abbrev pub walk : Bytes → List Line
-walk = walkOver readRecord
+walk = walk_over read_record
 
 abbrev pub lines_from : ℕ → List Bytes → Bytes → List Line
-lines_from = linesFromOver readRecord
+lines_from = lines_from_over read_record
 
 -- ---- totals
 
@@ -81,6 +81,6 @@ abbrev pub one : Outcome → ℕ
 one (accepted k fs) = 1
 one (refused n i) = 0
 
-abbrev pub acceptedLines : List Line → ℕ
-acceptedLines [] = 0
-acceptedLines (l ∷ ls) = one l.said + acceptedLines ls
+abbrev pub accepted_lines : List Line → ℕ
+accepted_lines [] = 0
+accepted_lines (l ∷ ls) = one l.said + accepted_lines ls

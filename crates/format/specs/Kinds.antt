@@ -35,41 +35,41 @@ mark RESP = code "|"
 mark KEY = code "|"
 
 -- Manufacturer, MID, GNT, Fingerprint
-abbrev pub identityFields : List Field
-identityFields = Text Ident ∷ Text Ident ∷ Text Timestamp ∷ Text Print ∷ []
+abbrev pub identity_fields : List Field
+identity_fields = Text Ident ∷ Text Ident ∷ Text Timestamp ∷ Text Print ∷ []
 
 -- Subject, Q, Expiry, Issuer, Signature
-abbrev pub pubkeyFields : List Kind → List Field
-pubkeyFields subjects =
+abbrev pub pubkey_fields : List Kind → List Field
+pubkey_fields subjects =
     Identity subjects ∷ Text Point ∷ Text Timestamp ∷ OrEmpty (Identity (SMMAN ∷ [])) ∷ OrEmpty (Text Sig) ∷ []
 
 -- the request: ID_SM, ID_KMC, TVP, HWID, FWID, QE, MacTag; the response: ID_KMC, ID_SM, TVP, MacTag; the wrapped key: Nonce, Attributes,
 -- ProtectedKey
 abbrev pub fields_of : Kind → List Field
-fields_of SMMAN = identityFields
-fields_of SMID = identityFields
-fields_of KMCID = identityFields
-fields_of ECDSA = pubkeyFields (SMMAN ∷ [])
-fields_of ECDH = pubkeyFields (SMID ∷ KMCID ∷ [])
+fields_of SMMAN = identity_fields
+fields_of SMID = identity_fields
+fields_of KMCID = identity_fields
+fields_of ECDSA = pubkey_fields (SMMAN ∷ [])
+fields_of ECDH = pubkey_fields (SMID ∷ KMCID ∷ [])
 fields_of REQ = Identity (SMID ∷ []) ∷ Identity (KMCID ∷ []) ∷ Text Timestamp ∷ Text Ident ∷ Text Ident ∷ Text Point ∷ Text Mac ∷ []
 fields_of RESP = Identity (KMCID ∷ []) ∷ Identity (SMID ∷ []) ∷ Text Timestamp ∷ Text Mac ∷ []
 fields_of KEY = Text (Hex 24) ∷ Printable ∷ Text Protected ∷ []
 
 -- the kinds that an identity call reads, those that a record call reads, and the public keys and the wrapped keys among these
-abbrev pub identityKinds : List Kind
-identityKinds = SMMAN ∷ SMID ∷ KMCID ∷ []
+abbrev pub identity_kinds : List Kind
+identity_kinds = SMMAN ∷ SMID ∷ KMCID ∷ []
 
-abbrev pub recordKinds : List Kind
-recordKinds = ECDSA ∷ ECDH ∷ REQ ∷ RESP ∷ KEY ∷ []
+abbrev pub record_kinds : List Kind
+record_kinds = ECDSA ∷ ECDH ∷ REQ ∷ RESP ∷ KEY ∷ []
 
-abbrev pub pubkeyKinds : List Kind
-pubkeyKinds = ECDSA ∷ ECDH ∷ []
+abbrev pub pubkey_kinds : List Kind
+pubkey_kinds = ECDSA ∷ ECDH ∷ []
 
-abbrev pub keyKinds : List Kind
-keyKinds = KEY ∷ []
+abbrev pub key_kinds : List Kind
+key_kinds = KEY ∷ []
 
-abbrev pub allKinds : List Kind
-allKinds = SMMAN ∷ SMID ∷ KMCID ∷ ECDSA ∷ ECDH ∷ REQ ∷ RESP ∷ KEY ∷ []
+abbrev pub all_kinds : List Kind
+all_kinds = SMMAN ∷ SMID ∷ KMCID ∷ ECDSA ∷ ECDH ∷ REQ ∷ RESP ∷ KEY ∷ []
 
 -- k is one of ks (no two kinds have one name)
 abbrev pub among : Kind → List Kind → Bool
@@ -78,10 +78,10 @@ among k (j ∷ ks) = same (name k) (name j) || among k ks
 
 -- ---- what a record, or an identity in one, is called
 
-abbrev pub isMark : ℕ → Bool
-isMark c = one_of (ascii ":|") c
+abbrev pub is_mark : ℕ → Bool
+is_mark c = one_of (ascii ":|") c
 
 -- what stands before the first mark, whichever that is
 abbrev pub title : Bytes → Bytes
 title [] = []
-title (c ∷ s) = cond (isMark c) [] (c ∷ title s)
+title (c ∷ s) = cond (is_mark c) [] (c ∷ title s)

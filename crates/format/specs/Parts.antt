@@ -20,15 +20,15 @@ last_or c [] = c
 last_or c (d ∷ s) = last_or d s
 
 -- m is the last byte of s; no bytes have no last one
-abbrev pub endsIn : ℕ → Bytes → Bool
-endsIn m [] = false
-endsIn m (c ∷ s) = eqb (last_or c s) m
+abbrev pub ends_in : ℕ → Bytes → Bool
+ends_in m [] = false
+ends_in m (c ∷ s) = eqb (last_or c s) m
 
 -- the parts that the mark m ends; what no mark ends is a part too
-abbrev pub onFirst : ℕ → List Bytes → List Bytes
-onFirst c [] = (c ∷ []) ∷ []
-onFirst c (f ∷ fs) = (c ∷ f) ∷ fs
+abbrev pub on_first : ℕ → List Bytes → List Bytes
+on_first c [] = (c ∷ []) ∷ []
+on_first c (f ∷ fs) = (c ∷ f) ∷ fs
 
 abbrev pub cut : ℕ → Bytes → List Bytes
 cut m [] = []
-cut m (c ∷ s) = cond (eqb c m) ([] ∷ cut m s) (onFirst c (cut m s))
+cut m (c ∷ s) = cond (eqb c m) ([] ∷ cut m s) (on_first c (cut m s))

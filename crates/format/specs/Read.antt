@@ -4,14 +4,14 @@
 use Rattle.std.specs.Prelude.{ℕ, zero, suc, ◌-◌, Bool, true, false, cond, ◌&&◌, List, [], ◌∷◌, length, take, drop, leb, eqb}
 use Prim.Native.Char.{code}
 use Rattle.std.proofs.Math.Option.{Option, none, some}
-use Rattle.crc16.specs.Crc.{crcOf}
-use Rattle.text.specs.Text.{Bytes, same, isHex, is_of, isPrintable}
-use Rattle.text.specs.Base16.{checkText}
-use Rattle.numbers.specs.Numbers.{tooLong, unknownKind, missingCheck, wrongCheck, wrongCount, wrongText, wrongIdentity, unpaired, wrongKind, wrongAttributes, moduleUnsigned}
-pub use Rattle.format.specs.Parts.{last_or, endsIn, onFirst, cut}
-pub use Rattle.format.specs.Kinds.{isMark, title}
-use Rattle.format.specs.Kinds.{Kind, Field, Text, Printable, Identity, OrEmpty, name, mark, fields_of, identityKinds, recordKinds, among}
-use Rattle.format.specs.Build.{empty, paired, attributed, signed, longestRecord}
+use Rattle.crc16.specs.Crc.{crc_of}
+use Rattle.text.specs.Text.{Bytes, same, is_hex, is_of, is_printable}
+use Rattle.text.specs.Base16.{check_text}
+use Rattle.numbers.specs.Numbers.{too_long, unknown_kind, missing_check, wrong_check, wrong_count, wrong_text, wrong_identity, unpaired, wrong_kind, wrong_attributes, module_unsigned}
+pub use Rattle.format.specs.Parts.{last_or, ends_in, on_first, cut}
+pub use Rattle.format.specs.Kinds.{is_mark, title}
+use Rattle.format.specs.Kinds.{Kind, Field, Text, Printable, Identity, OrEmpty, name, mark, fields_of, identity_kinds, record_kinds, among}
+use Rattle.format.specs.Build.{empty, paired, attributed, signed, longest_record}
 use Rattle.format.specs.declared.Rules.{Rules}
 use Rattle.format.specs.declared.Rules.TheVariants.{Today}
 
@@ -43,18 +43,18 @@ passing (suc n) i o = refused (suc n) i
 -- ---- number 2: the kind
 
 -- the mark behind the title (0 if there is none)
-abbrev pub markAfter : Bytes → ℕ
-markAfter [] = 0
-markAfter (c ∷ s) = cond (isMark c) c (markAfter s)
+abbrev pub mark_after : Bytes → ℕ
+mark_after [] = 0
+mark_after (c ∷ s) = cond (is_mark c) c (mark_after s)
 
 -- the kind among ks that has this name and this mark
-abbrev pub kindIn : List Kind → Bytes → ℕ → Option Kind
-kindIn [] t m = none
-kindIn (k ∷ ks) t m = cond (same t (name k) && eqb m (mark k)) (some k) (kindIn ks t m)
+abbrev pub kind_in : List Kind → Bytes → ℕ → Option Kind
+kind_in [] t m = none
+kind_in (k ∷ ks) t m = cond (same t (name k) && eqb m (mark k)) (some k) (kind_in ks t m)
 
-abbrev pub ofKind : Option Kind → (Kind → Outcome) → Outcome
-ofKind none r = refused unknownKind 0
-ofKind (some k) r = r k
+abbrev pub of_kind : Option Kind → (Kind → Outcome) → Outcome
+of_kind none r = refused unknown_kind 0
+of_kind (some k) r = r k
 
 -- ---- numbers 3, 4 and 5: the check and the fields
 
@@ -67,79 +67,79 @@ check s = drop (length s - 4) s
 
 -- the number that the check of s is answered, where the mark is m: 3 where the last four bytes are not HEX(4) or the byte before them is not
 -- there or not the mark, 4 where the check differs
-unfoldable pub checkNo : ℕ → Bytes → ℕ
-checkNo m s =
-    cond (isHex 4 (check s) && endsIn m (body s))
-    (cond (same (check s) (checkText (crcOf (body s)))) 0 wrongCheck)
-    missingCheck
+unfoldable pub check_no : ℕ → Bytes → ℕ
+check_no m s =
+    cond (is_hex 4 (check s) && ends_in m (body s))
+    (cond (same (check s) (check_text (crc_of (body s)))) 0 wrong_check)
+    missing_check
 
 -- the fields: the parts of the body but for the first, which is the kind's name
-abbrev pub fieldsIn : Kind → Bytes → List Bytes
-fieldsIn k s = drop 1 (cut (mark k) (body s))
+abbrev pub fields_in : Kind → Bytes → List Bytes
+fields_in k s = drop 1 (cut (mark k) (body s))
 
 -- ---- numbers 6, 7 and 9: one field, and 8, 14 and 28: the fields together
 
 -- an identity to which the identity call says o, where the kinds ks are permitted
-unfoldable pub identityAnswer : List Kind → Outcome → ℕ
-identityAnswer ks (refused n i) = wrongIdentity
-identityAnswer ks (accepted k fs) = cond (among k ks) 0 wrongKind
+unfoldable pub identity_answer : List Kind → Outcome → ℕ
+identity_answer ks (refused n i) = wrong_identity
+identity_answer ks (accepted k fs) = cond (among k ks) 0 wrong_kind
 
 -- what a field is answered, 0 if nothing is wrong; `ask` is the identity call
-unfoldable pub fieldAnswer : (Bytes → Outcome) → Field → Bytes → ℕ
-fieldAnswer ask (Text t) f = cond (is_of t f) 0 wrongText
-fieldAnswer ask Printable f = cond (isPrintable f) 0 wrongText
-fieldAnswer ask (Identity ks) f = identityAnswer ks (ask f)
-fieldAnswer ask (OrEmpty t) f = cond (empty f) 0 (fieldAnswer ask t f)
+unfoldable pub field_answer : (Bytes → Outcome) → Field → Bytes → ℕ
+field_answer ask (Text t) f = cond (is_of t f) 0 wrong_text
+field_answer ask Printable f = cond (is_printable f) 0 wrong_text
+field_answer ask (Identity ks) f = identity_answer ks (ask f)
+field_answer ask (OrEmpty t) f = cond (empty f) 0 (field_answer ask t f)
 
 -- the fields from left to right, the first of them being number i
 abbrev pub each : (Bytes → Outcome) → ℕ → List Field → List Bytes → Outcome → Outcome
 each ask i [] fs o = o
 each ask i (t ∷ ts) [] o = o
-each ask i (t ∷ ts) (f ∷ fs) o = passing (fieldAnswer ask t f) i (each ask (suc i) ts fs o)
+each ask i (t ∷ ts) (f ∷ fs) o = passing (field_answer ask t f) i (each ask (suc i) ts fs o)
 
 -- what the fields together are answered
-unfoldable pub wholeAnswer : Rules → Kind → List Bytes → ℕ
-wholeAnswer rules k fs =
+unfoldable pub whole_answer : Rules → Kind → List Bytes → ℕ
+whole_answer rules k fs =
     cond (paired k fs)
     (cond (attributed k fs)
-    (cond (signed rules k fs) 0 moduleUnsigned)
-    wrongAttributes)
+    (cond (signed rules k fs) 0 module_unsigned)
+    wrong_attributes)
     unpaired
 
 -- the fields fs of a record of kind k: each of them, and then all together
 unfoldable pub judged : Rules → (Bytes → Outcome) → Kind → List Bytes → Outcome → Outcome
-judged rules ask k fs o = each ask 1 (fields_of k) fs (passing (wholeAnswer rules k fs) 0 o)
+judged rules ask k fs o = each ask 1 (fields_of k) fs (passing (whole_answer rules k fs) 0 o)
 
 -- ---- the calls
 
 -- s, which begins with the name and the mark of the kind k
-unfoldable pub readAs : Rules → (Bytes → Outcome) → Bytes → Kind → Outcome
-readAs rules ask s k =
-    passing (checkNo (mark k) s) 0
-    (provided (eqb (length (fieldsIn k s)) (length (fields_of k))) wrongCount
-    (judged rules ask k (fieldsIn k s)
-    (accepted k (fieldsIn k s))))
+unfoldable pub read_as : Rules → (Bytes → Outcome) → Bytes → Kind → Outcome
+read_as rules ask s k =
+    passing (check_no (mark k) s) 0
+    (provided (eqb (length (fields_in k s)) (length (fields_of k))) wrong_count
+    (judged rules ask k (fields_in k s)
+    (accepted k (fields_in k s))))
 
 -- a call that reads the kinds ks
-unfoldable pub readOver : Rules → (Bytes → Outcome) → List Kind → Bytes → Outcome
-readOver rules ask ks s =
-    provided (leb (length s) longestRecord) tooLong
-    (ofKind (kindIn ks (title s) (markAfter s)) (readAs rules ask s))
+unfoldable pub read_over : Rules → (Bytes → Outcome) → List Kind → Bytes → Outcome
+read_over rules ask ks s =
+    provided (leb (length s) longest_record) too_long
+    (of_kind (kind_in ks (title s) (mark_after s)) (read_as rules ask s))
 
 -- whom the identity call asks: an identity has no identity in it
 abbrev pub nobody : Bytes → Outcome
-nobody f = refused unknownKind 0
+nobody f = refused unknown_kind 0
 
 -- the identity call
-unfoldable pub readIdentity : Bytes → Outcome
-readIdentity s = readOver Today nobody identityKinds s
+unfoldable pub read_identity : Bytes → Outcome
+read_identity s = read_over Today nobody identity_kinds s
 
 -- a call that reads the kinds ks of records under some rules, one that reads them today, and the record call, which reads them all
-unfoldable pub readUnder : Rules → List Kind → Bytes → Outcome
-readUnder rules ks s = readOver rules readIdentity ks s
+unfoldable pub read_under : Rules → List Kind → Bytes → Outcome
+read_under rules ks s = read_over rules read_identity ks s
 
 abbrev pub read_of : List Kind → Bytes → Outcome
-read_of = readUnder Today
+read_of = read_under Today
 
-unfoldable pub readRecord : Bytes → Outcome
-readRecord s = read_of recordKinds s
+unfoldable pub read_record : Bytes → Outcome
+read_record s = read_of record_kinds s

@@ -3,11 +3,11 @@
 use Rattle.std.specs.Prelude.{List, [], get_or}
 use Rattle.text.specs.Text.{Bytes}
 
-abbrev pub idSm : List Bytes → Bytes
-idSm fs = get_or fs 0 []
+abbrev pub id_sm : List Bytes → Bytes
+id_sm fs = get_or fs 0 []
 
-abbrev pub idKmc : List Bytes → Bytes
-idKmc fs = get_or fs 1 []
+abbrev pub id_kmc : List Bytes → Bytes
+id_kmc fs = get_or fs 1 []
 
 abbrev pub tvp : List Bytes → Bytes
 tvp fs = get_or fs 2 []

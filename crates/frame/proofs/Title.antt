@@ -9,45 +9,45 @@ use native.Mathlib.Numerals.{add-one}
 use lib.ListN.{length, take, drop, get_or, drop_of_length-le, length-take}
 use lib.Seq.{drop-cons}
 use Rattle.text.specs.Text.{Bytes}
-use Rattle.format.specs.Read.{isMark, title, markAfter}
+use Rattle.format.specs.Read.{is_mark, title, mark_after}
 
 -- ---- a turn of the loop
 
 module _ (s : Bytes) (i : ℕ) where
-  pub title-here : i < length s → isMark (get_or s i 0) ≡ true → length (title (drop i s)) ≡ 0
-  title-here h e = rw (drop-cons s i 0 h, e)
+  pub title_here : i < length s → is_mark (get_or s i 0) ≡ true → length (title (drop i s)) ≡ 0
+  title_here h e = rw (drop-cons s i 0 h, e)
 
-  pub title-on : i < length s → isMark (get_or s i 0) ≡ false → length (title (drop i s)) ≡ suc (length (title (drop (i + 1) s)))
-  title-on h e = rw (drop-cons s i 0 h, e, add-one)
+  pub title_on : i < length s → is_mark (get_or s i 0) ≡ false → length (title (drop i s)) ≡ suc (length (title (drop (i + 1) s)))
+  title_on h e = rw (drop-cons s i 0 h, e, add-one)
 
-  pub title-end : length s ≤ i → length (title (drop i s)) ≡ 0
-  title-end h = rw (drop_of_length-le s h)
+  pub title_end : length s ≤ i → length (title (drop i s)) ≡ 0
+  title_end h = rw (drop_of_length-le s h)
 
 -- ---- the title and its mark, by the title's length
 
-title-take : (s : Bytes) → take (length (title s)) s ≡ title s
-title-take [] = refl
-title-take (c ∷ s) = go (isMark c) (title-take s)
+title_take : (s : Bytes) → take (length (title s)) s ≡ title s
+title_take [] = refl
+title_take (c ∷ s) = go (is_mark c) (title_take s)
   where
     go : (b : Bool) → take (length (title s)) s ≡ title s → take (length (cond b [] (c ∷ title s))) (c ∷ s) ≡ cond b [] (c ∷ title s)
     go true e = refl
     go false e = ap (λ (x : Bytes). c ∷ x) e
 
-pub title-within : (s : Bytes) → length (title s) ≤ length s
-title-within s = omega (arith, ap length (title-take s), length-take (length (title s)) s)
+pub title_within : (s : Bytes) → length (title s) ≤ length s
+title_within s = omega (arith, ap length (title_take s), length-take (length (title s)) s)
 
-mark-get : (s : Bytes) → get_or s (length (title s)) 0 ≡ markAfter s
-mark-get [] = refl
-mark-get (c ∷ s) = go (isMark c) (mark-get s)
+mark_get : (s : Bytes) → get_or s (length (title s)) 0 ≡ mark_after s
+mark_get [] = refl
+mark_get (c ∷ s) = go (is_mark c) (mark_get s)
   where
-    go : (b : Bool) → get_or s (length (title s)) 0 ≡ markAfter s → get_or (c ∷ s) (length (cond b [] (c ∷ title s))) 0 ≡ cond b c (markAfter s)
+    go : (b : Bool) → get_or s (length (title s)) 0 ≡ mark_after s → get_or (c ∷ s) (length (cond b [] (c ∷ title s))) 0 ≡ cond b c (mark_after s)
     go true e = refl
     go false e = e
 
 module _ (s : Bytes) (n : ℕ) (e : n ≡ length (title s)) where
   -- as code takes a part from the start
-  pub title-part : take (n - 0) (drop 0 s) ≡ title s
-  title-part = let z : n - 0 ≡ length (title s) = omega arith in rw z (title-take s)
+  pub title_part : take (n - 0) (drop 0 s) ≡ title s
+  title_part = let z : n - 0 ≡ length (title s) = omega arith in rw z (title_take s)
 
-  pub title-mark : get_or s n 0 ≡ markAfter s
-  title-mark = rw e (mark-get s)
+  pub title_mark : get_or s n 0 ≡ mark_after s
+  title_mark = rw e (mark_get s)

@@ -2,8 +2,8 @@
 // marks, and its check. No call has a `requires`: a record too short for a check has an empty body.
 ghost use Rattle.std.specs.Prelude.{◌≡◌, ◌-◌, length};
 ghost use Rattle.text.specs.Part.{Part};
-ghost use Rattle.format.specs.Read.{isMark, title, markAfter, body, check, endsIn, checkNo};
-ghost use Rattle.frame.specs.Frame.{nextMark, partStart, IsPart};
+ghost use Rattle.format.specs.Read.{is_mark, title, mark_after, body, check, ends_in, check_no};
+ghost use Rattle.frame.specs.Frame.{next_mark, part_start, IsPart};
 
 const CHECK_LENGTH: usize = 4;
 
@@ -11,7 +11,7 @@ const CHECK_LENGTH: usize = 4;
 
 // A mark of either sort.
 fn is_mark(c: u8) -> bool
-    ensures { result ≡ isMark c }
+    ensures { result ≡ is_mark c }
 {
     if c == b':' {
         return true;
@@ -42,7 +42,7 @@ pub fn title_of<'a>(s: &'a [u8]) -> &'a [u8]
 
 // The first mark of either sort, and 0 if there is none.
 pub fn mark_after(s: &[u8]) -> u8
-    ensures { result ≡ markAfter s.now }
+    ensures { result ≡ mark_after s.now }
 {
     let at = title_length(s);
     if at < s.len() {
@@ -55,7 +55,7 @@ pub fn mark_after(s: &[u8]) -> u8
 
 // The first place of the mark at or after `from`, or the end.
 pub fn next_mark(mark: u8, s: &[u8], from: usize) -> usize
-    ensures { result ≡ nextMark mark s.now from }
+    ensures { result ≡ next_mark mark s.now from }
 {
     let mut i = from;
     while i < s.len() {
@@ -70,7 +70,7 @@ pub fn next_mark(mark: u8, s: &[u8], from: usize) -> usize
 // Where part n, from 0, begins: behind the parts before it, each with its mark. Where there are not so many, behind the
 // last.
 pub fn part_start(mark: u8, s: &[u8], n: usize) -> usize
-    ensures { result ≡ partStart mark s.now n }
+    ensures { result ≡ part_start mark s.now n }
 {
     let mut k: usize = 0;
     let mut i: usize = 0;
@@ -126,7 +126,7 @@ fn check_of<'a>(s: &'a [u8]) -> &'a [u8]
 
 // The mark is the last byte; no bytes have no last one.
 fn ends_in(mark: u8, s: &[u8]) -> bool
-    ensures { result ≡ endsIn mark s.now }
+    ensures { result ≡ ends_in mark s.now }
 {
     if s.len() == 0 {
         return false;
@@ -137,7 +137,7 @@ fn ends_in(mark: u8, s: &[u8]) -> bool
 
 // 3 where no check or no mark before it stands at the end, 4 where the check differs, else 0.
 pub fn check_no(mark: u8, s: &[u8]) -> u8
-    ensures { result ≡ checkNo mark s.now }
+    ensures { result ≡ check_no mark s.now }
 {
     let check = check_of(s);
     if !text::is_hex(CHECK_LENGTH, check) {

@@ -11,8 +11,8 @@ use Rattle.put.specs.Put.{Puts}
 use Rattle.put.proofs.Pieces.{put_of}
 use Rattle.hashing.specs.Blocks.{hashed}
 use Rattle.hashing.specs.State.{Keeping, zeroed, taken, added}
-use Rattle.hashing.proofs.Zeros.{zeroed-more, length-zeroed, no-zeros}
-use Rattle.hashing.proofs.Taken.{Enough, taken-front, taken-short}
+use Rattle.hashing.proofs.Zeros.{zeroed_more, length_zeroed, no_zeros}
+use Rattle.hashing.proofs.Taken.{Enough, taken_front, taken_short}
 
 -- the state s, of whose block so many bytes are used, with the bytes m
 module _ {H S : Type 0} (size : ℕ) (compress : H → List ℕ → H) (keeping : Keeping H S) (enough : Enough size keeping)
@@ -23,28 +23,28 @@ module _ {H S : Type 0} (size : ℕ) (compress : H → List ℕ → H) (keeping 
   abbrev x : List ℕ
   x = take used (keeping.block s)
 
-  used-less : used < size
-  used-less = rw used-so (mod-lt (keeping.count s) enough.some)
+  used_less : used < size
+  used_less = rw used-so (mod-lt (keeping.count s) enough.some)
 
-  length-used : length x ≡ used
-  length-used = length-take-le used (keeping.block s) (omega (arith, full, used-less))
+  length_used : length x ≡ used
+  length_used = length-take-le used (keeping.block s) (omega (arith, full, used_less))
 
   -- the block once the bytes y are written behind what waits
-  block-is : (y b b' : List ℕ) {r : ℕ} → used + length y ≤ size → b ≡ zeroed size x → Puts b used y b' r → b' ≡ zeroed size (x ++ y)
-  block-is y b b' h e p =
-      let l : length b ≡ size = ap length e ∙ length-zeroed size x (omega (arith, length-used)) in
-      (put_of (omega (arith, l)) p).written ∙ rw e (zeroed-more size x y (sym length-used) (omega (arith, length-used)))
+  block_is : (y b b' : List ℕ) {r : ℕ} → used + length y ≤ size → b ≡ zeroed size x → Puts b used y b' r → b' ≡ zeroed size (x ++ y)
+  block_is y b b' h e p =
+      let l : length b ≡ size = ap length e ∙ length_zeroed size x (omega (arith, length_used)) in
+      (put_of (omega (arith, l)) p).written ∙ rw e (zeroed_more size x y (sym length_used) (omega (arith, length_used)))
 
   added_is : added size compress keeping s m ≡ taken size compress keeping (keeping.hash s) (x ++ m) n
   unfolding added
   added_is = ap (λ (j : ℕ). taken size compress keeping (keeping.hash s) (take j (keeping.block s) ++ m) n) (sym used-so)
 
-  pub added-short : {b b' : List ℕ} {r : ℕ} → length m < size - used → b ≡ zeroed size x → Puts b used m b' r
+  pub added_short : {b b' : List ℕ} {r : ℕ} → length m < size - used → b ≡ zeroed size x → Puts b used m b' r
       → keeping.kept (keeping.hash s) b' n ≡ added size compress keeping s m
-  added-short {b} {b'} {r} h e p =
-      let short : length (x ++ m) < size = rw length-append (omega (arith, length-used)) in
-      ap (λ (z : List ℕ). keeping.kept (keeping.hash s) z n) (block-is m b b' (omega arith) e p)
-      ∙ sym (added_is ∙ taken-short size compress keeping enough (keeping.hash s) (x ++ m) n short)
+  added_short {b} {b'} {r} h e p =
+      let short : length (x ++ m) < size = rw length-append (omega (arith, length_used)) in
+      ap (λ (z : List ℕ). keeping.kept (keeping.hash s) z n) (block_is m b b' (omega arith) e p)
+      ∙ sym (added_is ∙ taken_short size compress keeping enough (keeping.hash s) (x ++ m) n short)
 
   -- room for so many is left in the block, and whole blocks end there
   abbrev room : ℕ
@@ -53,19 +53,19 @@ module _ {H S : Type 0} (size : ℕ) (compress : H → List ℕ → H) (keeping 
   abbrev whole : ℕ
   whole = room + (length m - room) / size * size
 
-  pub added-long : {v : H} {b b' b'' middle rest : List ℕ} {r : ℕ} → room ≤ length m → b ≡ zeroed size x → Puts b used (take room m) b' r
+  pub added_long : {v : H} {b b' b'' middle rest : List ℕ} {r : ℕ} → room ≤ length m → b ≡ zeroed size x → Puts b used (take room m) b' r
       → middle ≡ take (whole - room) (drop room m) → rest ≡ take (length m - whole) (drop whole m)
       → v ≡ hashed size compress (hashed size compress (keeping.hash s) b' (length b' / size)) middle (length middle / size) → b'' ≡ zeroed size rest
       → keeping.kept v b'' n ≡ added size compress keeping s m
-  added-long {v} {b} {b'} {b''} {middle} {rest} {r} h e p em er ev eb =
+  added_long {v} {b} {b'} {b''} {middle} {rest} {r} h e p em er ev eb =
       let q = (length m - room) / size in
       let hash = keeping.hash s in
       let first = x ++ take room m in
       let lt : length (take room m) ≡ room = length-take-le room m h in
-      let lf : length first ≡ size = length-append x (take room m) ∙ omega (arith, length-used, lt, used-less) in
+      let lf : length first ≡ size = length-append x (take room m) ∙ omega (arith, length_used, lt, used_less) in
       let parts : q * size + (length m - room) % size ≡ length m - room = div-add-mod' (length m - room) size in
       let lm : length middle ≡ size * q = ap length em ∙ length-take-le (whole - room) (drop room m) (rw length-drop (omega (arith, parts))) ∙ omega (arith, parts) in
-      let full_block : b' ≡ first = block-is (take room m) b b' (omega (arith, lt, used-less)) e p ∙ no-zeros size first lf in
+      let full_block : b' ≡ first = block_is (take room m) b b' (omega (arith, lt, used_less)) e p ∙ no_zeros size first lf in
       let er' : rest ≡ drop (whole - room) (drop room m) = er ∙ take_all (length m - whole) (drop whole m) (rw length-drop (omega arith)) ∙ sym (drop-drop (whole - room) room m ∙ ap (λ (j : ℕ). drop j m) ends) in
       let lr : length rest < size = rw (er', length-drop, length-drop) (omega (arith, parts, mod-lt (length m - room) enough.some)) in
       let split : x ++ m ≡ first ++ (middle ++ rest) =
@@ -77,9 +77,9 @@ module _ {H S : Type 0} (size : ℕ) (compress : H → List ℕ → H) (keeping 
       ap₂ (λ (u : H) (z : List ℕ). keeping.kept u z n) value eb
       ∙ sym (added_is
       ∙ ap (λ (y : List ℕ). taken size compress keeping hash y n) split
-      ∙ taken-front size compress keeping enough hash first (middle ++ rest) 1 n (lf ∙ sym (mul-one size))
-      ∙ taken-front size compress keeping enough (hashed size compress hash first 1) middle rest q n lm
-      ∙ taken-short size compress keeping enough (hashed size compress (hashed size compress hash first 1) middle q) rest n lr)
+      ∙ taken_front size compress keeping enough hash first (middle ++ rest) 1 n (lf ∙ sym (mul-one size))
+      ∙ taken_front size compress keeping enough (hashed size compress hash first 1) middle rest q n lm
+      ∙ taken_short size compress keeping enough (hashed size compress (hashed size compress hash first 1) middle q) rest n lr)
     where
       ends : room + (whole - room) ≡ whole
       ends = omega arith

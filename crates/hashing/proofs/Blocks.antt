@@ -10,37 +10,37 @@ use lib.Seq.{take-append-le, drop-append-le, drop-append-add}
 use Rattle.hashing.specs.Blocks.{block, hashed}
 use Rattle.hashing.proofs.Turns.{turns_more, turns_then, turns_same}
 
-block-front : (size : ℕ) (x y : List ℕ) (n : ℕ) → size * n + size ≤ length x → block size (x ++ y) n ≡ block size x n
+block_front : (size : ℕ) (x y : List ℕ) (n : ℕ) → size * n + size ≤ length x → block size (x ++ y) n ≡ block size x n
 unfolding block
-block-front size x y n h =
+block_front size x y n h =
     let p : size ≤ length (drop (size * n) x) = simp length-drop (omega arith) in
     rw (drop-append-le (size * n) x y (omega arith), take-append-le size (drop (size * n) x) y p)
 
-block-behind : (size : ℕ) (x y : List ℕ) (q n : ℕ) → length x ≡ size * q → block size (x ++ y) (q + n) ≡ block size y n
+block_behind : (size : ℕ) (x y : List ℕ) (q n : ℕ) → length x ≡ size * q → block size (x ++ y) (q + n) ≡ block size y n
 unfolding block
-block-behind size x y q n h =
+block_behind size x y q n h =
     let e : size * (q + n) ≡ length x + size * n = omega (arith, h) in
     rw (e, drop-append-add)
 
 module _ {H : Type 0} (size : ℕ) (compress : H → List ℕ → H) where
   -- what follows the first blocks does not change their hash value
-  pub hashed-front : (v : H) (x y : List ℕ) (n : ℕ) → size * n ≤ length x → hashed size compress v (x ++ y) n ≡ hashed size compress v x n
+  pub hashed_front : (v : H) (x y : List ℕ) (n : ℕ) → size * n ≤ length x → hashed size compress v (x ++ y) n ≡ hashed size compress v x n
   unfolding hashed
-  hashed-front v x y n h = turns_same _ _ v n (λ u i l. ap (compress u) (block-front size x y i (omega (arith, mul-le-mul_left size l))))
+  hashed_front v x y n h = turns_same _ _ v n (λ u i l. ap (compress u) (block_front size x y i (omega (arith, mul-le-mul_left size l))))
 
   -- whole blocks, and then others
-  pub hashed-then : (v : H) (x y : List ℕ) (q n : ℕ) → length x ≡ size * q
+  pub hashed_then : (v : H) (x y : List ℕ) (q n : ℕ) → length x ≡ size * q
       → hashed size compress v (x ++ y) (q + n) ≡ hashed size compress (hashed size compress v x q) y n
   unfolding hashed
-  hashed-then v x y q n h =
+  hashed_then v x y q n h =
       turns_then _ v q n
-      ∙ turns_same _ _ _ n (λ u i l. ap (compress u) (block-behind size x y q i h))
-      ∙ ap (λ (u : H). hashed size compress u y n) (hashed-front v x y q (omega (arith, h)))
+      ∙ turns_same _ _ _ n (λ u i l. ap (compress u) (block_behind size x y q i h))
+      ∙ ap (λ (u : H). hashed size compress u y n) (hashed_front v x y q (omega (arith, h)))
 
   -- one block more, as the code cuts it
-  pub hashed-more : (v : H) (m : List ℕ) (i : ℕ) {h r : H} → h ≡ hashed size compress v m i
+  pub hashed_more : (v : H) (m : List ℕ) (i : ℕ) {h r : H} → h ≡ hashed size compress v m i
       → r ≡ compress h (take (size * i + size - size * i) (drop (size * i) m)) → r ≡ hashed size compress v m (i + 1)
   unfolding hashed block
-  hashed-more v m i e f =
+  hashed_more v m i e f =
       let n : size * i + size - size * i ≡ size = omega arith in
       turns_more _ v i e (rw n at f)

@@ -29,7 +29,7 @@ abbrev pub lowest : List ℕ → List ℕ → List ℕ
 lowest [] rest = rest
 lowest (x ∷ xs) rest = x % 256 ∷ lowest xs rest
 
-pub bytes-more : (xs rest : List ℕ) → AreBytes rest → AreBytes (lowest xs rest)
-bytes-more [] rest h k = h k
-bytes-more (x ∷ xs) rest h zero = omega arith
-bytes-more (x ∷ xs) rest h (suc k) = bytes-more xs rest h k
+pub bytes_more : (xs rest : List ℕ) → AreBytes rest → AreBytes (lowest xs rest)
+bytes_more [] rest h k = h k
+bytes_more (x ∷ xs) rest h zero = omega arith
+bytes_more (x ∷ xs) rest h (suc k) = bytes_more xs rest h k

@@ -19,9 +19,9 @@ module _ {A : Type 0} (turn : A → ℕ → A) (v : A) where
   turns_more n e h = rw (add-one n, ← e) h
 
   -- four more
-  pub turns-four : (n : ℕ) {u u₁ u₂ u₃ u₄ : A} → u ≡ turns turn v n
+  pub turns_four : (n : ℕ) {u u₁ u₂ u₃ u₄ : A} → u ≡ turns turn v n
       → u₁ ≡ turn u n → u₂ ≡ turn u₁ (n + 1) → u₃ ≡ turn u₂ (n + 2) → u₄ ≡ turn u₃ (n + 3) → u₄ ≡ turns turn v (n + 4)
-  turns-four n e e₁ e₂ e₃ e₄ =
+  turns_four n e e₁ e₂ e₃ e₄ =
       let s₂ : n + 1 + 1 ≡ n + 2 = omega arith in
       let s₃ : n + 2 + 1 ≡ n + 3 = omega arith in
       let s₄ : n + 3 + 1 ≡ n + 4 = omega arith in
@@ -50,22 +50,22 @@ pub record Filled (l w : List ℕ) (t : ℕ) : Type 0 where
   pub whole : length w ≡ 80
   pub front : take t w ≡ l
 
-pub filled-all : {l w : List ℕ} {t : ℕ} → Filled l w t → t ≡ 80 → w ≡ l
-filled-all {l} {w} {t} f e = sym (take_all t w (omega (arith, f.whole))) ∙ f.front
+pub filled_all : {l w : List ℕ} {t : ℕ} → Filled l w t → t ≡ 80 → w ≡ l
+filled_all {l} {w} {t} f e = sym (take_all t w (omega (arith, f.whole))) ∙ f.front
 
 module _ (next : List ℕ → ℕ → ℕ) (l : List ℕ) where
   -- one more
-  pub grown-step : {w : List ℕ} {n t x : ℕ} → Filled (grown next l n) w t → t < 80 → x ≡ next (grown next l n) n → Filled (grown next l (n + 1)) (set w t x) (t + 1)
+  pub grown_step : {w : List ℕ} {n t x : ℕ} → Filled (grown next l n) w t → t < 80 → x ≡ next (grown next l n) n → Filled (grown next l (n + 1)) (set w t x) (t + 1)
   unfolding grown turns
-  grown-step {w} {n} {t} {x} f h e = record {
+  grown_step {w} {n} {t} {x} f h e = record {
     room = omega arith;
     whole = length-set w t x ∙ f.whole;
     front = rw (add-one t, add-one n, ← e) (take-suc-set w t x (omega arith) ∙ ap (λ (z : List ℕ). z ++ x ∷ []) f.front);
   }
 
   -- the word after the first 16 + n, which is made of words that stand before it
-  pub schedule-step : ((w : List ℕ) (n : ℕ) → next w n ≡ next (take (n + 16) w) n)
+  pub schedule_step : ((w : List ℕ) (n : ℕ) → next w n ≡ next (take (n + 16) w) n)
       → {w : List ℕ} {n x : ℕ} → Filled (grown next l n) w (n + 16) → n < 64 → x ≡ next w n → Filled (grown next l (n + 1)) (set w (n + 16) x) (n + 1 + 16)
-  schedule-step front {w} {n} {x} f h e =
+  schedule_step front {w} {n} {x} f h e =
       let p : n + 1 + 16 ≡ n + 16 + 1 = omega arith in
-      rw p (grown-step f (omega arith) (e ∙ front w n ∙ ap (λ (z : List ℕ). next z n) f.front))
+      rw p (grown_step f (omega arith) (e ∙ front w n ∙ ap (λ (z : List ℕ). next z n) f.front))

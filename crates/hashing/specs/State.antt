@@ -30,9 +30,9 @@ module _ {H S : Type 0} (size : ℕ) (compress : H → List ℕ → H) (keeping 
   added s m = taken (keeping.hash s) (waiting size keeping s ++ m) (keeping.count s + length m)
 
 -- given one slice after another
-unfoldable pub addedAll : {S : Type 0} → (S → List ℕ → S) → S → List (List ℕ) → S
-addedAll added s [] = s
-addedAll added s (m ∷ ms) = addedAll added (added s m) ms
+unfoldable pub added_all : {S : Type 0} → (S → List ℕ → S) → S → List (List ℕ) → S
+added_all added s [] = s
+added_all added s (m ∷ ms) = added_all added (added s m) ms
 
 -- these slices one behind the other
 unfoldable pub together : List (List ℕ) → List ℕ

@@ -15,22 +15,22 @@ use Rattle.put.specs.Put.{Puts}
 use Rattle.put.proofs.Pieces.{put_of}
 use Rattle.sha384.specs.Sha384.{sha384}
 use Rattle.sha384.specs.State.{zeroed}
-use Rattle.hashing.proofs.Zeros.{zeroed-more}
+use Rattle.hashing.proofs.Zeros.{zeroed_more}
 use Rattle.hmac.specs.Hmac.{K₀, mixed}
 
 -- ---- zeros after the key, or after its hash
 
 filled : (x : Bytes) {o : Bytes} {r : ℕ} → length x ≤ 128 → Puts (replicate 128 0) 0 x o r → o ≡ zeroed x
-filled x h p = (put_of (omega arith) p).written ∙ zeroed-more 128 [] x refl (omega arith)
+filled x h p = (put_of (omega arith) p).written ∙ zeroed_more 128 [] x refl (omega arith)
 
 module _ (k : Bytes) where
-  pub key-long : {h o : Bytes} {r : ℕ} → 128 < length k → length h ≡ 48 → h ≡ sha384 k → Puts (replicate 128 0) 0 h o r → o ≡ K₀ k
+  pub key_long : {h o : Bytes} {r : ℕ} → 128 < length k → length h ≡ 48 → h ≡ sha384 k → Puts (replicate 128 0) 0 h o r → o ≡ K₀ k
   unfolding K₀
-  key-long {h} l n e p = rw (lt-leb (length k) 128 l, ← e) (filled h (omega (arith, n)) p)
+  key_long {h} l n e p = rw (lt-leb (length k) 128 l, ← e) (filled h (omega (arith, n)) p)
 
-  pub key-short : {o : Bytes} {r : ℕ} → length k ≤ 128 → Puts (replicate 128 0) 0 k o r → o ≡ K₀ k
+  pub key_short : {o : Bytes} {r : ℕ} → length k ≤ 128 → Puts (replicate 128 0) 0 k o r → o ≡ K₀ k
   unfolding K₀
-  key-short l p = rw (le-leb (length k) 128 l) (filled k l p)
+  key_short l p = rw (le-leb (length k) 128 l) (filled k l p)
 
 -- ---- the first i bytes of a block are mixed
 
@@ -43,8 +43,8 @@ pub record Mixing (pad : ℕ) (b₀ b : Bytes) (i : ℕ) : Type 0 where
   pub inside : i ≤ 128
   pub done : b ≡ take i (mix pad b₀) ++ drop i b₀
 
-pub mixing-none : {pad : ℕ} {b : Bytes} → length b ≡ 128 → Mixing pad b b 0
-mixing-none {pad} {b} l = record { block = l; whole = l; inside = omega arith; done = refl }
+pub mixing_none : {pad : ℕ} {b : Bytes} → length b ≡ 128 → Mixing pad b b 0
+mixing_none {pad} {b} l = record { block = l; whole = l; inside = omega arith; done = refl }
 
 module _ {pad i : ℕ} {b₀ b : Bytes} (m : Mixing pad b₀ b i) where
   all : length (mix pad b₀) ≡ 128
@@ -59,8 +59,8 @@ module _ {pad i : ℕ} {b₀ b : Bytes} (m : Mixing pad b₀ b i) where
       let e : b ≡ front ++ y ∷ rest = m.done ∙ ap (λ (x : Bytes). front ++ x) (drop-cons b₀ i 0 (omega (arith, m.block))) in
       ap (λ (x : Bytes). get_or x i 0) e ∙ get_or_at front y rest 0 i (length-take-le i (mix pad b₀) (omega (arith, all)))
 
-  pub mixing-more : i < 128 → Mixing pad b₀ (set b i (bit_xor (get_or b i 0) pad)) (i + 1)
-  mixing-more h =
+  pub mixing_more : i < 128 → Mixing pad b₀ (set b i (bit_xor (get_or b i 0) pad)) (i + 1)
+  mixing_more h =
       let e : bit_xor (get_or b i 0) pad ≡ get_or (mix pad b₀) i (bit_xor 0 pad) = rw (own h) (sym (get_or-map (λ x. bit_xor x pad) b₀ i 0)) in
       record {
         block = m.block;
@@ -71,8 +71,8 @@ module _ {pad i : ℕ} {b₀ b : Bytes} (m : Mixing pad b₀ b i) where
             ∙ rw add-one (simp zero-add at (paste-suc b₀ 0 (mix pad b₀) i (bit_xor 0 pad) (omega (arith, m.block)) (omega (arith, all))));
       }
 
-  pub mixing-all : (k : Bytes) → b₀ ≡ K₀ k → 128 ≤ i → b ≡ mixed pad k
+  pub mixing_all : (k : Bytes) → b₀ ≡ K₀ k → 128 ≤ i → b ≡ mixed pad k
   unfolding mixed
-  mixing-all k e h =
+  mixing_all k e h =
       let w : b ≡ mix pad b₀ = m.done ∙ rw (drop_of_length-le b₀ {i = i} (omega (arith, m.block)), append-nil) (take_all i (mix pad b₀) (omega (arith, all))) in
       w ∙ ap (mix pad) e

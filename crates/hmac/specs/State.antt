@@ -8,8 +8,8 @@ use Rattle.sha384.specs.State.{begun, added, ended}
 use Rattle.sha384.specs.declared.Sha384.{Sha384}
 use Rattle.hmac.specs.Hmac.{mixed, ipad, opad}
 
-unfoldable pub hmacBegun : Bytes → Sha384
-hmacBegun k = added begun (mixed ipad k)
+unfoldable pub hmac_begun : Bytes → Sha384
+hmac_begun k = added begun (mixed ipad k)
 
-unfoldable pub hmacEnded : Bytes → Sha384 → Bytes
-hmacEnded k given = take 24 (sha384 (mixed opad k ++ ended given))
+unfoldable pub hmac_ended : Bytes → Sha384 → Bytes
+hmac_ended k given = take 24 (sha384 (mixed opad k ++ ended given))

@@ -3,7 +3,7 @@
 ghost use Rattle.std.specs.Prelude.{◌≡◌};
 ghost use Rattle.sha384.specs.State.{begun, added};
 ghost use Rattle.hmac.specs.Hmac.{K₀, mixed, hmac};
-ghost use Rattle.hmac.specs.State.{hmacBegun, hmacEnded};
+ghost use Rattle.hmac.specs.State.{hmac_begun, hmac_ended};
 
 // Bytes in a block of the hash.
 const BLOCK: usize = 128;
@@ -40,14 +40,14 @@ fn keyed(key: &[u8], pad: u8) -> sha384::Sha384
 
 // The state before the first byte of the text. The text is given to it by `Sha384::add`.
 pub fn begin(key: &[u8]) -> sha384::Sha384
-    ensures { result ≡ hmacBegun key.now }
+    ensures { result ≡ hmac_begun key.now }
 {
     keyed(key, 0x36)
 }
 
 // The tag of all bytes given, under the same key.
 pub fn end(key: &[u8], given: sha384::Sha384) -> [u8; 24]
-    ensures { result ≡ hmacEnded key.now given }
+    ensures { result ≡ hmac_ended key.now given }
 {
     let hash = given.end();
     let mac = keyed(key, 0x5C).add(&hash).end();

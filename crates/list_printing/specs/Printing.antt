@@ -2,7 +2,7 @@
 -- Assumes nothing.
 use Rattle.std.specs.Prelude.{ℕ, length}
 use Rattle.text.specs.Text.{Bytes}
-use Rattle.list_text.specs.Listing.{listText}
+use Rattle.list_text.specs.Listing.{list_text}
 
-abbrev pub printList : Bytes → ℕ
-printList file = length (listText file)
+abbrev pub print_list : Bytes → ℕ
+print_list file = length (list_text file)

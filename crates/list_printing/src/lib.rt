@@ -1,14 +1,14 @@
 // The list of a file of records on standard output: document 01, "Files of records and the newer key". Its text is made and
 // proved by crate `list_text`; here it is handed to the kernel.
 ghost use Rattle.std.specs.Prelude.{◌≡◌, length};
-ghost use Rattle.list_text.specs.Listing.{listRoom, listText};
-ghost use Rattle.list_printing.specs.Printing.{printList};
+ghost use Rattle.list_text.specs.Listing.{list_room, list_text};
+ghost use Rattle.list_printing.specs.Printing.{print_list};
 
 use libc::STDOUT_FILENO;
 
 // Room for any list. The length is stated because a proof that looked at this many zeros would be slow.
 fn room() -> [u8; list_text::ROOM]
-    ensures { listRoom ≡ length result }
+    ensures { list_room ≡ length result }
 {
     [0; list_text::ROOM]
 }
@@ -23,14 +23,14 @@ pub struct Printed {
 // Hands a text to the kernel, and answers whether all of it was taken, of which no contract can speak. It has to be the list
 // of the file: so says the `requires`.
 fn hand_over(file: &[u8], text: &[u8]) -> bool
-    requires { text.now ≡ listText file.now }
+    requires { text.now ≡ list_text file.now }
 {
     io::write_all(STDOUT_FILENO, text)
 }
 
 // Prints the list of a file, or "too big". A write that fails is not tried again.
 pub fn print_list(file: &[u8]) -> Printed
-    ensures { result.len ≡ printList file.now }
+    ensures { result.len ≡ print_list file.now }
 {
     let mut text = room();
     let made = list_text::write_list(file, &mut text);

@@ -3,7 +3,7 @@
 ghost use Rattle.std.specs.Prelude.{◌+◌, ◌≤◌, length};
 ghost use Rattle.put.specs.Put.{Put};
 ghost use Rattle.put.specs.Made.{Writes};
-ghost use Rattle.list_text.specs.Listing.{before, lineText, endText, listText, most, listRoom, writeList};
+ghost use Rattle.list_text.specs.Listing.{before, line_text, end_text, list_text, most, list_room, write_list};
 
 // No more bytes than this are listed.
 pub const MOST: usize = 65536;
@@ -24,8 +24,8 @@ fn put_number(out: &mut [u8], at: usize, n: usize, mark: u8) -> usize
 
 // A line of the file: its number from 1, its start, its length without line feed, and its answer's number.
 fn put_line(out: &mut [u8], at: usize, number: usize, start: usize, len: usize, no: u8) -> usize
-    requires { at + length (lineText number start len no) ≤ length out.old }
-    ensures { Put out.old at (lineText number start len no) out.new result }
+    requires { at + length (line_text number start len no) ≤ length out.old }
+    ensures { Put out.old at (line_text number start len no) out.new result }
 {
     let after_number = put_number(out, at, number, b' ');
     let after_start = put_number(out, after_number, start, b' ');
@@ -35,8 +35,8 @@ fn put_line(out: &mut [u8], at: usize, number: usize, start: usize, len: usize, 
 
 // The end of the list: how many lines the file has, and how many of them are accepted.
 fn put_end(out: &mut [u8], at: usize, lines: usize, accepted: usize) -> usize
-    requires { at + length (endText lines accepted) ≤ length out.old }
-    ensures { Put out.old at (endText lines accepted) out.new result }
+    requires { at + length (end_text lines accepted) ≤ length out.old }
+    ensures { Put out.old at (end_text lines accepted) out.new result }
 {
     let after_label = put::put(out, at, b"end ");
     let after_lines = put_number(out, after_label, lines, b' ');
@@ -46,8 +46,8 @@ fn put_end(out: &mut [u8], at: usize, lines: usize, accepted: usize) -> usize
 // Every line of a file that is not too big, and the end.
 fn put_list(file: &[u8], out: &mut [u8]) -> usize
     requires file_len_bound { length file.now ≤ most }
-    requires list_room_in_bounds { listRoom ≤ length out.old }
-    ensures { Put out.old 0 (listText file.now) out.new result }
+    requires list_room_in_bounds { list_room ≤ length out.old }
+    ensures { Put out.old 0 (list_text file.now) out.new result }
 {
     let mut lines: usize = 0;
     let mut accepted: usize = 0;
@@ -76,7 +76,7 @@ fn put_list(file: &[u8], out: &mut [u8]) -> usize
 // The list of a file from the front of a lent output, or "too big". Where the output has less than `ROOM`, the call refuses
 // and leaves it untouched: asked before the first line, so that no line has to be read twice.
 pub fn write_list(file: &[u8], out: &mut [u8]) -> put::Written
-    ensures { Writes (writeList file.now (length out.old)) out.old out.new result }
+    ensures { Writes (write_list file.now (length out.old)) out.old out.new result }
 {
     if out.len() < ROOM {
         return put::refuse(numbers::SHORT_OUTPUT, 0);

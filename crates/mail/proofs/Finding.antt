@@ -9,107 +9,107 @@ use lib.Dec.{eqb}
 use lib.ListN.{length, take, drop, drop_of_length-le}
 use lib.Seq.{take-add, drop-drop}
 use Rattle.text.specs.Text.{Bytes, same}
-use Rattle.text.proofs.Tests.{less-or}
-use Rattle.format.specs.Files.{lineFeed, up_to}
-use Rattle.format.proofs.Lines.{take-upTo}
-use Rattle.frame.specs.Frame.{nextMark}
-use Rattle.frame.proofs.Parts.{cut_at, cut-none, next-within}
-use Rattle.mail.specs.Mail.{linesIn, endsLine, isBegins, closed, opened}
-use Rattle.mail.specs.Steps.{lineFrom, Opens, feedless, rowsIn, Closes}
+use Rattle.text.proofs.Tests.{less_or}
+use Rattle.format.specs.Files.{line_feed, up_to}
+use Rattle.format.proofs.Lines.{take_up_to}
+use Rattle.frame.specs.Frame.{next_mark}
+use Rattle.frame.proofs.Parts.{cut_at, cut_none, next_within}
+use Rattle.mail.specs.Mail.{lines_in, ends_line, is_begins, closed, opened}
+use Rattle.mail.specs.Steps.{line_from, Opens, feedless, rows_in, Closes}
 
 -- ---- the line at a place, and those after it
 
 module _ (text : Bytes) (i : ℕ) where
   -- as the code takes it
-  pub line-none : {e : ℕ} → e ≡ nextMark lineFeed text i → length text < e → [] ≡ lineFrom text i
-  line-none n h =
-      less-or (length text) i
+  pub line_none : {e : ℕ} → e ≡ next_mark line_feed text i → length text < e → [] ≡ line_from text i
+  line_none n h =
+      less_or (length text) i
       (λ l. rw (drop_of_length-le text {i = i} (omega arith)))
-      (λ l. absurd (omega (arith, h, n, next-within lineFeed text i l)))
+      (λ l. absurd (omega (arith, h, n, next_within line_feed text i l)))
 
-  pub line-there : {e : ℕ} → e ≡ nextMark lineFeed text i → take (e - i) (drop i text) ≡ lineFrom text i
-  unfolding nextMark
-  line-there {e} n =
-      let long : e - i ≡ length (lineFrom text i) = omega (arith, n) in
-      rw long (take-upTo lineFeed (drop i text))
+  pub line_there : {e : ℕ} → e ≡ next_mark line_feed text i → take (e - i) (drop i text) ≡ line_from text i
+  unfolding next_mark
+  line_there {e} n =
+      let long : e - i ≡ length (line_from text i) = omega (arith, n) in
+      rw long (take_up_to line_feed (drop i text))
 
-  pub line-within : i < length text → {l : Bytes} → l ≡ lineFrom text i → i + length l ≤ length text
-  unfolding nextMark
-  line-within h is = omega (arith, ap length is, next-within lineFeed text i (omega arith))
+  pub line_within : i < length text → {l : Bytes} → l ≡ line_from text i → i + length l ≤ length text
+  unfolding next_mark
+  line_within h is = omega (arith, ap length is, next_within line_feed text i (omega arith))
 
-  pub lines_at : i < length text → linesIn (drop i text) ≡ lineFrom text i ∷ linesIn (drop (i + (length (lineFrom text i) + 1)) text)
-  unfolding nextMark
+  pub lines_at : i < length text → lines_in (drop i text) ≡ line_from text i ∷ lines_in (drop (i + (length (line_from text i) + 1)) text)
+  unfolding next_mark
   lines_at h =
-      let next : nextMark lineFeed text i + 1 ≡ i + (length (lineFrom text i) + 1) = omega arith in
-      rw (line-there refl, next) at (cut_at lineFeed text i h)
+      let next : next_mark line_feed text i + 1 ≡ i + (length (line_from text i) + 1) = omega arith in
+      rw (line_there refl, next) at (cut_at line_feed text i h)
 
 -- ---- to the first BEGINS line: those before place i are passed over, and l is the line there
 
-module _ (text : Bytes) (i : ℕ) (p : opened (linesIn text) ≡ opened (linesIn (drop i text))) where
-  module _ (h : i < length text) {l : Bytes} (is : l ≡ lineFrom text i) where
-    pub opened-on : isBegins l ≡ false → opened (linesIn text) ≡ opened (linesIn (drop (i + (length l + 1)) text))
-    opened-on b = p ∙ rw (lines_at text i h, ← is, b)
+module _ (text : Bytes) (i : ℕ) (p : opened (lines_in text) ≡ opened (lines_in (drop i text))) where
+  module _ (h : i < length text) {l : Bytes} (is : l ≡ line_from text i) where
+    pub opened_on : is_begins l ≡ false → opened (lines_in text) ≡ opened (lines_in (drop (i + (length l + 1)) text))
+    opened_on b = p ∙ rw (lines_at text i h, ← is, b)
 
-    pub opens-here : isBegins l ≡ true → Opens text i
-    opens-here b = record { passed = p; here = λ _. rw (← is) b }
+    pub opens_here : is_begins l ≡ true → Opens text i
+    opens_here b = record { passed = p; here = λ _. rw (← is) b }
 
-  pub opens-end : length text ≤ i → Opens text i
-  opens-end h = record { passed = p; here = λ l. absurd (omega (arith, h, l)) }
+  pub opens_end : length text ≤ i → Opens text i
+  opens_end h = record { passed = p; here = λ l. absurd (omega (arith, h, l)) }
 
 -- ---- without line feeds
 
-pub feedless-append : (s t : Bytes) → feedless (s ++ t) ≡ feedless s ++ feedless t
-feedless-append [] t = refl
-feedless-append (c ∷ s) t = rw (feedless-append s t) (go (eqb c lineFeed))
+pub feedless_append : (s t : Bytes) → feedless (s ++ t) ≡ feedless s ++ feedless t
+feedless_append [] t = refl
+feedless_append (c ∷ s) t = rw (feedless_append s t) (go (eqb c line_feed))
   where
     go : (b : Bool) → cond b (feedless s ++ feedless t) (c ∷ (feedless s ++ feedless t)) ≡ cond b (feedless s) (c ∷ feedless s) ++ feedless t
     go true = refl
     go false = refl
 
 -- a line with its line feed
-feedless-line : (s : Bytes) → feedless (take (suc (length (up_to lineFeed s))) s) ≡ up_to lineFeed s
-feedless-line [] = refl
-feedless-line (c ∷ s) = go (eqb c lineFeed) refl (feedless-line s)
+feedless_line : (s : Bytes) → feedless (take (suc (length (up_to line_feed s))) s) ≡ up_to line_feed s
+feedless_line [] = refl
+feedless_line (c ∷ s) = go (eqb c line_feed) refl (feedless_line s)
   where
-    go : (b : Bool) → eqb c lineFeed ≡ b → feedless (take (suc (length (up_to lineFeed s))) s) ≡ up_to lineFeed s
-        → feedless (take (suc (length (cond b [] (c ∷ up_to lineFeed s)))) (c ∷ s)) ≡ cond b [] (c ∷ up_to lineFeed s)
+    go : (b : Bool) → eqb c line_feed ≡ b → feedless (take (suc (length (up_to line_feed s))) s) ≡ up_to line_feed s
+        → feedless (take (suc (length (cond b [] (c ∷ up_to line_feed s)))) (c ∷ s)) ≡ cond b [] (c ∷ up_to line_feed s)
     go true e i = rw e
     go false e i = rw e (ap (λ (r : Bytes). c ∷ r) i)
 
-rows_more : (text : Bytes) (from i : ℕ) → from ≤ i → rowsIn text from i ++ lineFrom text i ≡ rowsIn text from (i + (length (lineFrom text i) + 1))
+rows_more : (text : Bytes) (from i : ℕ) → from ≤ i → rows_in text from i ++ line_from text i ≡ rows_in text from (i + (length (line_from text i) + 1))
 rows_more text from i l =
-    let long : i + (length (lineFrom text i) + 1) - from ≡ (i - from) + suc (length (lineFrom text i)) = omega arith in
+    let long : i + (length (line_from text i) + 1) - from ≡ (i - from) + suc (length (line_from text i)) = omega arith in
     let there : from + (i - from) ≡ i = omega arith in
-    rw (long, take-add, feedless-append, drop-drop, there, feedless-line (drop i text))
+    rw (long, take-add, feedless_append, drop-drop, there, feedless_line (drop i text))
 
 -- ---- from there to the first ENDS line: none of the lines before place i is one, and they are joined
 
 pub record Passed (text : Bytes) (from : ℕ) (t : Bytes) (i : ℕ) : Type 0 where
   pub on : from ≤ i
-  pub rows : closed t [] (linesIn (drop from text)) ≡ closed t (rowsIn text from i) (linesIn (drop i text))
+  pub rows : closed t [] (lines_in (drop from text)) ≡ closed t (rows_in text from i) (lines_in (drop i text))
 
 pub passed_none : (text : Bytes) (from : ℕ) (t : Bytes) → Passed text from t from
 passed_none text from t = record { on = omega arith; rows = let z : from - from ≡ 0 = omega arith in rw z }
 
 module _ {text : Bytes} {from : ℕ} {t : Bytes} {i : ℕ} (p : Passed text from t i) where
-  pub closes-nowhere : length text ≤ i → Closes text from t i
-  closes-nowhere h = record {
+  pub closes_nowhere : length text ≤ i → Closes text from t i
+  closes_nowhere h = record {
     further = p.on;
     there = λ l. absurd (omega (arith, h, l));
-    nowhere = λ _. p.rows ∙ rw (cut-none lineFeed text i h);
+    nowhere = λ _. p.rows ∙ rw (cut_none line_feed text i h);
   }
 
-  module _ (h : i < length text) {l : Bytes} (is : l ≡ lineFrom text i) where
-    pub passed_on : same l (endsLine t) ≡ false → Passed text from t (i + (length l + 1))
+  module _ (h : i < length text) {l : Bytes} (is : l ≡ line_from text i) where
+    pub passed_on : same l (ends_line t) ≡ false → Passed text from t (i + (length l + 1))
     passed_on b =
-        let more : rowsIn text from i ++ l ≡ rowsIn text from (i + (length l + 1)) = rw is (rows_more text from i p.on) in
+        let more : rows_in text from i ++ l ≡ rows_in text from (i + (length l + 1)) = rw is (rows_more text from i p.on) in
         record {
           on = omega (arith, p.on);
-          rows = p.rows ∙ rw (lines_at text i h, ← is, b) (ap (λ (f : Bytes). closed t f (linesIn (drop (i + (length l + 1)) text))) more);
+          rows = p.rows ∙ rw (lines_at text i h, ← is, b) (ap (λ (f : Bytes). closed t f (lines_in (drop (i + (length l + 1)) text))) more);
         }
 
-    pub closes-there : same l (endsLine t) ≡ true → Closes text from t i
-    closes-there b = record {
+    pub closes_there : same l (ends_line t) ≡ true → Closes text from t i
+    closes_there b = record {
       further = p.on;
       there = λ _. p.rows ∙ rw (lines_at text i h, ← is, b);
       nowhere = λ z. absurd (omega (arith, h, z));

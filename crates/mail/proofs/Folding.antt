@@ -10,11 +10,11 @@ use lib.Dec.{T, eqb}
 use lib.ListN.{length, take, drop, length-drop, take-append-drop}
 use lib.Seq.{length-take-le, take_all}
 use Rattle.text.specs.Text.{Bytes, without}
-use Rattle.text.proofs.Tests.{every-parts}
+use Rattle.text.proofs.Tests.{every_parts}
 use Rattle.format.specs.Build.{WithoutAll}
 use Rattle.format.specs.Read.{last_or}
 use Rattle.format.proofs.Table.{All}
-use Rattle.format.proofs.Parts.{last-append, last-any}
+use Rattle.format.proofs.Parts.{last_append, last_any}
 use Rattle.mail.specs.Mail.{rows, folded}
 
 -- ---- as many rows as there must be
@@ -37,30 +37,30 @@ flat_rows zero [] h = refl
 flat_rows zero (c ∷ s) h = absurd (omega arith)
 flat_rows (suc n) s h = ap (λ (r : Bytes). take 64 s ++ r) (flat_rows n (drop 64 s) (omega (arith, length-drop 64 s))) ∙ take-append-drop 64 s
 
-pub flat-folded : (s : Bytes) → flatten (folded s) ≡ s
-flat-folded s = flat_rows _ s (enough s).0
+pub flat_folded : (s : Bytes) → flatten (folded s) ≡ s
+flat_folded s = flat_rows _ s (enough s).0
 
 -- ---- no row has a byte that the whole has not
 
-rows-without : (m n : ℕ) (s : Bytes) → T (without m s) → WithoutAll m (rows n s)
+rows_without : (m n : ℕ) (s : Bytes) → T (without m s) → WithoutAll m (rows n s)
 unfolding rows
-rows-without m zero s h = tt
-rows-without m (suc n) s h =
-    let parts = every-parts (λ c. not (eqb c m)) (take 64 s) (drop 64 s) (rw take-append-drop h) in
-    (parts.0, rows-without m n (drop 64 s) parts.1)
+rows_without m zero s h = tt
+rows_without m (suc n) s h =
+    let parts = every_parts (λ c. not (eqb c m)) (take 64 s) (drop 64 s) (rw take-append-drop h) in
+    (parts.0, rows_without m n (drop 64 s) parts.1)
 
-pub folded-without : (m : ℕ) (s : Bytes) → T (without m s) → WithoutAll m (folded s)
-folded-without m s h = rows-without m _ s h
+pub folded_without : (m : ℕ) (s : Bytes) → T (without m s) → WithoutAll m (folded s)
+folded_without m s h = rows_without m _ s h
 
 -- ---- a row is full, or it is the last, which ends as the whole does
 
 abbrev pub IsRow : ℕ → Bytes → Type 0
 IsRow l r = (length r ≡ 64) ⊎ (last_or 0 r ≡ l)
 
-last-drop : (n : ℕ) (s : Bytes) → n < length s → last_or 0 (drop n s) ≡ last_or 0 s
-last-drop n s h =
-    last-any 0 (last_or 0 (take n s)) (drop n s) (omega (arith, length-drop n s))
-    ∙ sym (last-append 0 (take n s) (drop n s))
+last_drop : (n : ℕ) (s : Bytes) → n < length s → last_or 0 (drop n s) ≡ last_or 0 s
+last_drop n s h =
+    last_any 0 (last_or 0 (take n s)) (drop n s) (omega (arith, length-drop n s))
+    ∙ sym (last_append 0 (take n s) (drop n s))
     ∙ ap (last_or 0) (take-append-drop n s)
 
 rows_are : (n : ℕ) (s : Bytes) → Enough n s → All (IsRow (last_or 0 s)) (rows n s)
@@ -69,7 +69,7 @@ rows_are zero s h = tt
 rows_are (suc zero) s h = (inr (ap (last_or 0) (take_all 64 s (omega (arith, h.0)))), tt)
 rows_are (suc (suc n)) s h =
     let f = fewer n s h in
-    (inl (length-take-le 64 s (omega (arith, f.0))), rw (last-drop 64 s f.0) at (rows_are (suc n) (drop 64 s) f.1))
+    (inl (length-take-le 64 s (omega (arith, f.0))), rw (last_drop 64 s f.0) at (rows_are (suc n) (drop 64 s) f.1))
 
-pub folded-rows : (s : Bytes) → All (IsRow (last_or 0 s)) (folded s)
-folded-rows s = rows_are _ s (enough s)
+pub folded_rows : (s : Bytes) → All (IsRow (last_or 0 s)) (folded s)
+folded_rows s = rows_are _ s (enough s)

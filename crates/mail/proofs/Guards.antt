@@ -12,50 +12,50 @@ use lib.Dec.{T, eqb}
 use lib.ListN.{length, take, drop, length-append, length-drop, take-append-drop}
 use lib.Seq.{take_at, length-take-le, drop-drop}
 use mir.Facts.{and_yes, yes_and}
-use Rattle.text.specs.Text.{Bytes, ascii, same, without, isIdent, Ident}
-use Rattle.text.proofs.Tests.{same_refl, T_true, true-T, and-stop, and-on, between-high, every_append, same-append}
-use Rattle.text.proofs.Loops.{rest_all, same-pairwise, apart}
-use Rattle.text.proofs.Types.{plain, plain-without, lengths}
+use Rattle.text.specs.Text.{Bytes, ascii, same, without, is_ident, Ident}
+use Rattle.text.proofs.Tests.{same_refl, T_true, true_T, and_stop, and_on, between_high, every_append, same_append}
+use Rattle.text.proofs.Loops.{rest_all, same_pairwise, apart}
+use Rattle.text.proofs.Types.{plain, plain_without, lengths}
 use Rattle.format.specs.Read.{last_or}
-use Rattle.format.specs.Files.{lineFeed}
+use Rattle.format.specs.Files.{line_feed}
 use Rattle.format.proofs.Table.{All}
-use Rattle.mail.specs.Mail.{guard, beginsLine, endsLine, rectypeIn, isBegins}
-use Rattle.format.proofs.Parts.{last-append}
+use Rattle.mail.specs.Mail.{guard, begins_line, ends_line, rectype_in, is_begins}
+use Rattle.format.proofs.Parts.{last_append}
 use Rattle.mail.proofs.Folding.{IsRow}
 
-pub guard-length : (word t : Bytes) → length (guard word t) ≡ 6 + length t + length word
-guard-length word t = omega (arith, length-append t word)
+pub guard_length : (word t : Bytes) → length (guard word t) ≡ 6 + length t + length word
+guard_length word t = omega (arith, length-append t word)
 
 -- ---- a BEGINS line
 
-pub begins-rectype : (t : Bytes) → rectypeIn (beginsLine t) ≡ t
-begins-rectype t = take_at t (ascii " BEGINS--") (length (beginsLine t) - 15) (omega (arith, guard-length (ascii " BEGINS--") t))
+pub begins_rectype : (t : Bytes) → rectype_in (begins_line t) ≡ t
+begins_rectype t = take_at t (ascii " BEGINS--") (length (begins_line t) - 15) (omega (arith, guard_length (ascii " BEGINS--") t))
 
-pub begins-is : (t : Bytes) → T (isIdent t) → T (isBegins (beginsLine t))
-unfolding isBegins
-begins-is t h = rw begins-rectype (yes_and (isIdent t) (same (beginsLine t) (beginsLine t)) h (same_refl (beginsLine t)))
+pub begins_is : (t : Bytes) → T (is_ident t) → T (is_begins (begins_line t))
+unfolding is_begins
+begins_is t h = rw begins_rectype (yes_and (is_ident t) (same (begins_line t) (begins_line t)) h (same_refl (begins_line t)))
 
-pub guard-without : (word t : Bytes) → T (without lineFeed word) → T (isIdent t) → T (without lineFeed (guard word t))
-guard-without word t w h = every_append (λ c. not (eqb c lineFeed)) t word (plain-without lineFeed tt t (plain Ident t h)) w
+pub guard_without : (word t : Bytes) → T (without line_feed word) → T (is_ident t) → T (without line_feed (guard word t))
+guard_without word t w h = every_append (λ c. not (eqb c line_feed)) t word (plain_without line_feed tt t (plain Ident t h)) w
 
 -- ---- no row is an ENDS line
 
-row-no-guard : (t r : Bytes) (l : ℕ) → T (isIdent t) → (l ≡ code "-" → ⊥) → IsRow l r → r ≢ endsLine t
-row-no-guard t r l h n w e =
+row_no_guard : (t r : Bytes) (l : ℕ) → T (is_ident t) → (l ≡ code "-" → ⊥) → IsRow l r → r ≢ ends_line t
+row_no_guard t r l h n w e =
     ⊎_elim
-    (λ full. absurd (omega (arith, full, ap length e, guard-length (ascii " ENDS--") t, between-high 1 32 (length t) (lengths Ident t h))))
-    (λ last. n (sym last ∙ ap (last_or 0) e ∙ last-append (code ":") t (ascii " ENDS--")))
+    (λ full. absurd (omega (arith, full, ap length e, guard_length (ascii " ENDS--") t, between_high 1 32 (length t) (lengths Ident t h))))
+    (λ last. n (sym last ∙ ap (last_or 0) e ∙ last_append (code ":") t (ascii " ENDS--")))
     w
 
-pub rows-no-guard : (t : Bytes) (l : ℕ) → T (isIdent t) → (l ≡ code "-" → ⊥) → (rs : List Bytes) → All (IsRow l) rs → All (λ r. r ≢ endsLine t) rs
-rows-no-guard t l h n [] w = tt
-rows-no-guard t l h n (r ∷ rs) w = (row-no-guard t r l h n w.0, rows-no-guard t l h n rs w.1)
+pub rows_no_guard : (t : Bytes) (l : ℕ) → T (is_ident t) → (l ≡ code "-" → ⊥) → (rs : List Bytes) → All (IsRow l) rs → All (λ r. r ≢ ends_line t) rs
+rows_no_guard t l h n [] w = tt
+rows_no_guard t l h n (r ∷ rs) w = (row_no_guard t r l h n w.0, rows_no_guard t l h n rs w.1)
 
 -- ---- a guard by its three parts, as the code compares them
 
 module _ (line word t : Bytes) where
-  pub guard-apart : (length line ≡ 6 + length t + length word → ⊥) → false ≡ same line (guard word t)
-  guard-apart h = sym (apart eqb same same-pairwise line (guard word t) (λ q. h (q ∙ guard-length word t)))
+  pub guard_apart : (length line ≡ 6 + length t + length word → ⊥) → false ≡ same line (guard word t)
+  guard_apart h = sym (apart eqb same same_pairwise line (guard word t) (λ q. h (q ∙ guard_length word t)))
 
   -- what stands at the place of the record type, and what follows
   abbrev middle : Bytes
@@ -64,38 +64,38 @@ module _ (line word t : Bytes) where
   abbrev rest : Bytes
   rest = take (length line - (6 + length t)) (drop (6 + length t) line)
 
-  pub guard-parts : length line ≡ 6 + length t + length word
+  pub guard_parts : length line ≡ 6 + length t + length word
       → same line (guard word t) ≡ (same (take 6 line) (ascii "--STS:") && (same middle t && same rest word))
-  guard-parts e =
+  guard_parts e =
       let size : 6 + length t - 6 ≡ length t = omega arith in
       let whole : take 6 line ++ (take (length t) (drop 6 line) ++ drop (length t) (drop 6 line)) ≡ line =
       ap (λ (r : Bytes). take 6 line ++ r) (take-append-drop (length t) (drop 6 line)) ∙ take-append-drop 6 line in
       rw (size, rest_all, ← drop-drop)
       (ap (λ (l : Bytes). same l (guard word t)) (sym whole)
-      ∙ same-append (take 6 line) (take (length t) (drop 6 line) ++ drop (length t) (drop 6 line)) (ascii "--STS:") (t ++ word) (length-take-le 6 line (omega arith))
+      ∙ same_append (take 6 line) (take (length t) (drop 6 line) ++ drop (length t) (drop 6 line)) (ascii "--STS:") (t ++ word) (length-take-le 6 line (omega arith))
       ∙ ap (λ (q : Bool). same (take 6 line) (ascii "--STS:") && q)
-      (same-append (take (length t) (drop 6 line)) (drop (length t) (drop 6 line)) t word (length-take-le (length t) (drop 6 line) (omega (arith, length-drop 6 line)))))
+      (same_append (take (length t) (drop 6 line)) (drop (length t) (drop 6 line)) t word (length-take-le (length t) (drop 6 line) (omega (arith, length-drop 6 line)))))
 
 -- ---- a BEGINS line as the code finds it
 
-pub rectype-none : (l : Bytes) → length l < 15 → [] ≡ rectypeIn l
-rectype-none l h = let e : length l - 15 ≡ 0 = omega arith in rw e
+pub rectype_none : (l : Bytes) → length l < 15 → [] ≡ rectype_in l
+rectype_none l h = let e : length l - 15 ≡ 0 = omega arith in rw e
 
-pub rectype-there : (l : Bytes) → take (length l - 9 - 6) (drop 6 l) ≡ rectypeIn l
-rectype-there l = ap (λ (n : ℕ). take n (drop 6 l)) (let e : length l - 9 - 6 ≡ length l - 15 = omega arith in e)
+pub rectype_there : (l : Bytes) → take (length l - 9 - 6) (drop 6 l) ≡ rectype_in l
+rectype_there l = ap (λ (n : ℕ). take n (drop 6 l)) (let e : length l - 9 - 6 ≡ length l - 15 = omega arith in e)
 
-pub ident-short : (t : Bytes) → isIdent t ≡ true → length t ≤ 32
-ident-short t e = between-high 1 32 (length t) (lengths Ident t (true-T (isIdent t) e))
+pub ident_short : (t : Bytes) → is_ident t ≡ true → length t ≤ 32
+ident_short t e = between_high 1 32 (length t) (lengths Ident t (true_T (is_ident t) e))
 
-module _ (l t : Bytes) (e : t ≡ rectypeIn l) where
-  pub begins-no : isIdent t ≡ false → false ≡ isBegins l
-  unfolding isBegins
-  begins-no h = sym (and-stop (isIdent (rectypeIn l)) (same l (beginsLine (rectypeIn l))) (rw e at h))
+module _ (l t : Bytes) (e : t ≡ rectype_in l) where
+  pub begins_no : is_ident t ≡ false → false ≡ is_begins l
+  unfolding is_begins
+  begins_no h = sym (and_stop (is_ident (rectype_in l)) (same l (begins_line (rectype_in l))) (rw e at h))
 
-  pub begins-so : isIdent t ≡ true → same l (beginsLine t) ≡ isBegins l
-  unfolding isBegins
-  begins-so h = rw e (sym (and-on (isIdent (rectypeIn l)) (same l (beginsLine (rectypeIn l))) (rw e at h)))
+  pub begins_so : is_ident t ≡ true → same l (begins_line t) ≡ is_begins l
+  unfolding is_begins
+  begins_so h = rw e (sym (and_on (is_ident (rectype_in l)) (same l (begins_line (rectype_in l))) (rw e at h)))
 
-pub begins-ident : (l : Bytes) → isBegins l ≡ true → isIdent (rectypeIn l) ≡ true
-unfolding isBegins
-begins-ident l h = T_true (isIdent (rectypeIn l)) (and_yes (isIdent (rectypeIn l)) (same l (beginsLine (rectypeIn l))) (true-T _ h)).0
+pub begins_ident : (l : Bytes) → is_begins l ≡ true → is_ident (rectype_in l) ≡ true
+unfolding is_begins
+begins_ident l h = T_true (is_ident (rectype_in l)) (and_yes (is_ident (rectype_in l)) (same l (begins_line (rectype_in l))) (true_T _ h)).0

@@ -9,32 +9,32 @@ use lib.Dec.{ltb, ltb→lt, nltb→le}
 use lib.ListN.{length, take, drop, length-append, length-drop, drop_of_length-le, take-append-drop}
 use lib.Seq.{take_all, drop-drop}
 use Rattle.text.specs.Text.{Bytes, ascii}
-use Rattle.text.proofs.Tests.{by-test, cond_yes, cond_no}
-use Rattle.format.specs.Files.{lineFeed}
-use Rattle.format.proofs.Parts.{joined-append}
+use Rattle.text.proofs.Tests.{by_test, cond_yes, cond_no}
+use Rattle.format.specs.Files.{line_feed}
+use Rattle.format.proofs.Parts.{joined_append}
 use Rattle.put.specs.Put.{Puts, Put}
-use Rattle.put.proofs.Pieces.{put_of, put-length, put_as, put_then}
+use Rattle.put.proofs.Pieces.{put_of, put_length, put_as, put_then}
 use Rattle.put.proofs.Underway.{Underway, has_room, go_on}
 use Rattle.put.specs.Made.{denied, says, Writes}
 use Rattle.put.specs.declared.Written.{Written}
-use Rattle.numbers.specs.Numbers.{shortOutput}
-use Rattle.format.specs.Kinds.{name, recordKinds}
+use Rattle.numbers.specs.Numbers.{short_output}
+use Rattle.format.specs.Kinds.{name, record_kinds}
 use Rattle.format.specs.Build.{joined, Built}
-use Rattle.format.specs.Read.{title, readRecord}
-use Rattle.format.proofs.Exactly.{record-says, its-title, built-length}
-use Rattle.table.proofs.Names.{name-short}
+use Rattle.format.specs.Read.{title, read_record}
+use Rattle.format.proofs.Exactly.{record_says, its_title, built_length}
+use Rattle.table.proofs.Names.{name_short}
 use Rattle.reading.specs.Reading.{answer_of}
 use Rattle.reading.specs.declared.Answer.{Answer}
 use Rattle.reading.proofs.Answers.{Taken, taken}
-use Rattle.given.proofs.Given.{given-refused, given-short, given-put}
-use Rattle.mail.specs.Mail.{guard, beginsLine, endsLine, rows, folded, block_of, writeMail}
+use Rattle.given.proofs.Given.{given_refused, given_short, given_put}
+use Rattle.mail.specs.Mail.{guard, begins_line, ends_line, rows, folded, block_of, write_mail}
 use Rattle.mail.proofs.Folding.{enough}
-use Rattle.mail.proofs.Guards.{guard-length}
+use Rattle.mail.proofs.Guards.{guard_length}
 
 -- ---- the rows
 
 abbrev pub rows_of : Bytes → Bytes
-rows_of s = joined lineFeed (folded s)
+rows_of s = joined line_feed (folded s)
 
 -- the first row, and the rows of what is left
 folded_more : (s : Bytes) → 0 < length s → folded s ≡ take 64 s ∷ folded (drop 64 s)
@@ -51,7 +51,7 @@ module _ (s : Bytes) (i r : ℕ) (h : i < length s) (e : r ≡ cond (ltb (length
   row_is : (row_at s i r ≡ take 64 (drop i s)) × (drop (i + r) s ≡ drop 64 (drop i s))
   row_is =
       let size : i + r - i ≡ r = omega arith in
-      by-test (ltb (length s - i) 64)
+      by_test (ltb (length s - i) 64)
       (λ t.
       let short = ltb→lt (length s - i) 64 t in
       let e' : r ≡ length s - i = e ∙ cond_yes (ltb (length s - i) 64) (length s - i) 64 t in (
@@ -62,14 +62,14 @@ module _ (s : Bytes) (i r : ℕ) (h : i < length s) (e : r ≡ cond (ltb (length
       let e' : r ≡ 64 = e ∙ cond_no (ltb (length s - i) 64) (length s - i) 64 t in
       rw (size, e') (refl, sym (drop-drop 64 i s)))
 
-  pub rows_more : rows_of (drop i s) ≡ (row_at s i r ++ lineFeed ∷ []) ++ rows_of (drop (i + r) s)
+  pub rows_more : rows_of (drop i s) ≡ (row_at s i r ++ line_feed ∷ []) ++ rows_of (drop (i + r) s)
   rows_more =
       rw (row_is.0, row_is.1)
-      (ap (joined lineFeed) (folded_more (drop i s) (omega (arith, length-drop i s))) ∙ sym (append_assoc (take 64 (drop i s)) (lineFeed ∷ []) (rows_of (drop 64 (drop i s)))))
+      (ap (joined line_feed) (folded_more (drop i s) (omega (arith, length-drop i s))) ∙ sym (append_assoc (take 64 (drop i s)) (line_feed ∷ []) (rows_of (drop 64 (drop i s)))))
 
   pub row_inside : (i < i + r) × (i + r ≤ length s)
   row_inside =
-      by-test (ltb (length s - i) 64)
+      by_test (ltb (length s - i) 64)
       (λ t. let e' : r ≡ length s - i = e ∙ cond_yes (ltb (length s - i) 64) (length s - i) 64 t in (omega arith, omega arith))
       (λ t.
       let long = nltb→le (length s - i) 64 t in
@@ -77,84 +77,84 @@ module _ (s : Bytes) (i r : ℕ) (h : i < length s) (e : r ≡ cond (ltb (length
       (omega arith, omega arith))
 
   module _ {o v out : Bytes} {k at : ℕ} (u : Underway o k v (rows_of (drop i s)) out at) where
-    pub row_put : {out' out'' : Bytes} {at' at'' : ℕ} → Puts out at (row_at s i r) out' at' → Puts out' at' (lineFeed ∷ []) out'' at''
+    pub row_put : {out' out'' : Bytes} {at' at'' : ℕ} → Puts out at (row_at s i r) out' at' → Puts out' at' (line_feed ∷ []) out'' at''
         → Underway o k v (rows_of (drop (i + r) s)) out'' at''
     row_put p q =
-        let room = has_room u (row_at s i r ++ lineFeed ∷ []) (rows_of (drop (i + r) s)) rows_more in
-        let first = put_of (omega (arith, room, length-append (row_at s i r) (lineFeed ∷ []))) p in
-        let second = put_of (omega (arith, room, length-append (row_at s i r) (lineFeed ∷ []), first.next, put-length first)) q in
-        go_on u (row_at s i r ++ lineFeed ∷ []) (rows_of (drop (i + r) s)) rows_more (put_then first second)
+        let room = has_room u (row_at s i r ++ line_feed ∷ []) (rows_of (drop (i + r) s)) rows_more in
+        let first = put_of (omega (arith, room, length-append (row_at s i r) (line_feed ∷ []))) p in
+        let second = put_of (omega (arith, room, length-append (row_at s i r) (line_feed ∷ []), first.next, put_length first)) q in
+        go_on u (row_at s i r ++ line_feed ∷ []) (rows_of (drop (i + r) s)) rows_more (put_then first second)
 
 pub rows_none : (s : Bytes) (i : ℕ) → length s ≤ i → rows_of (drop i s) ≡ []
 unfolding rows
 rows_none s i h = rw (drop_of_length-le s h)
 
-rows-length : (m n : ℕ) (s : Bytes) → length s ≤ 64 * n → length (joined m (rows n s)) ≡ length s + n
+rows_length : (m n : ℕ) (s : Bytes) → length s ≤ 64 * n → length (joined m (rows n s)) ≡ length s + n
 unfolding rows
-rows-length m zero s h = omega arith
-rows-length m (suc n) s h =
+rows_length m zero s h = omega arith
+rows_length m (suc n) s h =
     let whole = ap length (take-append-drop 64 s) in
-    omega (arith, rows-length m n (drop 64 s) (omega (arith, length-drop 64 s)), length-append (take 64 s) (m ∷ joined m (rows n (drop 64 s))), length-append (take 64 s) (drop 64 s), whole)
+    omega (arith, rows_length m n (drop 64 s) (omega (arith, length-drop 64 s)), length-append (take 64 s) (m ∷ joined m (rows n (drop 64 s))), length-append (take 64 s) (drop 64 s), whole)
 
 -- ---- the guards
 
 module _ (word t : Bytes) where
-  pub guard-put : {o a b c d : Bytes} {k l m n p : ℕ} → k + length (guard word t) + 1 ≤ length o
-      → Puts o k (ascii "--STS:") a l → Puts a l t b m → Puts b m word c n → Puts c n (lineFeed ∷ []) d p
-      → Put o k (guard word t ++ lineFeed ∷ []) d p
-  guard-put h p₁ p₂ p₃ p₄ =
-      let q₁ = put_of (omega (arith, guard-length word t)) p₁ in
-      let q₂ = put_of (omega (arith, guard-length word t, q₁.next, put-length q₁)) p₂ in
-      let q₃ = put_of (omega (arith, guard-length word t, q₁.next, put-length q₁, q₂.next, put-length q₂)) p₃ in
-      let q₄ = put_of (omega (arith, guard-length word t, q₁.next, put-length q₁, q₂.next, put-length q₂, q₃.next, put-length q₃)) p₄ in
+  pub guard_put : {o a b c d : Bytes} {k l m n p : ℕ} → k + length (guard word t) + 1 ≤ length o
+      → Puts o k (ascii "--STS:") a l → Puts a l t b m → Puts b m word c n → Puts c n (line_feed ∷ []) d p
+      → Put o k (guard word t ++ line_feed ∷ []) d p
+  guard_put h p₁ p₂ p₃ p₄ =
+      let q₁ = put_of (omega (arith, guard_length word t)) p₁ in
+      let q₂ = put_of (omega (arith, guard_length word t, q₁.next, put_length q₁)) p₂ in
+      let q₃ = put_of (omega (arith, guard_length word t, q₁.next, put_length q₁, q₂.next, put_length q₂)) p₃ in
+      let q₄ = put_of (omega (arith, guard_length word t, q₁.next, put_length q₁, q₂.next, put_length q₂, q₃.next, put_length q₃)) p₄ in
       put_then (put_as (append_assoc (ascii "--STS:") t word) (put_then (put_then q₁ q₂) q₃)) q₄
 
 -- ---- the whole
 
 module _ (t s : Bytes) where
-  pub block-pieces : (beginsLine t ++ lineFeed ∷ []) ++ rows_of s ++ (endsLine t ++ lineFeed ∷ []) ≡ block_of t s
+  pub block_pieces : (begins_line t ++ line_feed ∷ []) ++ rows_of s ++ (ends_line t ++ line_feed ∷ []) ≡ block_of t s
   unfolding block_of
-  block-pieces =
-      append_assoc (beginsLine t ++ lineFeed ∷ []) (rows_of s) (endsLine t ++ lineFeed ∷ [])
-      ∙ append_assoc (beginsLine t) (lineFeed ∷ []) (rows_of s ++ (endsLine t ++ lineFeed ∷ []))
-      ∙ ap (λ (r : Bytes). beginsLine t ++ lineFeed ∷ r) (sym (joined-append lineFeed (folded s) (endsLine t ∷ [])))
+  block_pieces =
+      append_assoc (begins_line t ++ line_feed ∷ []) (rows_of s) (ends_line t ++ line_feed ∷ [])
+      ∙ append_assoc (begins_line t) (line_feed ∷ []) (rows_of s ++ (ends_line t ++ line_feed ∷ []))
+      ∙ ap (λ (r : Bytes). begins_line t ++ line_feed ∷ r) (sym (joined_append line_feed (folded s) (ends_line t ∷ [])))
 
   -- the room that each piece takes
-  pub block_room : length (block_of t s) ≡ length (beginsLine t) + 1 + length (rows_of s) + (length (endsLine t) + 1)
+  pub block_room : length (block_of t s) ≡ length (begins_line t) + 1 + length (rows_of s) + (length (ends_line t) + 1)
   block_room =
-      ap length (sym block-pieces)
-      ∙ length-append ((beginsLine t ++ lineFeed ∷ []) ++ rows_of s) (endsLine t ++ lineFeed ∷ [])
-      ∙ omega (arith, length-append (beginsLine t ++ lineFeed ∷ []) (rows_of s), length-append (beginsLine t) (lineFeed ∷ []), length-append (endsLine t) (lineFeed ∷ []))
+      ap length (sym block_pieces)
+      ∙ length-append ((begins_line t ++ line_feed ∷ []) ++ rows_of s) (ends_line t ++ line_feed ∷ [])
+      ∙ omega (arith, length-append (begins_line t ++ line_feed ∷ []) (rows_of s), length-append (begins_line t) (line_feed ∷ []), length-append (ends_line t) (line_feed ∷ []))
 
   pub block-length : length (block_of t s) ≡ 30 + 2 * length t + length s + (length s + 63) / 64
   block-length =
       block_room
-      ∙ omega (arith, guard-length (ascii " BEGINS--") t, guard-length (ascii " ENDS--") t, rows-length lineFeed ((length s + 63) / 64) s (enough s).0)
+      ∙ omega (arith, guard_length (ascii " BEGINS--") t, guard_length (ascii " ENDS--") t, rows_length line_feed ((length s + 63) / 64) s (enough s).0)
 
 -- ---- the call: a is the record call's answer to s, and t what stands before its first mark
 
-module _ (s : Bytes) {a : Answer} (own : a ≡ answer_of (readRecord s)) where
-  pub write-refused : (a.no ≡ 0 → ⊥) → (out : Bytes) (w : Written) → w ≡ says (denied a.no a.field) → Writes (writeMail s (length out)) out out w
-  unfolding writeMail
-  write-refused = given-refused (λ k fs. block_of (name k) s) (readRecord s) own
+module _ (s : Bytes) {a : Answer} (own : a ≡ answer_of (read_record s)) where
+  pub write_refused : (a.no ≡ 0 → ⊥) → (out : Bytes) (w : Written) → w ≡ says (denied a.no a.field) → Writes (write_mail s (length out)) out out w
+  unfolding write_mail
+  write_refused = given_refused (λ k fs. block_of (name k) s) (read_record s) own
 
   module _ (z : a.no ≡ 0) {t : Bytes} (titled : t ≡ title s) where
-    read : Taken (Built recordKinds s) (readRecord s) a.kind
-    read = taken (Built recordKinds s) (readRecord s) a (record-says s) own z
+    read : Taken (Built record_kinds s) (read_record s) a.kind
+    read = taken (Built record_kinds s) (read_record s) a (record_says s) own z
 
-    its-name : t ≡ name read.kind
-    its-name = titled ∙ its-title read.holds
+    its_name : t ≡ name read.kind
+    its_name = titled ∙ its_title read.holds
 
     pub short : (length t ≤ 32) × (length s ≤ 1024)
     short = (
-      omega (arith, ap length its-name, name-short read.kind),
-      omega (arith, ap length read.holds.built, built-length read.kind read.fields read.holds.permitted),
+      omega (arith, ap length its_name, name_short read.kind),
+      omega (arith, ap length read.holds.built, built_length read.kind read.fields read.holds.permitted),
     )
 
-    pub write-short : (out : Bytes) (w : Written) → length out < length (block_of t s) → w ≡ says (denied shortOutput 0) → Writes (writeMail s (length out)) out out w
-    unfolding writeMail
-    write-short out w h = given-short (λ k fs. block_of (name k) s) read.is out w (rw its-name at h)
+    pub write_short : (out : Bytes) (w : Written) → length out < length (block_of t s) → w ≡ says (denied short_output 0) → Writes (write_mail s (length out)) out out w
+    unfolding write_mail
+    write_short out w h = given_short (λ k fs. block_of (name k) s) read.is out w (rw its_name at h)
 
-    pub write-said : {out out' : Bytes} {n : ℕ} → Put out 0 (block_of t s) out' n → Writes (writeMail s (length out)) out out' (record { no = 0; field = 0; len = n })
-    unfolding writeMail
-    write-said p = given-put (λ k fs. block_of (name k) s) read.is (rw its-name at p)
+    pub write_said : {out out' : Bytes} {n : ℕ} → Put out 0 (block_of t s) out' n → Writes (write_mail s (length out)) out out' (record { no = 0; field = 0; len = n })
+    unfolding write_mail
+    write_said p = given_put (λ k fs. block_of (name k) s) read.is (rw its_name at p)

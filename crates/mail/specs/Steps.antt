@@ -2,34 +2,34 @@
 -- Assumes nothing.
 use Rattle.std.specs.Prelude.{ℕ, ◌+◌, ◌-◌, ◌≤◌, ◌<◌, ◌≡◌, true, cond, [], ◌∷◌, length, take, drop, eqb}
 use Rattle.text.specs.Text.{Bytes}
-use Rattle.numbers.specs.Numbers.{missingEnds}
-use Rattle.format.specs.Files.{lineFeed, up_to}
+use Rattle.numbers.specs.Numbers.{missing_ends}
+use Rattle.format.specs.Files.{line_feed, up_to}
 use Rattle.put.specs.Put.{Put}
-use Rattle.mail.specs.Mail.{linesIn, isBegins, block, missing, closed, opened}
+use Rattle.mail.specs.Mail.{lines_in, is_begins, block, missing, closed, opened}
 
 -- the line at place i of a text
-abbrev pub lineFrom : Bytes → ℕ → Bytes
-lineFrom text i = up_to lineFeed (drop i text)
+abbrev pub line_from : Bytes → ℕ → Bytes
+line_from text i = up_to line_feed (drop i text)
 
 -- the lines before place i are passed over, and at i stands a BEGINS line, or the end
 pub record Opens (text : Bytes) (i : ℕ) : Type 0 where
-  pub passed : opened (linesIn text) ≡ opened (linesIn (drop i text))
-  pub here : i < length text → isBegins (lineFrom text i) ≡ true
+  pub passed : opened (lines_in text) ≡ opened (lines_in (drop i text))
+  pub here : i < length text → is_begins (line_from text i) ≡ true
 
 -- s without its line feeds
 abbrev pub feedless : Bytes → Bytes
 feedless [] = []
-feedless (c ∷ s) = cond (eqb c lineFeed) (feedless s) (c ∷ feedless s)
+feedless (c ∷ s) = cond (eqb c line_feed) (feedless s) (c ∷ feedless s)
 
 -- what stands in a text from one place to another, its rows joined
-abbrev pub rowsIn : Bytes → ℕ → ℕ → Bytes
-rowsIn text from to = feedless (take (to - from) (drop from text))
+abbrev pub rows_in : Bytes → ℕ → ℕ → Bytes
+rows_in text from to = feedless (take (to - from) (drop from text))
 
 -- the first ENDS line of the record type t, from place `from` on, is at place i; or there is none, and i is past the end
 pub record Closes (text : Bytes) (from : ℕ) (t : Bytes) (i : ℕ) : Type 0 where
   pub further : from ≤ i
-  pub there : i < length text → closed t [] (linesIn (drop from text)) ≡ block t (rowsIn text from i)
-  pub nowhere : length text ≤ i → closed t [] (linesIn (drop from text)) ≡ missing missingEnds
+  pub there : i < length text → closed t [] (lines_in (drop from text)) ≡ block t (rows_in text from i)
+  pub nowhere : length text ≤ i → closed t [] (lines_in (drop from text)) ≡ missing missing_ends
 
 -- v is written at place k of o, which gives out, and r is the place after it; r is beyond the end where v does not fit
 pub record Added (o : Bytes) (k : ℕ) (v out : Bytes) (r : ℕ) : Type 0 where

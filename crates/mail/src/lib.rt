@@ -3,11 +3,11 @@
 ghost use Rattle.std.specs.Prelude.{◌≡◌, cond, [], ◌∷◌, ◌++◌, ◌+◌, ◌≤◌, length, ltb};
 ghost use Rattle.text.specs.Text.{same};
 ghost use Rattle.format.specs.Build.{joined};
-ghost use Rattle.format.specs.Files.{lineFeed};
+ghost use Rattle.format.specs.Files.{line_feed};
 ghost use Rattle.put.specs.Put.{Put};
 ghost use Rattle.put.specs.Made.{Writes};
-ghost use Rattle.mail.specs.Mail.{guard, rectypeIn, isBegins, folded, block_of, block, writeMail, readFound, readMail};
-ghost use Rattle.mail.specs.Steps.{lineFrom, Opens, Closes, feedless, Added};
+ghost use Rattle.mail.specs.Mail.{guard, rectype_in, is_begins, folded, block_of, block, write_mail, read_found, read_mail};
+ghost use Rattle.mail.specs.Steps.{line_from, Opens, Closes, feedless, Added};
 
 // The characters of a full row.
 const ROW: usize = 64;
@@ -20,7 +20,7 @@ const FEED: u8 = b'\n';
 // A guard and its line feed.
 fn put_guard(out: &mut [u8], at: usize, word: &[u8], rectype: &[u8]) -> usize
     requires { at + length (guard word.now rectype.now) + 1 ≤ length out.old }
-    ensures { Put out.old at (guard word.now rectype.now ++ lineFeed ∷ []) out.new result }
+    ensures { Put out.old at (guard word.now rectype.now ++ line_feed ∷ []) out.new result }
 {
     let first = put::put(out, at, b"--STS:");
     let second = put::put(out, first, rectype);
@@ -40,8 +40,8 @@ fn row_length(left: usize) -> usize
 
 // The rows, a line feed after each.
 fn put_rows(out: &mut [u8], at: usize, record: &[u8]) -> usize
-    requires { at + length (joined lineFeed (folded «record».now)) ≤ length out.old }
-    ensures { Put out.old at (joined lineFeed (folded «record».now)) out.new result }
+    requires { at + length (joined line_feed (folded «record».now)) ≤ length out.old }
+    ensures { Put out.old at (joined line_feed (folded «record».now)) out.new result }
 {
     let mut next = at;
     let mut i = 0;
@@ -75,7 +75,7 @@ fn block_length(rectype: &[u8], record: &[u8]) -> usize
 
 // Writes a record between its guards from the front of a lent output; or refuses, with the record's own number, then 10, and leaves it untouched.
 pub fn write_mail(record: &[u8], out: &mut [u8]) -> put::Written
-    ensures { Writes (writeMail «record».now (length out.old)) out.old out.new result }
+    ensures { Writes (write_mail «record».now (length out.old)) out.old out.new result }
 {
     let answer = reading::read_record(record);
     if answer.no != numbers::ACCEPTED {
@@ -97,7 +97,7 @@ pub fn write_mail(record: &[u8], out: &mut [u8]) -> put::Written
 
 // The line at a place, without its line feed; nothing past the end.
 fn line_from<'a>(text: &'a [u8], place: usize) -> &'a [u8]
-    ensures { result.now ≡ lineFrom text.now place }
+    ensures { result.now ≡ line_from text.now place }
 {
     let end = frame::next_mark(FEED, text, place);
     if text.len() < end {
@@ -126,7 +126,7 @@ fn is_guard(line: &[u8], word: &[u8], rectype: &[u8]) -> bool
 
 // What stands where a BEGINS line has its record type, and nothing in a line that is too short to be one.
 fn rectype_in<'a>(line: &'a [u8]) -> &'a [u8]
-    ensures { result.now ≡ rectypeIn line.now }
+    ensures { result.now ≡ rectype_in line.now }
 {
     if line.len() < 15 {
         return &line[0..0];
@@ -136,7 +136,7 @@ fn rectype_in<'a>(line: &'a [u8]) -> &'a [u8]
 }
 
 fn is_begins(line: &[u8]) -> bool
-    ensures { result ≡ isBegins line.now }
+    ensures { result ≡ is_begins line.now }
 {
     let rectype = rectype_in(line);
     if !text::is_ident(rectype) {
@@ -212,7 +212,7 @@ fn unfold(out: &mut [u8], rows: &[u8]) -> usize
 
 // Gives the record, which is read as the kind of this name and as no other.
 fn give(record: &[u8], rectype: &[u8], out: &mut [u8]) -> put::Written
-    ensures { Writes (readFound (length out.old) (block rectype.now «record».now)) out.old out.new result }
+    ensures { Writes (read_found (length out.old) (block rectype.now «record».now)) out.old out.new result }
 {
     let row = table::kind_named(rectype);
     let answer = reading::read_of(row, row + 1, record);
@@ -232,7 +232,7 @@ fn give(record: &[u8], rectype: &[u8], out: &mut [u8]) -> put::Written
 
 // The record must be whole before anything may be written into the lent output, so it is joined in an array of its own.
 fn read_rows(rows: &[u8], rectype: &[u8], out: &mut [u8]) -> put::Written
-    ensures { Writes (readFound (length out.old) (block rectype.now (feedless rows.now))) out.old out.new result }
+    ensures { Writes (read_found (length out.old) (block rectype.now (feedless rows.now))) out.old out.new result }
 {
     let mut joined = [0u8; 1024];
     let len = unfold(&mut joined, rows);
@@ -246,7 +246,7 @@ fn read_rows(rows: &[u8], rectype: &[u8], out: &mut [u8]) -> put::Written
 // line, 22 where no ENDS line matches it, then the record's own numbers (1 counts the bytes after unfolding, and 2 is given to a record that is not of
 // the kind which the BEGINS line names), then 10. A refused call leaves the output untouched.
 pub fn read_mail(text: &[u8], out: &mut [u8]) -> put::Written
-    ensures { Writes (readMail text.now (length out.old)) out.old out.new result }
+    ensures { Writes (read_mail text.now (length out.old)) out.old out.new result }
 {
     let begins = begins_at(text);
     if text.len() <= begins {

@@ -3,7 +3,7 @@
 use Rattle.std.specs.Prelude.{◌≡◌}
 use Rattle.text.specs.Text.{Bytes}
 use Rattle.subjects.specs.Subjects.{manufacturer, mid}
-pub use Rattle.subjects.specs.Keys.{Key, gntOf}
+pub use Rattle.subjects.specs.Keys.{Key, gnt_of}
 
 -- a and b are accepted public keys whose Subjects agree in kind, Manufacturer and MID
 pub record Agreed (a b : Bytes) : Type 0 where

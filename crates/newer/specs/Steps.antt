@@ -3,10 +3,10 @@
 use Rattle.std.specs.Prelude.{◌≡◌, List}
 use Rattle.text.specs.Text.{Bytes}
 use Rattle.format.specs.Kinds.{Kind}
-use Rattle.format.specs.Read.{accepted, readIdentity}
+use Rattle.format.specs.Read.{accepted, read_identity}
 
 -- s is an accepted identity
 pub record Named (s : Bytes) : Type 0 where
   pub who : Kind
   pub names : List Bytes
-  pub known : readIdentity s ≡ accepted who names
+  pub known : read_identity s ≡ accepted who names

@@ -1,11 +1,11 @@
 // The newer of two public keys: document 01, "Files of records and the newer key", number 13. The calls take any bytes
 // and have no `requires`.
 ghost use Rattle.std.specs.Prelude.{◌≡◌};
-ghost use Rattle.format.specs.Kinds.{pubkeyKinds};
-ghost use Rattle.format.specs.Read.{readIdentity, read_of};
+ghost use Rattle.format.specs.Kinds.{pubkey_kinds};
+ghost use Rattle.format.specs.Read.{read_identity, read_of};
 ghost use Rattle.places.specs.Places.{field_at};
 ghost use Rattle.reading.specs.Reading.{answer_of};
-ghost use Rattle.newer.specs.Newer.{bySubjects, newer, choiceSaid, Chosen};
+ghost use Rattle.newer.specs.Newer.{by_subjects, newer, choice_said, Chosen};
 ghost use Rattle.newer.specs.Steps.{Named};
 
 // ---- what is answered
@@ -31,7 +31,7 @@ pub struct Choice {
 // By the Subjects of two accepted keys: 13 where they are not alike; otherwise the one with the later GNT, the first when
 // equal.
 fn by_subjects(first: &[u8], second: &[u8]) -> Choice
-    ensures { Named first.now → Named second.now → result ≡ choiceSaid (bySubjects (readIdentity first.now) (readIdentity second.now)) }
+    ensures { Named first.now → Named second.now → result ≡ choice_said (by_subjects (read_identity first.now) (read_identity second.now)) }
 {
     if !subjects::are_alike(first, second) {
         return Choice {
@@ -61,7 +61,7 @@ fn by_subjects(first: &[u8], second: &[u8]) -> Choice
 
 // Reads public keys alone: the rows from ECDSA to before REQ.
 fn read_key(key: &[u8]) -> reading::Answer
-    ensures { result ≡ answer_of (read_of pubkeyKinds key.now) }
+    ensures { result ≡ answer_of (read_of pubkey_kinds key.now) }
 {
     reading::read_of(table::ECDSA, table::REQ, key)
 }
@@ -78,7 +78,7 @@ fn subject_of<'a>(key: &'a [u8], answer: reading::Answer) -> &'a [u8]
 // Which of two public keys is the newer: the one whose Subject has the later GNT, the first when equal. The first record's
 // refusals come before the second's, then 13.
 pub fn newer_of(first: &[u8], second: &[u8]) -> Choice
-    ensures { result ≡ choiceSaid (newer first.now second.now) }
+    ensures { result ≡ choice_said (newer first.now second.now) }
 {
     let one = read_key(first);
     if one.no != numbers::ACCEPTED {

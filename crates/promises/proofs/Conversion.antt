@@ -2,15 +2,15 @@
 -- Assumes nothing.
 use mathlib.Core.Path.{ap, ◌∙◌}
 use Rattle.text.specs.Text.{hexadecimal, one_of}
-use Rattle.text.specs.Base16.{hexDigit, hexValue}
+use Rattle.text.specs.Base16.{hex_digit, hex_value}
 use Rattle.text.proofs.Tests.{one-of, all_below, below}
-use Rattle.text.proofs.Hexadecimal.{value-digit, valued}
+use Rattle.text.proofs.Hexadecimal.{value_digit, valued}
 use Rattle.promises.specs.Conversion.{sixteen, Conversion}
 
 pub conversion : Conversion
-unfolding hexDigit all_below
+unfolding hex_digit all_below
 conversion = record {
-  value-again = λ v c w h p q. q.1.1 ∙ ap hexValue p.1.1 ∙ value-digit v h;
-  character-again = λ c v d t p q. q.1.1 ∙ ap hexDigit p.1.1 ∙ (valued c (one-of hexadecimal sixteen tt c t)).back;
-  among-sixteen = λ v c h p. rw p.1.1 (below 16 (λ n. one_of sixteen (hexDigit n)) tt v h);
+  value_again = λ v c w h p q. q.1.1 ∙ ap hex_value p.1.1 ∙ value_digit v h;
+  character_again = λ c v d t p q. q.1.1 ∙ ap hex_digit p.1.1 ∙ (valued c (one-of hexadecimal sixteen tt c t)).back;
+  among_sixteen = λ v c h p. rw p.1.1 (below 16 (λ n. one_of sixteen (hex_digit n)) tt v h);
 }

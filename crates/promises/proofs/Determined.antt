@@ -7,7 +7,7 @@ use Rattle.crc16.specs.declared.Crc.{Crc}
 use Rattle.text.specs.Text.{Bytes}
 use Rattle.text.specs.Part.{Part}
 use Rattle.table.proofs.Codes.{one_code}
-use Rattle.newer.specs.Newer.{Decision, theFirst, theSecond, noChoice, IsChosen, Chosen}
+use Rattle.newer.specs.Newer.{Decision, theFirst, theSecond, no_choice, IsChosen, Chosen}
 use Rattle.promises.specs.Determined.{Determined}
 
 -- two states with one number are one state
@@ -15,22 +15,22 @@ one_state : (x y : Crc) (n : ℕ) → x.state ≡ n → y.state ≡ n → x ≡ 
 one_state x y n p q = ap {B = Crc} (λ (m : ℕ). record { state = m }) (p ∙ sym q)
 
 -- two parts at one place that hold the same bytes
-one-part : {s x y : Bor Bytes} {start : ℕ} {bytes : Bytes} → Part s start bytes x → Part s start bytes y → (x.ref_ptr ≡ y.ref_ptr) × (x.now ≡ y.now)
-one-part p q = (p.stands ∙ sym q.stands, p.holds ∙ sym q.holds)
+one_part : {s x y : Bor Bytes} {start : ℕ} {bytes : Bytes} → Part s start bytes x → Part s start bytes y → (x.ref_ptr ≡ y.ref_ptr) × (x.now ≡ y.now)
+one_part p q = (p.stands ∙ sym q.stands, p.holds ∙ sym q.holds)
 
-one-chosen : {d : Decision} {a b x y : Bor Bytes} {m n i j : ℕ} → Chosen d a b x m i → Chosen d a b y n j → (x.ref_ptr ≡ y.ref_ptr) × (x.now ≡ y.now)
-one-chosen {d} {a} {b} {x} {y} p q = go d p.part-so q.part-so
+one_chosen : {d : Decision} {a b x y : Bor Bytes} {m n i j : ℕ} → Chosen d a b x m i → Chosen d a b y n j → (x.ref_ptr ≡ y.ref_ptr) × (x.now ≡ y.now)
+one_chosen {d} {a} {b} {x} {y} p q = go d p.part_so q.part_so
   where
     go : (c : Decision) → IsChosen c a b x → IsChosen c a b y → (x.ref_ptr ≡ y.ref_ptr) × (x.now ≡ y.now)
     go theFirst e f = (ap (λ x. x.ref_ptr) (e ∙ sym f), ap (λ x. x.now) (e ∙ sym f))
     go theSecond e f = (ap (λ x. x.ref_ptr) (e ∙ sym f), ap (λ x. x.now) (e ∙ sym f))
-    go (noChoice w n i) e f = one-part e f
+    go (no_choice w n i) e f = one_part e f
 
 pub determined : Determined
 determined = record {
-  crc-begin = λ κs a x y s t p q. one_state x y _ p q;
-  crc-add = λ κs a x y s t p q. one_state x y _ p q;
-  crc-end = λ κs a x y s t p q. p ∙ sym q;
+  crc_begin = λ κs a x y s t p q. one_state x y _ p q;
+  crc_add = λ κs a x y s t p q. one_state x y _ p q;
+  crc_end = λ κs a x y s t p q. p ∙ sym q;
   crc-of = λ κs a x y s t p q. p ∙ sym q;
   are-same = λ κs a x y s t p q. p ∙ sym q;
   is-ident = λ κs a x y s t p q. p ∙ sym q;
@@ -62,18 +62,18 @@ determined = record {
   is-identity = λ κs a x y s t p q. p ∙ sym q;
   may-be-empty = λ κs a x y s t p q. p ∙ sym q;
   does-permit = λ κs a x y s t p q. p ∙ sym q;
-  title-of = λ κs a x y s t p q. one-part p q;
+  title-of = λ κs a x y s t p q. one_part p q;
   mark-after = λ κs a x y s t p q. p ∙ sym q;
   next-mark = λ κs a x y s t p q. p ∙ sym q;
   part-start = λ κs a x y s t p q. p ∙ sym q;
-  part = λ κs a x y s t p q. one-part p q;
-  body_of = λ κs a x y s t p q. one-part p q;
+  part = λ κs a x y s t p q. one_part p q;
+  body_of = λ κs a x y s t p q. one_part p q;
   check-no = λ κs a x y s t p q. p ∙ sym q;
   places_of = λ κs a x y s t p q. p ∙ sym q;
-  part-at = λ κs a x y s t p q. one-part p q;
-  field-at = λ κs a x y s t p q. one-part p q;
+  part-at = λ κs a x y s t p q. one_part p q;
+  field-at = λ κs a x y s t p q. one_part p q;
   are-attributes = λ κs a x y s t p q. p ∙ sym q;
-  refuse-reading = λ κs a x y s t p q. p ∙ sym q;
+  refuse_reading = λ κs a x y s t p q. p ∙ sym q;
   read-identity = λ κs a x y s t p q. p ∙ sym q;
   judge = λ κs a x y s t p q. p ∙ sym q;
   read_under = λ κs a x y s t p q. p ∙ sym q;
@@ -81,51 +81,51 @@ determined = record {
   read-record = λ κs a x y s t p q. p ∙ sym q;
   identity-place = λ κs a x y s t p q. p.said ∙ sym q.said;
   record-place = λ κs a x y s t p q. p.said ∙ sym q.said;
-  identity-field-part = λ κs a x y s t p q. one-part p.its-part q.its-part;
-  identity-field-no = λ κs a x y s t p q. p.its-no ∙ sym q.its-no;
-  identity-field-field = λ κs a x y s t p q. p.its-field ∙ sym q.its-field;
-  record-field-part = λ κs a x y s t p q. one-part p.its-part q.its-part;
-  record-field-no = λ κs a x y s t p q. p.its-no ∙ sym q.its-no;
-  record-field-field = λ κs a x y s t p q. p.its-field ∙ sym q.its-field;
+  identity_field_part = λ κs a x y s t p q. one_part p.its_part q.its_part;
+  identity_field_no = λ κs a x y s t p q. p.its_no ∙ sym q.its_no;
+  identity_field_field = λ κs a x y s t p q. p.its_field ∙ sym q.its_field;
+  record_field_part = λ κs a x y s t p q. one_part p.its_part q.its_part;
+  record_field_no = λ κs a x y s t p q. p.its_no ∙ sym q.its_no;
+  record_field_field = λ κs a x y s t p q. p.its_field ∙ sym q.its_field;
   attribute-place = λ κs a x y s t p q. p.said ∙ sym q.said;
   attribute-named-place = λ κs a x y s t p q. p.said ∙ sym q.said;
-  attribute-part = λ κs a x y s t p q. one-part p.its-part q.its-part;
-  attribute-no = λ κs a x y s t p q. p.its-no ∙ sym q.its-no;
-  attribute-field = λ κs a x y s t p q. p.its-field ∙ sym q.its-field;
-  attribute-named-part = λ κs a x y s t p q. one-part p.its-part q.its-part;
-  attribute-named-no = λ κs a x y s t p q. p.its-no ∙ sym q.its-no;
-  attribute-named-field = λ κs a x y s t p q. p.its-field ∙ sym q.its-field;
+  attribute-part = λ κs a x y s t p q. one_part p.its_part q.its_part;
+  attribute-no = λ κs a x y s t p q. p.its_no ∙ sym q.its_no;
+  attribute_field = λ κs a x y s t p q. p.its_field ∙ sym q.its_field;
+  attribute_named_part = λ κs a x y s t p q. one_part p.its_part q.its_part;
+  attribute_named_no = λ κs a x y s t p q. p.its_no ∙ sym q.its_no;
+  attribute_named_field = λ κs a x y s t p q. p.its_field ∙ sym q.its_field;
   refuse = λ κs a x y s t p q. p ∙ sym q;
   put_next = λ κs a x y s t p q. p.answers ∙ sym q.answers;
-  put-out = λ κs a x y s t p q. p.leaves ∙ sym q.leaves;
-  put-byte-next = λ κs a x y s t p q. p.answers ∙ sym q.answers;
-  put-byte-out = λ κs a x y s t p q. p.leaves ∙ sym q.leaves;
-  put-hex-next = λ κs a x y s t p q. p.answers ∙ sym q.answers;
-  put-hex-out = λ κs a x y s t p q. p.leaves ∙ sym q.leaves;
-  put-decoded-next = λ κs a x y s t p q. p.answers ∙ sym q.answers;
-  put-decoded-out = λ κs a x y s t p q. p.leaves ∙ sym q.leaves;
-  sha384-begin = λ κs a x y s t p q. p ∙ sym q;
-  sha384-add = λ κs a x y s t p q. p ∙ sym q;
-  sha384-end = λ κs a x y s t p q. p ∙ sym q;
+  put_out = λ κs a x y s t p q. p.leaves ∙ sym q.leaves;
+  put_byte_next = λ κs a x y s t p q. p.answers ∙ sym q.answers;
+  put_byte_out = λ κs a x y s t p q. p.leaves ∙ sym q.leaves;
+  put_hex_next = λ κs a x y s t p q. p.answers ∙ sym q.answers;
+  put_hex_out = λ κs a x y s t p q. p.leaves ∙ sym q.leaves;
+  put_decoded_next = λ κs a x y s t p q. p.answers ∙ sym q.answers;
+  put_decoded_out = λ κs a x y s t p q. p.leaves ∙ sym q.leaves;
+  sha384_begin = λ κs a x y s t p q. p ∙ sym q;
+  sha384_add = λ κs a x y s t p q. p ∙ sym q;
+  sha384_end = λ κs a x y s t p q. p ∙ sym q;
   sha384-of = λ κs a x y s t p q. p ∙ sym q;
-  sha1-begin = λ κs a x y s t p q. p ∙ sym q;
-  sha1-add = λ κs a x y s t p q. p ∙ sym q;
-  sha1-end = λ κs a x y s t p q. p ∙ sym q;
+  sha1_begin = λ κs a x y s t p q. p ∙ sym q;
+  sha1_add = λ κs a x y s t p q. p ∙ sym q;
+  sha1_end = λ κs a x y s t p q. p ∙ sym q;
   sha1-of = λ κs a x y s t p q. p ∙ sym q;
-  hmac-begin = λ κs a x y s t p q. p ∙ sym q;
-  hmac-end = λ κs a x y s t p q. p ∙ sym q;
+  hmac_begin = λ κs a x y s t p q. p ∙ sym q;
+  hmac_end = λ κs a x y s t p q. p ∙ sym q;
   hmac-of = λ κs a x y s t p q. p ∙ sym q;
-  build-said = λ κs a x y s t p q. p.said ∙ sym q.said;
-  build-out = λ κs a x y s t p q. p.left ∙ sym q.left;
+  build_said = λ κs a x y s t p q. p.said ∙ sym q.said;
+  build_out = λ κs a x y s t p q. p.left ∙ sym q.left;
   item-place = λ κs a x y s t p q. p.said ∙ sym q.said;
-  text-item-part = λ κs a x y s t p q. one-part p.part-so q.part-so;
-  text-item-no = λ κs a x y s t p q. p.number-so ∙ sym q.number-so;
-  shared-info-said = λ κs a x y s t p q. p.said ∙ sym q.said;
-  shared-info-out = λ κs a x y s t p q. p.left ∙ sym q.left;
-  module-text-said = λ κs a x y s t p q. p.said ∙ sym q.said;
-  module-text-out = λ κs a x y s t p q. p.left ∙ sym q.left;
-  centre-text-said = λ κs a x y s t p q. p.said ∙ sym q.said;
-  centre-text-out = λ κs a x y s t p q. p.left ∙ sym q.left;
+  text_item_part = λ κs a x y s t p q. one_part p.part_so q.part_so;
+  text_item_no = λ κs a x y s t p q. p.number_so ∙ sym q.number_so;
+  shared_info_said = λ κs a x y s t p q. p.said ∙ sym q.said;
+  shared_info_out = λ κs a x y s t p q. p.left ∙ sym q.left;
+  module_text_said = λ κs a x y s t p q. p.said ∙ sym q.said;
+  module_text_out = λ κs a x y s t p q. p.left ∙ sym q.left;
+  centre_text_said = λ κs a x y s t p q. p.said ∙ sym q.said;
+  centre_text_out = λ κs a x y s t p q. p.left ∙ sym q.left;
   line-at = λ κs a x y s t p q. p ∙ sym q;
   count = λ κs a x y s t p q. p ∙ sym q;
   step_from = λ κs a x y s t p q. p ∙ sym q;
@@ -134,42 +134,42 @@ determined = record {
   read-trailed = λ κs a x y s t p q. p ∙ sym q;
   trailed-at = λ κs a x y s t p q. p ∙ sym q;
   count-trailed = λ κs a x y s t p q. p ∙ sym q;
-  write-trailed-said = λ κs a x y s t p q. p.said ∙ sym q.said;
-  write-trailed-out = λ κs a x y s t p q. p.left ∙ sym q.left;
-  write-mail-said = λ κs a x y s t p q. p.said ∙ sym q.said;
-  write-mail-out = λ κs a x y s t p q. p.left ∙ sym q.left;
-  read-mail-said = λ κs a x y s t p q. p.said ∙ sym q.said;
-  read-mail-out = λ κs a x y s t p q. p.left ∙ sym q.left;
-  make-cabinet-said = λ κs a x y s t p q. p.said ∙ sym q.said;
-  make-cabinet-bytes = λ κs a x y s t p q. p.left ∙ sym q.left;
+  write_trailed_said = λ κs a x y s t p q. p.said ∙ sym q.said;
+  write_trailed_out = λ κs a x y s t p q. p.left ∙ sym q.left;
+  write_mail_said = λ κs a x y s t p q. p.said ∙ sym q.said;
+  write_mail_out = λ κs a x y s t p q. p.left ∙ sym q.left;
+  read_mail_said = λ κs a x y s t p q. p.said ∙ sym q.said;
+  read_mail_out = λ κs a x y s t p q. p.left ∙ sym q.left;
+  make_cabinet_said = λ κs a x y s t p q. p.said ∙ sym q.said;
+  make_cabinet_bytes = λ κs a x y s t p q. p.left ∙ sym q.left;
   check-cabinet = λ κs a x y s t p q. p ∙ sym q;
   count-keys = λ κs a x y s t p q. p ∙ sym q;
-  put-key-said = λ κs a x y s t p q. p.said ∙ sym q.said;
-  put-key-bytes = λ κs a x y s t p q. p.left ∙ sym q.left;
-  remove-key-said = λ κs a x y s t p q. p.said ∙ sym q.said;
-  remove-key-bytes = λ κs a x y s t p q. p.left ∙ sym q.left;
-  admit-said = λ κs a x y s t p q. p.said ∙ sym q.said;
-  admit-bytes = λ κs a x y s t p q. p.left ∙ sym q.left;
+  put_key_said = λ κs a x y s t p q. p.said ∙ sym q.said;
+  put_key_bytes = λ κs a x y s t p q. p.left ∙ sym q.left;
+  remove_key_said = λ κs a x y s t p q. p.said ∙ sym q.said;
+  remove_key_bytes = λ κs a x y s t p q. p.left ∙ sym q.left;
+  admit_said = λ κs a x y s t p q. p.said ∙ sym q.said;
+  admit_bytes = λ κs a x y s t p q. p.left ∙ sym q.left;
   key-place = λ κs a x y s t p q. p.said ∙ sym q.said;
-  find-key-part = λ κs a x y s t p q. one-part p.its-part q.its-part;
-  find-key-no = λ κs a x y s t p q. p.its-no ∙ sym q.its-no;
-  find-key-field = λ κs a x y s t p q. p.its-field ∙ sym q.its-field;
-  write-list-said = λ κs a x y s t p q. p.said ∙ sym q.said;
-  write-list-out = λ κs a x y s t p q. p.left ∙ sym q.left;
-  print-list-len = λ κs a x y s t p q. p ∙ sym q;
-  field_in = λ κs a x y s t p q. one-part p q;
+  find_key_part = λ κs a x y s t p q. one_part p.its_part q.its_part;
+  find_key_no = λ κs a x y s t p q. p.its_no ∙ sym q.its_no;
+  find_key_field = λ κs a x y s t p q. p.its_field ∙ sym q.its_field;
+  write_list_said = λ κs a x y s t p q. p.said ∙ sym q.said;
+  write_list_out = λ κs a x y s t p q. p.left ∙ sym q.left;
+  print_list_len = λ κs a x y s t p q. p ∙ sym q;
+  field_in = λ κs a x y s t p q. one_part p q;
   are-alike = λ κs a x y s t p q. p ∙ sym q;
   check-fingerprint = λ κs a x y s t p q. p ∙ sym q;
-  write-fingerprint-said = λ κs a x y s t p q. p.said ∙ sym q.said;
-  write-fingerprint-out = λ κs a x y s t p q. p.left ∙ sym q.left;
-  confirm-request-said = λ κs a x y s t p q. p.said ∙ sym q.said;
-  confirm-request-mac-key = λ κs a x y s t p q. p.mac-key-left ∙ sym q.mac-key-left;
-  confirm-request-kek = λ κs a x y s t p q. p.kek-left ∙ sym q.kek-left;
+  write_fingerprint_said = λ κs a x y s t p q. p.said ∙ sym q.said;
+  write_fingerprint_out = λ κs a x y s t p q. p.left ∙ sym q.left;
+  confirm_request_said = λ κs a x y s t p q. p.said ∙ sym q.said;
+  confirm_request_mac_key = λ κs a x y s t p q. p.mac_key_left ∙ sym q.mac_key_left;
+  confirm_request_kek = λ κs a x y s t p q. p.kek_left ∙ sym q.kek_left;
   confirm-response = λ κs a x y s t p q. p ∙ sym q;
   newer-of = λ κs a x y s t p q. p ∙ sym q;
   expiry-under = λ κs a x y s t p q. p ∙ sym q;
   expiry-of = λ κs a x y s t p q. p ∙ sym q;
-  newer-part = λ κs a x y s t p q. one-chosen p q;
-  newer-no = λ κs a x y s t p q. p.number-so ∙ sym q.number-so;
-  newer-field = λ κs a x y s t p q. p.field-so ∙ sym q.field-so;
+  newer_part = λ κs a x y s t p q. one_chosen p q;
+  newer_no = λ κs a x y s t p q. p.number_so ∙ sym q.number_so;
+  newer_field = λ κs a x y s t p q. p.field_so ∙ sym q.field_so;
 }

@@ -15,6 +15,6 @@ forms = record {
   one_answer = λ h. omega (arith, h tt tt 0 1 0 0 tt tt);
   one_in = λ h. omega (arith, h tt tt 0 1 0 0 tt tt);
   one_left = λ h. omega (arith, h tt tt 0 0 0 1 tt tt);
-  gives-only = λ h. h tt tt 0 0 tt;
-  names-field = λ h. subst (λ (b : Bool). T b) (h tt tt 0 0 tt) tt;
+  gives_only = λ h. h tt tt 0 0 tt;
+  names_field = λ h. subst (λ (b : Bool). T b) (h tt tt 0 0 tt) tt;
 }

@@ -1,25 +1,25 @@
 -- The promises about SHA-384 and SHA-1, from the laws of sha384 and sha1.
 -- Assumes nothing.
-use Rattle.sha384.proofs.Digest.{digest-bytes, digest-size}
-use Rattle.sha384.proofs.Pieces.{ended-all}
-use Rattle.sha1.proofs.Digest as short-digest
-use Rattle.sha1.proofs.Pieces as short
+use Rattle.sha384.proofs.Digest.{digest_bytes, digest_size}
+use Rattle.sha384.proofs.Pieces.{ended_all}
+use Rattle.sha_1.proofs.Digest as short-digest
+use Rattle.sha_1.proofs.Pieces as short
 use Rattle.promises.specs.Hash.{Hash}
 
 pub hash : Hash
 hash = record {
-  of-slice = λ κs a r s p. p;
+  of_slice = λ κs a r s p. p;
   begins = λ κs a r s p. p;
   adds = λ κs a r s p. p;
   ends = λ κs a r s p. p;
-  in-slices = ended-all;
-  size = digest-size;
-  are-bytes = digest-bytes;
-  sha1-of-slice = λ κs a r s p. p;
-  sha1-begins = λ κs a r s p. p;
-  sha1-adds = λ κs a r s p. p;
-  sha1-ends = λ κs a r s p. p;
-  sha1-in-slices = short.ended-all;
-  sha1-size = short-digest.digest-size;
-  sha1-are-bytes = short-digest.digest-bytes;
+  in_slices = ended_all;
+  size = digest_size;
+  are_bytes = digest_bytes;
+  sha1_of_slice = λ κs a r s p. p;
+  sha1_begins = λ κs a r s p. p;
+  sha1_adds = λ κs a r s p. p;
+  sha1_ends = λ κs a r s p. p;
+  sha1_in_slices = short.ended_all;
+  sha1_size = short-digest.digest_size;
+  sha1_are_bytes = short-digest.digest_bytes;
 }

@@ -5,10 +5,10 @@
 use Rattle.std.specs.Prelude.{ℕ, ◌≤◌, ◌<◌, ◌≡◌, ◌↔◌, ◌≢◌, List, ◌++◌, length, drop, T}
 use Rattle.std.proofs.Math.Option.{none}
 use Rattle.text.specs.Text.{Bytes}
-use Rattle.format.specs.Kinds.{Kind, name, identityKinds, recordKinds, allKinds, among}
-use Rattle.format.specs.Build.{recordOf, Permitted}
-use Rattle.format.specs.Read.{accepted, readIdentity, readRecord}
-use Rattle.numbers.specs.Numbers.{unknownKind, shortOutput}
+use Rattle.format.specs.Kinds.{Kind, name, identity_kinds, record_kinds, all_kinds, among}
+use Rattle.format.specs.Build.{record_of, Permitted}
+use Rattle.format.specs.Read.{accepted, read_identity, read_record}
+use Rattle.numbers.specs.Numbers.{unknown_kind, short_output}
 use Rattle.table.specs.Table.{named}
 use Rattle.put.specs.Made.{made}
 use Rattle.put.specs.declared.Written.{Written}
@@ -23,21 +23,21 @@ pub record BuildSaid (t bytes : Bytes) (ns : List ℕ) (out out' : Bytes) (r : W
   pub exactly : (r.no ≡ 0) ↔ ((k : Kind) × (fs : List Bytes) × Builds t bytes ns (length out) k fs)
   -- then the record stands at the front, and every byte past it stays
   pub written : (k : Kind) (fs : List Bytes) → Builds t bytes ns (length out) k fs
-      → (r.len ≡ length (recordOf k fs)) × (out' ≡ recordOf k fs ++ drop (length (recordOf k fs)) out)
+      → (r.len ≡ length (record_of k fs)) × (out' ≡ record_of k fs ++ drop (length (record_of k fs)) out)
   -- 2 for a kind name that is not in the table; 10 last, where only the room is missing
-  pub unknown : named allKinds t ≡ none → (r.no ≡ unknownKind) × (r.field ≡ 0)
-  pub short : (k : Kind) (fs : List Bytes) → t ≡ name k → bytes ≡ run fs → ns ≡ lengths fs → Permitted k fs → length out < length (recordOf k fs)
-      → (r.no ≡ shortOutput) × (r.field ≡ 0)
+  pub unknown : named all_kinds t ≡ none → (r.no ≡ unknown_kind) × (r.field ≡ 0)
+  pub short : (k : Kind) (fs : List Bytes) → t ≡ name k → bytes ≡ run fs → ns ≡ lengths fs → Permitted k fs → length out < length (record_of k fs)
+      → (r.no ≡ short_output) × (r.field ≡ 0)
   -- demand 1
   pub untouched : r.no ≢ 0 → (r.len ≡ 0) × (out' ≡ out)
 
 pub record Building : Type 0 where
   pub said : Holds call.Post (λ κs a r s. BuildSaid a.0.now a.1.0.now a.1.1.0.now a.1.1.1.0.now s.1.1.1.0.now r)
   -- read, and built again: the same bytes
-  pub record-again : (s : Bytes) (k : Kind) (fs : List Bytes) → readRecord s ≡ accepted k fs → (room : ℕ) → length s ≤ room
+  pub record_again : (s : Bytes) (k : Kind) (fs : List Bytes) → read_record s ≡ accepted k fs → (room : ℕ) → length s ≤ room
       → build (name k) (run fs) (lengths fs) room ≡ made s
-  pub identity-again : (s : Bytes) (k : Kind) (fs : List Bytes) → readIdentity s ≡ accepted k fs → (room : ℕ) → length s ≤ room
+  pub identity_again : (s : Bytes) (k : Kind) (fs : List Bytes) → read_identity s ≡ accepted k fs → (room : ℕ) → length s ≤ room
       → build (name k) (run fs) (lengths fs) room ≡ made s
   -- built, and read by the call for its kind: the same fields
-  pub record-back : (k : Kind) (fs : List Bytes) → Permitted k fs → T (among k recordKinds) → readRecord (recordOf k fs) ≡ accepted k fs
-  pub identity-back : (k : Kind) (fs : List Bytes) → Permitted k fs → T (among k identityKinds) → readIdentity (recordOf k fs) ≡ accepted k fs
+  pub record_back : (k : Kind) (fs : List Bytes) → Permitted k fs → T (among k record_kinds) → read_record (record_of k fs) ≡ accepted k fs
+  pub identity_back : (k : Kind) (fs : List Bytes) → Permitted k fs → T (among k identity_kinds) → read_identity (record_of k fs) ≡ accepted k fs

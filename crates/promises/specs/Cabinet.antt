@@ -2,24 +2,24 @@
 -- Assumes nothing.
 use Rattle.std.specs.Prelude.{ℕ, zero, suc, ◌+◌, ◌-◌, ◌*◌, ◌<◌, ◌≡◌, ◌↔◌, ◌⊎◌, ◌≢◌, true, false, cond, List, [], ◌∷◌, ◌++◌, length, take, drop, get_or, replicate, T, eqb}
 use Rattle.std.proofs.Math.Option.{Option, none, some}
-use Rattle.text.specs.Text.{Bytes, ascii, isTimestamp}
+use Rattle.text.specs.Text.{Bytes, ascii, is_timestamp}
 use Rattle.text.specs.Part.{Part}
-use Rattle.text.specs.Seconds.{seconds, secondsBytes}
+use Rattle.text.specs.Seconds.{seconds, seconds_bytes}
 use Rattle.text.specs.Later.{later}
-use Rattle.numbers.specs.Numbers.{notCabinet, notLater, noPlace, notThere, tvpNotLater}
-use Rattle.format.specs.Kinds.{Kind, SMID, REQ, pubkeyKinds}
+use Rattle.numbers.specs.Numbers.{not_cabinet, not_later, no_place, not_there, tvp_not_later}
+use Rattle.format.specs.Kinds.{Kind, SMID, REQ, pubkey_kinds}
 use Rattle.format.specs.Requests as load-request
-use Rattle.format.specs.Read.{accepted, refused, readIdentity, read_of}
+use Rattle.format.specs.Read.{accepted, refused, read_identity, read_of}
 use Rattle.format.specs.declared.Rules.{Rules}
 use Rattle.format.specs.declared.Rules.TheVariants.{UpToE10}
 use Rattle.subjects.specs.Subjects.{manufacturer, mid}
-use Rattle.subjects.specs.Keys.{KeyUnder, Key, gntOf}
+use Rattle.subjects.specs.Keys.{KeyUnder, Key, gnt_of}
 use Rattle.subjects.specs.Requests.{Request}
 use Rattle.expiry.specs.Expiry.{expiry}
 use Rattle.shelf.specs.Places as shelf-places
 use Rattle.shelf.specs.Places.{Names, Held, occupied}
 use Rattle.shelf.specs.Cabinet.{about, asks, reads, requests, shelf}
-use Rattle.shelf.specs.History.{Event, nowhere, heldIn, text_of, lastPut, firstPuts, removals, lastTvp, admittedOf, Moment, putEvent, removeEvent, admitEvent, onto}
+use Rattle.shelf.specs.History.{Event, nowhere, held_in, text_of, last_put, first_puts, removals, last_tvp, admitted_of, Moment, put_event, remove_event, admit_event, onto}
 use Rattle.cabinet.specs.declared.Filed.{Filed}
 use Rattle.cabinet.proofs.make_cabinet.Reads as make-cabinet
 use Rattle.cabinet.proofs.check_cabinet.Reads as check-cabinet
@@ -38,17 +38,17 @@ abbrev pub place_in : Bytes → ℕ → Bytes
 place_in s j = take 1024 (drop (j * 1024) s)
 
 -- the TVP of a module of which no request was admitted
-abbrev pub firstTvp : Bytes
-firstTvp = ascii "19930101T000000Z"
+abbrev pub first_tvp : Bytes
+first_tvp = ascii "19930101T000000Z"
 
 -- a TIMESTAMP that is not before it
 pub record IsTvp (t : Bytes) : Type 0 where
-  pub stamp : T (isTimestamp t)
-  pub from_start : later firstTvp t ≡ false
+  pub stamp : T (is_timestamp t)
+  pub from_start : later first_tvp t ≡ false
 
 -- the bytes of a place for a public key that some rules accept: its text, zeros, from byte 1000 on the last TVP accepted for its module, and from byte 1016 on the number of its Expiry
 abbrev pub place_of : {rules : Rules} {text : Bytes} → KeyUnder rules text → Bytes → Bytes
-place_of {rules} {text} k tvp = ((text ++ replicate (1000 - length text) 0) ++ tvp) ++ secondsBytes (seconds (expiry k.fields))
+place_of {rules} {text} k tvp = ((text ++ replicate (1000 - length text) 0) ++ tvp) ++ seconds_bytes (seconds (expiry k.fields))
 
 -- the bytes b of a place are so: what lay in a cabinet stays, so the rules up to E10 say what may stand there
 pub record Filled (b : Bytes) : Type 0 where
@@ -76,36 +76,36 @@ pub record IsCabinet (s : Bytes) : Type 0 where
   pub apart : (i j : ℕ) → i < 64 → j < 64 → (p : Filled (place_in s i)) (q : Filled (place_in s j)) → Shared p.key q.key → i ≡ j
 
 -- the bytes s with v in place j, and every other byte as it was
-abbrev pub withPlace : Bytes → ℕ → Bytes → Bytes
-withPlace s j v = (take (j * 1024) s ++ v) ++ drop (j * 1024 + 1024) s
+abbrev pub with_place : Bytes → ℕ → Bytes → Bytes
+with_place s j v = (take (j * 1024) s ++ v) ++ drop (j * 1024 + 1024) s
 
 -- the bytes s with the TVP t in place j, and every other byte as it was
-abbrev pub withTvp : Bytes → ℕ → Bytes → Bytes
-withTvp s j t = (take (j * 1024 + 1000) s ++ t) ++ drop (j * 1024 + 1016) s
+abbrev pub with_tvp : Bytes → ℕ → Bytes → Bytes
+with_tvp s j t = (take (j * 1024 + 1000) s ++ t) ++ drop (j * 1024 + 1016) s
 
 -- ---- the calls: the bytes that were lent, what else was, the bytes afterwards, and the answer
 
 -- 23 exactly for bytes that are no cabinet, and a refused call leaves all of them
 pub record Refuses (s after : Bytes) (no : ℕ) : Type 0 where
-  pub no-cabinet : (no ≡ notCabinet) ↔ (IsCabinet s → ⊥)
+  pub no_cabinet : (no ≡ not_cabinet) ↔ (IsCabinet s → ⊥)
   pub untouched : no ≢ 0 → after ≡ s
 
 pub record PutSaid (s r after : Bytes) (x : Filed) : Type 0 where
   pub refuses : Refuses s after x.no
   -- the record's own numbers before 24 and 25
-  pub own : IsCabinet s → (n i : ℕ) → read_of pubkeyKinds r ≡ refused n i → x ≡ record { no = n; field = i }
+  pub own : IsCabinet s → (n i : ℕ) → read_of pubkey_kinds r ≡ refused n i → x ≡ record { no = n; field = i }
   -- 24 exactly where a record that shares the three is there, old or not, and the GNT is not later: earlier or equal
   pub not-later : IsCabinet s
-      → (x.no ≡ notLater) ↔ ((p : Key r) × (j : ℕ) × (j < 64) × (q : Filled (place_in s j)) × Shared p q.key × (later (gntOf p) (gntOf q.key) ≡ false))
+      → (x.no ≡ not_later) ↔ ((p : Key r) × (j : ℕ) × (j < 64) × (q : Filled (place_in s j)) × Shared p q.key × (later (gnt_of p) (gnt_of q.key) ≡ false))
   -- 25 exactly where 64 records of other subjects are there
-  pub no_place : IsCabinet s → (x.no ≡ noPlace) ↔ ((p : Key r) × ((j : ℕ) → j < 64 → (q : Filled (place_in s j)) × (Shared p q.key → ⊥)))
+  pub no_place : IsCabinet s → (x.no ≡ no_place) ↔ ((p : Key r) × ((j : ℕ) → j < 64 → (q : Filled (place_in s j)) × (Shared p q.key → ⊥)))
   -- a replacement, of an old record too, stays in its place and keeps the TVP
-  pub replaces : IsCabinet s → (p : Key r) (j : ℕ) → j < 64 → (q : Filled (place_in s j)) → Shared p q.key → later (gntOf p) (gntOf q.key) ≡ true
-      → (x.no ≡ 0) × (after ≡ withPlace s j (place_of p q.tvp))
+  pub replaces : IsCabinet s → (p : Key r) (j : ℕ) → j < 64 → (q : Filled (place_in s j)) → Shared p q.key → later (gnt_of p) (gnt_of q.key) ≡ true
+      → (x.no ≡ 0) × (after ≡ with_place s j (place_of p q.tvp))
   -- a first put takes the lowest free place, and its TVP is the first one
   pub first : IsCabinet s → (p : Key r) → ((j : ℕ) → j < 64 → (q : Filled (place_in s j)) → Shared p q.key → ⊥)
       → (j : ℕ) → j < 64 → place_in s j ≡ replicate 1024 0 → ((i : ℕ) → i < j → Filled (place_in s i))
-      → (x.no ≡ 0) × (after ≡ withPlace s j (place_of p firstTvp))
+      → (x.no ≡ 0) × (after ≡ with_place s j (place_of p first_tvp))
 
 -- a record of the names of an accepted identity is in place j; GNT and Fingerprint of the identity may differ
 abbrev pub There : Bytes → Kind → List Bytes → ℕ → Type 0
@@ -113,40 +113,40 @@ There s who fs j = (j < 64) × (q : Filled (place_in s j)) × Share who fs q.key
 
 pub record RemoveSaid (s i after : Bytes) (x : Filed) : Type 0 where
   pub refuses : Refuses s after x.no
-  pub own : IsCabinet s → (n j : ℕ) → readIdentity i ≡ refused n j → x ≡ record { no = n; field = j }
+  pub own : IsCabinet s → (n j : ℕ) → read_identity i ≡ refused n j → x ≡ record { no = n; field = j }
   -- 26 exactly where nothing of its names is there
   pub not_there : IsCabinet s
-      → (x.no ≡ notThere) ↔ ((who : Kind) × (fs : List Bytes) × (readIdentity i ≡ accepted who fs) × ((j : ℕ) → There s who fs j → ⊥))
+      → (x.no ≡ not_there) ↔ ((who : Kind) × (fs : List Bytes) × (read_identity i ≡ accepted who fs) × ((j : ℕ) → There s who fs j → ⊥))
   -- and else the place is all zeros, the TVP too, whether the record was old or not
-  pub removes : IsCabinet s → (who : Kind) (fs : List Bytes) → readIdentity i ≡ accepted who fs → (j : ℕ) → There s who fs j
-      → (x.no ≡ 0) × (after ≡ withPlace s j (replicate 1024 0))
+  pub removes : IsCabinet s → (who : Kind) (fs : List Bytes) → read_identity i ≡ accepted who fs → (j : ℕ) → There s who fs j
+      → (x.no ≡ 0) × (after ≡ with_place s j (replicate 1024 0))
 
 -- the module of an accepted request, by kind, Manufacturer and MID of its ID_SM, is in place j
 abbrev pub Module : Bytes → {q : Bytes} → Request q → ℕ → Type 0
 Module s r j = There s SMID r.names j
 
-abbrev pub tvpOf : {q : Bytes} → Request q → Bytes
-tvpOf r = load-request.tvp r.fields
+abbrev pub tvp_of : {q : Bytes} → Request q → Bytes
+tvp_of r = load-request.tvp r.fields
 
 pub record AdmitSaid (s q after : Bytes) (x : Filed) : Type 0 where
   pub refuses : Refuses s after x.no
   -- the request's own numbers before 26 and 27
   pub own : IsCabinet s → (n i : ℕ) → read_of (REQ ∷ []) q ≡ refused n i → x ≡ record { no = n; field = i }
   -- 26 exactly where its module is not there, or its record is old
-  pub not_there : IsCabinet s → (x.no ≡ notThere) ↔ ((r : Request q) × ((j : ℕ) (m : Module s r j) → Old m.1.text))
+  pub not_there : IsCabinet s → (x.no ≡ not_there) ↔ ((r : Request q) × ((j : ℕ) (m : Module s r j) → Old m.1.text))
   -- 27 exactly where it is there and not old, and the TVP is not later than the stored one: earlier or equal
-  pub not-later : IsCabinet s → (x.no ≡ tvpNotLater) ↔ ((r : Request q) × (j : ℕ) × (m : Module s r j) × Key m.1.text × (later (tvpOf r) m.1.tvp ≡ false))
+  pub not-later : IsCabinet s → (x.no ≡ tvp_not_later) ↔ ((r : Request q) × (j : ℕ) × (m : Module s r j) × Key m.1.text × (later (tvp_of r) m.1.tvp ≡ false))
   -- and else the TVP is stored, and nothing else changes
-  pub admits : IsCabinet s → (r : Request q) (j : ℕ) (m : Module s r j) → Key m.1.text → later (tvpOf r) m.1.tvp ≡ true → (x.no ≡ 0) × (after ≡ withTvp s j (tvpOf r))
+  pub admits : IsCabinet s → (r : Request q) (j : ℕ) (m : Module s r j) → Key m.1.text → later (tvp_of r) m.1.tvp ≡ true → (x.no ≡ 0) × (after ≡ with_tvp s j (tvp_of r))
 
 pub record FindSaid (s i : Bytes) (no field start : ℕ) (text : Bytes) : Type 0 where
-  pub no-cabinet : (no ≡ notCabinet) ↔ (IsCabinet s → ⊥)
-  pub own : IsCabinet s → (n j : ℕ) → readIdentity i ≡ refused n j → (no ≡ n) × (field ≡ j)
+  pub no_cabinet : (no ≡ not_cabinet) ↔ (IsCabinet s → ⊥)
+  pub own : IsCabinet s → (n j : ℕ) → read_identity i ≡ refused n j → (no ≡ n) × (field ≡ j)
   -- 26 exactly where nothing of its names is there, or an old record
   pub not_there : IsCabinet s
-      → (no ≡ notThere) ↔ ((who : Kind) × (fs : List Bytes) × (readIdentity i ≡ accepted who fs) × ((j : ℕ) (t : There s who fs j) → Old t.1.text))
+      → (no ≡ not_there) ↔ ((who : Kind) × (fs : List Bytes) × (read_identity i ≡ accepted who fs) × ((j : ℕ) (t : There s who fs j) → Old t.1.text))
   -- the record in its place, where it is not old
-  pub found : IsCabinet s → (who : Kind) (fs : List Bytes) → readIdentity i ≡ accepted who fs → (j : ℕ) (t : There s who fs j) → Key t.1.text
+  pub found : IsCabinet s → (who : Kind) (fs : List Bytes) → read_identity i ≡ accepted who fs → (j : ℕ) (t : There s who fs j) → Key t.1.text
       → (no ≡ 0) × (start ≡ j * 1024) × (text ≡ t.1.text)
   -- demand 1
   pub nothing : no ≢ 0 → (start ≡ 0) × (text ≡ [])
@@ -159,9 +159,9 @@ Counts m n e number after = n ≡ record { bytes = after; events = cond (eqb num
 
 abbrev pub Step : Moment → Moment → Type 0
 Step m n =
-    SomeCall put-key.Post (λ κs a r s. (a.0.now ≡ m.bytes) × Counts m n (putEvent a.1.0.now (reads a.1.0.now)) r.no s.0.now)
-    ⊎ SomeCall remove_key.Post (λ κs a r s. (a.0.now ≡ m.bytes) × Counts m n (removeEvent (asks a.1.0.now)) r.no s.0.now)
-    ⊎ SomeCall admit.Post (λ κs a r s. (a.0.now ≡ m.bytes) × Counts m n (admitEvent (requests a.1.0.now)) r.no s.0.now)
+    SomeCall put-key.Post (λ κs a r s. (a.0.now ≡ m.bytes) × Counts m n (put_event a.1.0.now (reads a.1.0.now)) r.no s.0.now)
+    ⊎ SomeCall remove_key.Post (λ κs a r s. (a.0.now ≡ m.bytes) × Counts m n (remove_event (asks a.1.0.now)) r.no s.0.now)
+    ⊎ SomeCall admit.Post (λ κs a r s. (a.0.now ≡ m.bytes) × Counts m n (admit_event (requests a.1.0.now)) r.no s.0.now)
     ⊎ SomeCall find-key.Post (λ κs a r s. (a.0.now ≡ m.bytes) × (n ≡ m))
     ⊎ SomeCall key-place.Post (λ κs a r s. (a.0.now ≡ m.bytes) × (n ≡ m))
     ⊎ SomeCall check-cabinet.Post (λ κs a r s. (a.0.now ≡ m.bytes) × (n ≡ m))
@@ -174,18 +174,18 @@ Ran (suc k) m n = (l : Moment) × Step m l × Ran k l n
 
 -- what find gives for the record t that is there, or for nothing
 abbrev pub Gives : Option Bytes → Bytes → ℕ → Type 0
-Gives none part number = number ≡ notThere
-Gives (some t) part number = (Key t → (number ≡ 0) × (part ≡ t)) × (Old t → number ≡ notThere)
+Gives none part number = number ≡ not_there
+Gives (some t) part number = (Key t → (number ≡ 0) × (part ≡ t)) × (Old t → number ≡ not_there)
 
 -- what is answered to a request with the TVP t, whose module has this last TVP, or is not there
-abbrev pub answerTo : Option Bytes → Bytes → ℕ
-answerTo none t = notThere
-answerTo (some u) t = cond (later t u) 0 tvpNotLater
+abbrev pub answer_to : Option Bytes → Bytes → ℕ
+answer_to none t = not_there
+answer_to (some u) t = cond (later t u) 0 tvp_not_later
 
 -- the same, where the module's record may be old
 abbrev pub Answers : Option Bytes → Option Bytes → Bytes → ℕ → Type 0
-Answers none u t number = number ≡ notThere
-Answers (some r) u t number = (Key r → number ≡ answerTo u t) × (Old r → number ≡ notThere)
+Answers none u t number = number ≡ not_there
+Answers (some r) u t number = (Key r → number ≡ answer_to u t) × (Old r → number ≡ not_there)
 
 -- of TVPs, the last one first: of two of them the one that was admitted later is later
 abbrev pub Rise : List Bytes → Type 0
@@ -201,21 +201,21 @@ AmongThem t ts = (i : ℕ) × (i < length ts) × (t ≡ get_or ts i [])
 -- at the moment m, where so many records were there `before` the calls
 pub record Remembers (before : Names → Option Held) (many : ℕ) (m : Moment) : Type 0 where
   -- the occupied places number what was there and the accepted first puts, less the accepted removals
-  pub number : Holds count-keys.Post (λ κs a r s. a.0.now ≡ m.bytes → (r.no ≡ 0) × (r.count + removals m.events ≡ many + firstPuts before m.events))
+  pub number : Holds count-keys.Post (λ κs a r s. a.0.now ≡ m.bytes → (r.no ≡ 0) × (r.count + removals m.events ≡ many + first_puts before m.events))
   -- find gives the last accepted put that was not removed: the very bytes that were put; an old record is missing
   pub finds : Holds find-key.Post
-      (λ κs a r s. a.0.now ≡ m.bytes → (k : Names) (g : Bytes) → asks a.1.0.now ≡ about k g → Gives (lastPut before k m.events) r.now s.1.1.0.now)
+      (λ κs a r s. a.0.now ≡ m.bytes → (k : Names) (g : Bytes) → asks a.1.0.now ≡ about k g → Gives (last_put before k m.events) r.now s.1.1.0.now)
   -- an old record was there before the calls: none puts one in
-  pub olds : (k : Names) (r : Bytes) → lastPut before k m.events ≡ some r → Old r → text_of (before k) ≡ some r
+  pub olds : (k : Names) (r : Bytes) → last_put before k m.events ≡ some r → Old r → text_of (before k) ≡ some r
   -- a request is admitted exactly if its module is there, with a record that is not old, and its TVP is later than the last one accepted for it
   pub admits : Holds admit.Post
-      (λ κs a r s. a.0.now ≡ m.bytes → (k : Names) (t : Bytes) → requests a.1.0.now ≡ about k t → Answers (lastPut before k m.events) (lastTvp before k m.events) t r.no)
+      (λ κs a r s. a.0.now ≡ m.bytes → (k : Names) (t : Bytes) → requests a.1.0.now ≡ about k t → Answers (last_put before k m.events) (last_tvp before k m.events) t r.no)
   -- two requests of a module admitted since its latest first put never share a TVP; their TVPs rise
-  pub unshared : (k : Names) → Unshared (admittedOf before k m.events)
-  pub rise : (k : Names) → Rise (admittedOf before k m.events)
+  pub unshared : (k : Names) → Unshared (admitted_of before k m.events)
+  pub rise : (k : Names) → Rise (admitted_of before k m.events)
   -- so a request that comes back is not admitted a second time
   pub comes_back : Holds admit.Post
-      (λ κs a r s. a.0.now ≡ m.bytes → (k : Names) (t : Bytes) → requests a.1.0.now ≡ about k t → AmongThem t (admittedOf before k m.events) → r.no ≢ 0)
+      (λ κs a r s. a.0.now ≡ m.bytes → (k : Names) (t : Bytes) → requests a.1.0.now ≡ about k t → AmongThem t (admitted_of before k m.events) → r.no ≢ 0)
 
 abbrev pub begun : Bytes → Moment
 begun s = record { bytes = s; events = [] }
@@ -223,10 +223,10 @@ begun s = record { bytes = s; events = [] }
 pub record Cabinet : Type 0 where
   pub made : Holds make-cabinet.Post
       (λ κs a r s. (length a.0.now ≡ 65536 → (r.no ≡ 0) × (s.0.now ≡ replicate 65536 0))
-      × (length a.0.now ≢ 65536 → (r.no ≡ notCabinet) × (s.0.now ≡ a.0.now)))
-  pub checked : Holds check-cabinet.Post (λ κs a r s. ((r.no ≡ 0) ↔ IsCabinet a.0.now) × ((r.no ≡ notCabinet) ↔ (IsCabinet a.0.now → ⊥)))
+      × (length a.0.now ≢ 65536 → (r.no ≡ not_cabinet) × (s.0.now ≡ a.0.now)))
+  pub checked : Holds check-cabinet.Post (λ κs a r s. ((r.no ≡ 0) ↔ IsCabinet a.0.now) × ((r.no ≡ not_cabinet) ↔ (IsCabinet a.0.now → ⊥)))
   pub counted : Holds count-keys.Post
-      (λ κs a r s. ((r.no ≡ 0) ↔ IsCabinet a.0.now) × ((r.no ≡ notCabinet) ↔ (IsCabinet a.0.now → ⊥)) × (r.no ≢ 0 → r.count ≡ 0))
+      (λ κs a r s. ((r.no ≡ 0) ↔ IsCabinet a.0.now) × ((r.no ≡ not_cabinet) ↔ (IsCabinet a.0.now → ⊥)) × (r.no ≢ 0 → r.count ≡ 0))
   pub put : Holds put-key.Post (λ κs a r s. PutSaid a.0.now a.1.0.now s.0.now r)
   pub removed : Holds remove_key.Post (λ κs a r s. RemoveSaid a.0.now a.1.0.now s.0.now r)
   pub admitted : Holds admit.Post (λ κs a r s. AdmitSaid a.0.now a.1.0.now s.0.now r)
@@ -237,6 +237,6 @@ pub record Cabinet : Type 0 where
   -- the history, since it was made empty
   pub history : Holds make-cabinet.Post (λ κs a r s. r.no ≡ 0 → (n : ℕ) (m : Moment) → Ran n (begun s.0.now) m → Remembers nowhere 0 m)
   -- of which nothing is old, so that find gives every accepted put that was not removed
-  pub none_old : Holds make-cabinet.Post (λ κs a r s. r.no ≡ 0 → (n : ℕ) (m : Moment) → Ran n (begun s.0.now) m → (k : Names) (t : Bytes) → lastPut nowhere k m.events ≡ some t → Key t)
+  pub none_old : Holds make-cabinet.Post (λ κs a r s. r.no ≡ 0 → (n : ℕ) (m : Moment) → Ran n (begun s.0.now) m → (k : Names) (t : Bytes) → last_put nowhere k m.events ≡ some t → Key t)
   -- and from any image that is a cabinet
-  pub from-image : (s : Bytes) → IsCabinet s → (ps : List shelf-places.Place) × (shelf s ≡ some ps) × ((n : ℕ) (m : Moment) → Ran n (begun s) m → Remembers (heldIn ps) (occupied ps) m)
+  pub from_image : (s : Bytes) → IsCabinet s → (ps : List shelf-places.Place) × (shelf s ≡ some ps) × ((n : ℕ) (m : Moment) → Ran n (begun s) m → Remembers (held_in ps) (occupied ps) m)

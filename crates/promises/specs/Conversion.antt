@@ -19,8 +19,8 @@ sixteen = ascii "0123456789ABCDEF"
 
 pub record Conversion : Type 0 where
   -- a value below 16, as a character, and its value
-  pub value-again : (v c w : ℕ) → v < 16 → Digit v c → Value c w → w ≡ v
+  pub value_again : (v c w : ℕ) → v < 16 → Digit v c → Value c w → w ≡ v
   -- one of the sixteen characters, its value, and the character of that
-  pub character-again : (c v d : ℕ) → T (one_of sixteen c) → Value c v → Digit v d → d ≡ c
+  pub character_again : (c v d : ℕ) → T (one_of sixteen c) → Value c v → Digit v d → d ≡ c
   -- and the character of a value below 16 is one of them
-  pub among-sixteen : (v c : ℕ) → v < 16 → Digit v c → T (one_of sixteen c)
+  pub among_sixteen : (v c : ℕ) → v < 16 → Digit v c → T (one_of sixteen c)

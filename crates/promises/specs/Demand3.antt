@@ -6,19 +6,19 @@
 use Rattle.std.specs.Prelude.{ℕ, ◌+◌, ◌≤◌, ◌<◌, ◌≡◌, ◌≢◌, ◌⊎◌, ◌↔◌, List, [], ◌∷◌, length, get_or}
 use Rattle.std.specs.Borrow.{Bor}
 use Rattle.text.specs.Text.{Bytes, part}
-use Rattle.format.specs.Read.{Outcome, readRecord}
+use Rattle.format.specs.Read.{Outcome, read_record}
 use Rattle.format.specs.Files as format
-use Rattle.format.specs.Damage.{Differ, Inside, bytesIn, DamagedOver, WithinTwo}
+use Rattle.format.specs.Damage.{Differ, Inside, bytes_in, DamagedOver, WithinTwo}
 use Rattle.files.specs.declared.Line.{Line}
-use Rattle.files.specs.Walk.{number_of, start_of, length_of, nextOf}
-use Rattle.trailed.specs.Trailed.{readTrailed}
+use Rattle.files.specs.Walk.{number_of, start_of, length_of, next_of}
+use Rattle.trailed.specs.Trailed.{read_trailed}
 use Rattle.promises.specs.Files.{PlainSays}
 use Rattle.promises.specs.Trailed.{TrailedSays}
 
 -- answers that the contract of a file call allows (`Says`, as in Files.antt) for the lent bytes, one call after another from a place on
 pub data Called (Says : Bor Bytes → ℕ → Line → Type 0) (lent : Bor Bytes) : ℕ → List Line → Type 0 where
   none : {place : ℕ} → Called Says lent place []
-  more : {place : ℕ} {said : Line} {rest : List Line} → Says lent place said → Called Says lent (nextOf said) rest → Called Says lent place (said ∷ rest)
+  more : {place : ℕ} {said : Line} {rest : List Line} → Says lent place said → Called Says lent (next_of said) rest → Called Says lent place (said ∷ rest)
 
 -- place p is inside the line that was answered
 abbrev pub InLine : Line → ℕ → Type 0
@@ -33,11 +33,11 @@ pub record CaughtSaid (a b : Bytes) (l m : Line) : Type 0 where
   -- at the same place
   pub same_start : start_of l ≡ start_of m
   pub same_size : length_of l ≡ length_of m
-  pub same_next : nextOf l ≡ nextOf m
+  pub same_next : next_of l ≡ next_of m
   -- a line that differs is refused in the second
-  pub refused-there : (p : ℕ) → InLine l p → Differ a b p → number_of m ≢ 0
+  pub refused_there : (p : ℕ) → InLine l p → Differ a b p → number_of m ≢ 0
   -- every other line gives the same answer, and its fields are parts of the same bytes
-  pub same-said : ((p : ℕ) → InLine l p → get_or a p 0 ≡ get_or b p 0) → (l ≡ m) × (bytes_of a l ≡ bytes_of b m)
+  pub same_said : ((p : ℕ) → InLine l p → get_or a p 0 ≡ get_or b p 0) → (l ≡ m) × (bytes_of a l ≡ bytes_of b m)
 
 -- call by call
 unfoldable pub AllCaughtSaid : Bytes → Bytes → List Line → List Line → Type 0
@@ -52,8 +52,8 @@ DamageCaught call Harm Says = (f g : Bor Bytes) → DamagedOver call Harm f.now 
     → length ls ≡ length ms → AllCaughtSaid f.now g.now ls ms
 
 pub record Demand3 : Type 0 where
-  pub in-plain : DamageCaught readRecord WithinTwo PlainSays
+  pub in_plain : DamageCaught read_record WithinTwo PlainSays
   -- each whole line with its trailer counts as a line
-  pub in-trailed : DamageCaught readTrailed WithinTwo TrailedSays
+  pub in_trailed : DamageCaught read_trailed WithinTwo TrailedSays
   -- within two neighbouring places of a line are within two of the file
-  pub in-file : (a b : Bytes) (l : format.Line) → WithinTwo (bytesIn l a) (bytesIn l b) ↔ ((i : ℕ) × ((p : ℕ) → Inside l p → Differ a b p → (p ≡ i) ⊎ (p ≡ i + 1)))
+  pub in_file : (a b : Bytes) (l : format.Line) → WithinTwo (bytes_in l a) (bytes_in l b) ↔ ((i : ℕ) × ((p : ℕ) → Inside l p → Differ a b p → (p ≡ i) ⊎ (p ≡ i + 1)))

@@ -50,7 +50,7 @@ use Rattle.places.proofs.places_of.Reads as places_of
 use Rattle.places.proofs.part_at.Reads as part-at
 use Rattle.places.proofs.field_at.Reads as field-at
 use Rattle.cards.proofs.are_attributes.Reads as are-attributes
-use Rattle.reading.proofs.refuse.Reads as refuse-reading
+use Rattle.reading.proofs.refuse.Reads as refuse_reading
 use Rattle.reading.proofs.read_identity.Reads as read-identity
 use Rattle.reading.proofs.judge.Reads as judge
 use Rattle.reading.proofs.read_under.Reads as read_under
@@ -69,16 +69,16 @@ use Rattle.put.proofs.put_byte.Reads as put_byte
 use Rattle.put.proofs.put_hex.Reads as put-hex
 use Rattle.put.proofs.put_decoded.Reads as put-decoded
 use Rattle.put.proofs.refuse.Reads as refuse
-use Rattle.sha384.proofs.Sha384.begin.Reads as sha384-begin
-use Rattle.sha384.proofs.Sha384.add.Reads as sha384-add
-use Rattle.sha384.proofs.Sha384.end.Reads as sha384-end
+use Rattle.sha384.proofs.Sha384.begin.Reads as sha384_begin
+use Rattle.sha384.proofs.Sha384.add.Reads as sha384_add
+use Rattle.sha384.proofs.Sha384.end.Reads as sha384_end
 use Rattle.sha384.proofs.sha384_of.Reads as sha384-of
-use Rattle.sha1.proofs.Sha1.begin.Reads as sha1-begin
-use Rattle.sha1.proofs.Sha1.add.Reads as sha1-add
-use Rattle.sha1.proofs.Sha1.end.Reads as sha1-end
-use Rattle.sha1.proofs.sha1_of.Reads as sha1-of
-use Rattle.hmac.proofs.begin.Reads as hmac-begin
-use Rattle.hmac.proofs.end.Reads as hmac-end
+use Rattle.sha_1.proofs.Sha1.begin.Reads as sha1_begin
+use Rattle.sha_1.proofs.Sha1.add.Reads as sha1_add
+use Rattle.sha_1.proofs.Sha1.end.Reads as sha1_end
+use Rattle.sha_1.proofs.sha1_of.Reads as sha1-of
+use Rattle.hmac.proofs.begin.Reads as hmac_begin
+use Rattle.hmac.proofs.end.Reads as hmac_end
 use Rattle.hmac.proofs.hmac_of.Reads as hmac-of
 use Rattle.items.proofs.item_place.Reads as item-place
 use Rattle.items.proofs.text_item.Reads as text-item
@@ -137,9 +137,9 @@ OneLeft {K} {X} {A} {R} {S} Q left =
 
 pub record Determined : Type 0 where
   -- crc16
-  pub crc-begin : OneAnswer begun.Post
-  pub crc-add : OneAnswer add.Post
-  pub crc-end : OneAnswer end.Post
+  pub crc_begin : OneAnswer begun.Post
+  pub crc_add : OneAnswer add.Post
+  pub crc_end : OneAnswer end.Post
   pub crc-of : OneAnswer crc-of.Post
   -- text
   pub are-same : OneAnswer are-same.Post
@@ -188,7 +188,7 @@ pub record Determined : Type 0 where
   -- cards
   pub are-attributes : OneAnswer are-attributes.Post
   -- reading
-  pub refuse-reading : OneAnswer refuse-reading.Post
+  pub refuse_reading : OneAnswer refuse_reading.Post
   pub read-identity : OneAnswer read-identity.Post
   pub judge : OneAnswer judge.Post
   pub read_under : OneAnswer read_under.Post
@@ -197,58 +197,58 @@ pub record Determined : Type 0 where
   -- fields
   pub identity-place : OneAnswer identity-place.Post
   pub record-place : OneAnswer record-place.Post
-  pub identity-field-part : OnePart identity-field.Post
-  pub identity-field-no : OneLeft identity-field.Post (λ κs s. s.1.1.0.now)
-  pub identity-field-field : OneLeft identity-field.Post (λ κs s. s.1.1.1.0.now)
-  pub record-field-part : OnePart record-field.Post
-  pub record-field-no : OneLeft record-field.Post (λ κs s. s.1.1.0.now)
-  pub record-field-field : OneLeft record-field.Post (λ κs s. s.1.1.1.0.now)
+  pub identity_field_part : OnePart identity-field.Post
+  pub identity_field_no : OneLeft identity-field.Post (λ κs s. s.1.1.0.now)
+  pub identity_field_field : OneLeft identity-field.Post (λ κs s. s.1.1.1.0.now)
+  pub record_field_part : OnePart record-field.Post
+  pub record_field_no : OneLeft record-field.Post (λ κs s. s.1.1.0.now)
+  pub record_field_field : OneLeft record-field.Post (λ κs s. s.1.1.1.0.now)
   pub attribute-place : OneAnswer attribute-place.Post
   pub attribute-named-place : OneAnswer attribute-named-place.Post
   pub attribute-part : OnePart attribute.Post
   pub attribute-no : OneLeft attribute.Post (λ κs s. s.1.1.0.now)
-  pub attribute-field : OneLeft attribute.Post (λ κs s. s.1.1.1.0.now)
-  pub attribute-named-part : OnePart attribute-named.Post
-  pub attribute-named-no : OneLeft attribute-named.Post (λ κs s. s.1.1.0.now)
-  pub attribute-named-field : OneLeft attribute-named.Post (λ κs s. s.1.1.1.0.now)
+  pub attribute_field : OneLeft attribute.Post (λ κs s. s.1.1.1.0.now)
+  pub attribute_named_part : OnePart attribute-named.Post
+  pub attribute_named_no : OneLeft attribute-named.Post (λ κs s. s.1.1.0.now)
+  pub attribute_named_field : OneLeft attribute-named.Post (λ κs s. s.1.1.1.0.now)
   -- put
   pub refuse : OneAnswer refuse.Post
   pub put_next : OneAnswer put.Post
-  pub put-out : OneLeft put.Post (λ κs s. s.0.now)
-  pub put-byte-next : OneAnswer put_byte.Post
-  pub put-byte-out : OneLeft put_byte.Post (λ κs s. s.0.now)
-  pub put-hex-next : OneAnswer put-hex.Post
-  pub put-hex-out : OneLeft put-hex.Post (λ κs s. s.0.now)
-  pub put-decoded-next : OneAnswer put-decoded.Post
-  pub put-decoded-out : OneLeft put-decoded.Post (λ κs s. s.0.now)
+  pub put_out : OneLeft put.Post (λ κs s. s.0.now)
+  pub put_byte_next : OneAnswer put_byte.Post
+  pub put_byte_out : OneLeft put_byte.Post (λ κs s. s.0.now)
+  pub put_hex_next : OneAnswer put-hex.Post
+  pub put_hex_out : OneLeft put-hex.Post (λ κs s. s.0.now)
+  pub put_decoded_next : OneAnswer put-decoded.Post
+  pub put_decoded_out : OneLeft put-decoded.Post (λ κs s. s.0.now)
   -- sha384
-  pub sha384-begin : OneAnswer sha384-begin.Post
-  pub sha384-add : OneAnswer sha384-add.Post
-  pub sha384-end : OneAnswer sha384-end.Post
+  pub sha384_begin : OneAnswer sha384_begin.Post
+  pub sha384_add : OneAnswer sha384_add.Post
+  pub sha384_end : OneAnswer sha384_end.Post
   pub sha384-of : OneAnswer sha384-of.Post
   -- sha1
-  pub sha1-begin : OneAnswer sha1-begin.Post
-  pub sha1-add : OneAnswer sha1-add.Post
-  pub sha1-end : OneAnswer sha1-end.Post
+  pub sha1_begin : OneAnswer sha1_begin.Post
+  pub sha1_add : OneAnswer sha1_add.Post
+  pub sha1_end : OneAnswer sha1_end.Post
   pub sha1-of : OneAnswer sha1-of.Post
   -- hmac
-  pub hmac-begin : OneAnswer hmac-begin.Post
-  pub hmac-end : OneAnswer hmac-end.Post
+  pub hmac_begin : OneAnswer hmac_begin.Post
+  pub hmac_end : OneAnswer hmac_end.Post
   pub hmac-of : OneAnswer hmac-of.Post
   -- building
-  pub build-said : OneAnswer build.Post
-  pub build-out : OneLeft build.Post (λ κs s. s.1.1.1.0.now)
+  pub build_said : OneAnswer build.Post
+  pub build_out : OneLeft build.Post (λ κs s. s.1.1.1.0.now)
   -- items
   pub item-place : OneAnswer item-place.Post
-  pub text-item-part : OnePart text-item.Post
-  pub text-item-no : OneLeft text-item.Post (λ κs s. s.1.1.0.now)
+  pub text_item_part : OnePart text-item.Post
+  pub text_item_no : OneLeft text-item.Post (λ κs s. s.1.1.0.now)
   -- agreement
-  pub shared-info-said : OneAnswer shared-info.Post
-  pub shared-info-out : OneLeft shared-info.Post (λ κs s. s.1.0.now)
-  pub module-text-said : OneAnswer module-text.Post
-  pub module-text-out : OneLeft module-text.Post (λ κs s. s.1.0.now)
-  pub centre-text-said : OneAnswer centre-text.Post
-  pub centre-text-out : OneLeft centre-text.Post (λ κs s. s.1.0.now)
+  pub shared_info_said : OneAnswer shared-info.Post
+  pub shared_info_out : OneLeft shared-info.Post (λ κs s. s.1.0.now)
+  pub module_text_said : OneAnswer module-text.Post
+  pub module_text_out : OneLeft module-text.Post (λ κs s. s.1.0.now)
+  pub centre_text_said : OneAnswer centre-text.Post
+  pub centre_text_out : OneLeft centre-text.Post (λ κs s. s.1.0.now)
   -- files
   pub line-at : OneAnswer line-at.Post
   pub count : OneAnswer count.Post
@@ -259,50 +259,50 @@ pub record Determined : Type 0 where
   pub read-trailed : OneAnswer read-trailed.Post
   pub trailed-at : OneAnswer trailed-at.Post
   pub count-trailed : OneAnswer count-trailed.Post
-  pub write-trailed-said : OneAnswer write-trailed.Post
-  pub write-trailed-out : OneLeft write-trailed.Post (λ κs s. s.1.0.now)
+  pub write_trailed_said : OneAnswer write-trailed.Post
+  pub write_trailed_out : OneLeft write-trailed.Post (λ κs s. s.1.0.now)
   -- mail
-  pub write-mail-said : OneAnswer write-mail.Post
-  pub write-mail-out : OneLeft write-mail.Post (λ κs s. s.1.0.now)
-  pub read-mail-said : OneAnswer read-mail.Post
-  pub read-mail-out : OneLeft read-mail.Post (λ κs s. s.1.0.now)
+  pub write_mail_said : OneAnswer write-mail.Post
+  pub write_mail_out : OneLeft write-mail.Post (λ κs s. s.1.0.now)
+  pub read_mail_said : OneAnswer read-mail.Post
+  pub read_mail_out : OneLeft read-mail.Post (λ κs s. s.1.0.now)
   -- cabinet
-  pub make-cabinet-said : OneAnswer make-cabinet.Post
-  pub make-cabinet-bytes : OneLeft make-cabinet.Post (λ κs s. s.0.now)
+  pub make_cabinet_said : OneAnswer make-cabinet.Post
+  pub make_cabinet_bytes : OneLeft make-cabinet.Post (λ κs s. s.0.now)
   pub check-cabinet : OneAnswer check-cabinet.Post
   pub count-keys : OneAnswer count-keys.Post
-  pub put-key-said : OneAnswer put-key.Post
-  pub put-key-bytes : OneLeft put-key.Post (λ κs s. s.0.now)
-  pub remove-key-said : OneAnswer remove_key.Post
-  pub remove-key-bytes : OneLeft remove_key.Post (λ κs s. s.0.now)
-  pub admit-said : OneAnswer admit.Post
-  pub admit-bytes : OneLeft admit.Post (λ κs s. s.0.now)
+  pub put_key_said : OneAnswer put-key.Post
+  pub put_key_bytes : OneLeft put-key.Post (λ κs s. s.0.now)
+  pub remove_key_said : OneAnswer remove_key.Post
+  pub remove_key_bytes : OneLeft remove_key.Post (λ κs s. s.0.now)
+  pub admit_said : OneAnswer admit.Post
+  pub admit_bytes : OneLeft admit.Post (λ κs s. s.0.now)
   pub key-place : OneAnswer key-place.Post
-  pub find-key-part : OnePart find-key.Post
-  pub find-key-no : OneLeft find-key.Post (λ κs s. s.1.1.0.now)
-  pub find-key-field : OneLeft find-key.Post (λ κs s. s.1.1.1.0.now)
+  pub find_key_part : OnePart find-key.Post
+  pub find_key_no : OneLeft find-key.Post (λ κs s. s.1.1.0.now)
+  pub find_key_field : OneLeft find-key.Post (λ κs s. s.1.1.1.0.now)
   -- list_text
-  pub write-list-said : OneAnswer write-list.Post
-  pub write-list-out : OneLeft write-list.Post (λ κs s. s.1.0.now)
+  pub write_list_said : OneAnswer write-list.Post
+  pub write_list_out : OneLeft write-list.Post (λ κs s. s.1.0.now)
   -- list_printing: but for `taken`
-  pub print-list-len : OneIn print-list.Post (λ κs r. r.len)
+  pub print_list_len : OneIn print-list.Post (λ κs r. r.len)
   -- subjects
   pub field_in : OnePart field_in.Post
   pub are-alike : OneAnswer are-alike.Post
   -- fingerprint
   pub check-fingerprint : OneAnswer check-fingerprint.Post
-  pub write-fingerprint-said : OneAnswer write-fingerprint.Post
-  pub write-fingerprint-out : OneLeft write-fingerprint.Post (λ κs s. s.1.0.now)
+  pub write_fingerprint_said : OneAnswer write-fingerprint.Post
+  pub write_fingerprint_out : OneLeft write-fingerprint.Post (λ κs s. s.1.0.now)
   -- confirm
-  pub confirm-request-said : OneAnswer confirm-request.Post
-  pub confirm-request-mac-key : OneLeft confirm-request.Post (λ κs s. s.1.1.0.now)
-  pub confirm-request-kek : OneLeft confirm-request.Post (λ κs s. s.1.1.1.0.now)
+  pub confirm_request_said : OneAnswer confirm-request.Post
+  pub confirm_request_mac_key : OneLeft confirm-request.Post (λ κs s. s.1.1.0.now)
+  pub confirm_request_kek : OneLeft confirm-request.Post (λ κs s. s.1.1.1.0.now)
   pub confirm-response : OneAnswer confirm-response.Post
   -- newer
   pub newer-of : OneAnswer newer-of.Post
   -- expiry
   pub expiry-under : OneAnswer expiry-under.Post
   pub expiry-of : OneAnswer expiry-of.Post
-  pub newer-part : OnePart newer.Post
-  pub newer-no : OneLeft newer.Post (λ κs s. s.1.1.0.now)
-  pub newer-field : OneLeft newer.Post (λ κs s. s.1.1.1.0.now)
+  pub newer_part : OnePart newer.Post
+  pub newer_no : OneLeft newer.Post (λ κs s. s.1.1.0.now)
+  pub newer_field : OneLeft newer.Post (λ κs s. s.1.1.1.0.now)

@@ -22,5 +22,5 @@ pub record Forms : Type 0 where
   pub one_answer : OneAnswer {K = One} {A = λ κs. One} {R = λ κs. ℕ} {S = λ κs. ℕ} Anything → ⊥
   pub one_in : OneIn {K = One} {X = ℕ} {A = λ κs. One} {R = λ κs. ℕ} {S = λ κs. ℕ} Anything (λ κs r. r) → ⊥
   pub one_left : OneLeft {K = One} {X = ℕ} {A = λ κs. One} {R = λ κs. ℕ} {S = λ κs. ℕ} Anything (λ κs s. s) → ⊥
-  pub gives-only : GivesOnly {K = One} {A = λ κs. One} {R = λ κs. ℕ} {S = λ κs. ℕ} Anything (λ κs r s. r) [] → ⊥
-  pub names-field : NamesField {K = One} {A = λ κs. One} {R = λ κs. ℕ} {S = λ κs. ℕ} Anything (λ κs r s. 6) (λ κs r s. 0) → ⊥
+  pub gives_only : GivesOnly {K = One} {A = λ κs. One} {R = λ κs. ℕ} {S = λ κs. ℕ} Anything (λ κs r s. r) [] → ⊥
+  pub names_field : NamesField {K = One} {A = λ κs. One} {R = λ κs. ℕ} {S = λ κs. ℕ} Anything (λ κs r s. 6) (λ κs r s. 0) → ⊥

@@ -51,7 +51,7 @@ BuildsAgain s k xs = Holds build.Post (λ κs a r t.
     → (r.no ≡ 0) × (r.len ≡ length s) × (t.1.1.1.0.now ≡ s ++ drop (length s) a.1.1.1.0.now))
 
 pub record Rebuilding : Type 0 where
-  pub identity-parts : (lent : Bor Bytes) (k : Kind) (xs : List Bytes) → IdentityRead lent k → Asked (IdentityField lent) 1 xs → BuildsAgain lent.now k xs
-  pub record-parts : (lent : Bor Bytes) (k : Kind) (xs : List Bytes) → RecordRead lent k → Asked (RecordField lent) 1 xs → BuildsAgain lent.now k xs
-  pub identity-places : (lent : Bor Bytes) (k : Kind) (xs : List Bytes) → IdentityRead lent k → Asked (IdentityPlace lent) 1 xs → BuildsAgain lent.now k xs
-  pub record-places : (lent : Bor Bytes) (k : Kind) (xs : List Bytes) → RecordRead lent k → Asked (RecordPlace lent) 1 xs → BuildsAgain lent.now k xs
+  pub identity_parts : (lent : Bor Bytes) (k : Kind) (xs : List Bytes) → IdentityRead lent k → Asked (IdentityField lent) 1 xs → BuildsAgain lent.now k xs
+  pub record_parts : (lent : Bor Bytes) (k : Kind) (xs : List Bytes) → RecordRead lent k → Asked (RecordField lent) 1 xs → BuildsAgain lent.now k xs
+  pub identity_places : (lent : Bor Bytes) (k : Kind) (xs : List Bytes) → IdentityRead lent k → Asked (IdentityPlace lent) 1 xs → BuildsAgain lent.now k xs
+  pub record_places : (lent : Bor Bytes) (k : Kind) (xs : List Bytes) → RecordRead lent k → Asked (RecordPlace lent) 1 xs → BuildsAgain lent.now k xs

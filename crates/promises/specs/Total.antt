@@ -47,7 +47,7 @@ use Rattle.places.proofs.places_of.Reads as places_of
 use Rattle.places.proofs.part_at.Reads as part-at
 use Rattle.places.proofs.field_at.Reads as field-at
 use Rattle.cards.proofs.are_attributes.Reads as are-attributes
-use Rattle.reading.proofs.refuse.Reads as refuse-reading
+use Rattle.reading.proofs.refuse.Reads as refuse_reading
 use Rattle.reading.proofs.read_identity.Reads as read-identity
 use Rattle.reading.proofs.judge.Reads as judge
 use Rattle.reading.proofs.read_under.Reads as read_under
@@ -66,16 +66,16 @@ use Rattle.put.proofs.put_byte.Reads as put_byte
 use Rattle.put.proofs.put_hex.Reads as put-hex
 use Rattle.put.proofs.put_decoded.Reads as put-decoded
 use Rattle.put.proofs.refuse.Reads as refuse
-use Rattle.sha384.proofs.Sha384.begin.Reads as sha384-begin
-use Rattle.sha384.proofs.Sha384.add.Reads as sha384-add
-use Rattle.sha384.proofs.Sha384.end.Reads as sha384-end
+use Rattle.sha384.proofs.Sha384.begin.Reads as sha384_begin
+use Rattle.sha384.proofs.Sha384.add.Reads as sha384_add
+use Rattle.sha384.proofs.Sha384.end.Reads as sha384_end
 use Rattle.sha384.proofs.sha384_of.Reads as sha384-of
-use Rattle.sha1.proofs.Sha1.begin.Reads as sha1-begin
-use Rattle.sha1.proofs.Sha1.add.Reads as sha1-add
-use Rattle.sha1.proofs.Sha1.end.Reads as sha1-end
-use Rattle.sha1.proofs.sha1_of.Reads as sha1-of
-use Rattle.hmac.proofs.begin.Reads as hmac-begin
-use Rattle.hmac.proofs.end.Reads as hmac-end
+use Rattle.sha_1.proofs.Sha1.begin.Reads as sha1_begin
+use Rattle.sha_1.proofs.Sha1.add.Reads as sha1_add
+use Rattle.sha_1.proofs.Sha1.end.Reads as sha1_end
+use Rattle.sha_1.proofs.sha1_of.Reads as sha1-of
+use Rattle.hmac.proofs.begin.Reads as hmac_begin
+use Rattle.hmac.proofs.end.Reads as hmac_end
 use Rattle.hmac.proofs.hmac_of.Reads as hmac-of
 use Rattle.items.proofs.item_place.Reads as item-place
 use Rattle.items.proofs.text_item.Reads as text-item
@@ -114,61 +114,61 @@ use Rattle.newer.proofs.newer_of.Reads as newer-of
 use Rattle.expiry.proofs.expiry_under.Reads as expiry-under
 use Rattle.expiry.proofs.expiry_of.Reads as expiry-of
 use Rattle.newer.proofs.newer.Reads as newer
-use Rattle.exports.proofs.check.obscurlane_crc_begin.Reads as c-crc-begin
-use Rattle.exports.proofs.check.obscurlane_crc_add.Reads as c-crc-add
-use Rattle.exports.proofs.check.obscurlane_crc_end.Reads as c-crc-end
-use Rattle.exports.proofs.check.obscurlane_crc_of.Reads as c-crc-of
-use Rattle.exports.proofs.types.obscurlane_is_ident.Reads as c-is-ident
-use Rattle.exports.proofs.types.obscurlane_is_timestamp.Reads as c-is-timestamp
-use Rattle.exports.proofs.dates.obscurlane_moment_of.Reads as c-moment-of
-use Rattle.exports.proofs.dates.obscurlane_expiry_of.Reads as c-expiry-of
-use Rattle.exports.proofs.types.obscurlane_is_hex.Reads as c-is-hex
-use Rattle.exports.proofs.types.obscurlane_is_point.Reads as c-is-point
-use Rattle.exports.proofs.types.obscurlane_is_sig.Reads as c-is-sig
-use Rattle.exports.proofs.types.obscurlane_is_mac.Reads as c-is-mac
-use Rattle.exports.proofs.types.obscurlane_is_print.Reads as c-is-print
-use Rattle.exports.proofs.records.obscurlane_read_identity.Reads as c-read-identity
-use Rattle.exports.proofs.records.obscurlane_read_record.Reads as c-read-record
-use Rattle.exports.proofs.records.obscurlane_identity_field.Reads as c-identity-field
-use Rattle.exports.proofs.records.obscurlane_record_field.Reads as c-record-field
-use Rattle.exports.proofs.records.obscurlane_attribute.Reads as c-attribute
-use Rattle.exports.proofs.records.obscurlane_attribute_named.Reads as c-attribute-named
-use Rattle.exports.proofs.writing.obscurlane_build.Reads as c-build
-use Rattle.exports.proofs.writing.obscurlane_shared_info.Reads as c-shared-info
-use Rattle.exports.proofs.writing.obscurlane_module_text.Reads as c-module-text
-use Rattle.exports.proofs.writing.obscurlane_centre_text.Reads as c-centre-text
-use Rattle.exports.proofs.walking.obscurlane_text_item.Reads as c-text-item
-use Rattle.exports.proofs.walking.obscurlane_line_at.Reads as c-line-at
-use Rattle.exports.proofs.walking.obscurlane_reader_new.Reads as c-reader-new
-use Rattle.exports.proofs.walking.obscurlane_reader_step.Reads as c-reader-step
-use Rattle.exports.proofs.walking.obscurlane_count.Reads as c-count
-use Rattle.exports.proofs.walking.obscurlane_newer.Reads as c-newer
-use Rattle.exports.proofs.hashes.obscurlane_sha384_begin.Reads as c-sha384-begin
-use Rattle.exports.proofs.hashes.obscurlane_sha384_add.Reads as c-sha384-add
-use Rattle.exports.proofs.hashes.obscurlane_sha384_end.Reads as c-sha384-end
-use Rattle.exports.proofs.hashes.obscurlane_sha384_of.Reads as c-sha384-of
-use Rattle.exports.proofs.hashes.obscurlane_check_fingerprint.Reads as c-check-fingerprint
-use Rattle.exports.proofs.hashes.obscurlane_write_fingerprint.Reads as c-write-fingerprint
-use Rattle.exports.proofs.confirming.obscurlane_hmac_of.Reads as c-hmac-of
-use Rattle.exports.proofs.confirming.obscurlane_confirm_request.Reads as c-confirm-request
-use Rattle.exports.proofs.confirming.obscurlane_confirm_response.Reads as c-confirm-response
-use Rattle.exports.proofs.trailing.obscurlane_sha1_begin.Reads as c-sha1-begin
-use Rattle.exports.proofs.trailing.obscurlane_sha1_add.Reads as c-sha1-add
-use Rattle.exports.proofs.trailing.obscurlane_sha1_end.Reads as c-sha1-end
-use Rattle.exports.proofs.trailing.obscurlane_sha1_of.Reads as c-sha1-of
-use Rattle.exports.proofs.trailing.obscurlane_read_trailed.Reads as c-read-trailed
-use Rattle.exports.proofs.trailing.obscurlane_trailed_at.Reads as c-trailed-at
-use Rattle.exports.proofs.trailing.obscurlane_count_trailed.Reads as c-count-trailed
-use Rattle.exports.proofs.trailing.obscurlane_write_trailed.Reads as c-write-trailed
-use Rattle.exports.proofs.mailing.obscurlane_write_mail.Reads as c-write-mail
-use Rattle.exports.proofs.mailing.obscurlane_read_mail.Reads as c-read-mail
-use Rattle.exports.proofs.filing.obscurlane_make_cabinet.Reads as c-make-cabinet
-use Rattle.exports.proofs.filing.obscurlane_check_cabinet.Reads as c-check-cabinet
-use Rattle.exports.proofs.filing.obscurlane_count_keys.Reads as c-count-keys
-use Rattle.exports.proofs.filing.obscurlane_put_key.Reads as c-put-key
-use Rattle.exports.proofs.filing.obscurlane_remove_key.Reads as c-remove-key
-use Rattle.exports.proofs.filing.obscurlane_admit.Reads as c-admit
-use Rattle.exports.proofs.filing.obscurlane_find_key.Reads as c-find-key
+use Rattle.exports.proofs.check.obscurlane_crc_begin.Reads as c_crc_begin
+use Rattle.exports.proofs.check.obscurlane_crc_add.Reads as c_crc_add
+use Rattle.exports.proofs.check.obscurlane_crc_end.Reads as c_crc_end
+use Rattle.exports.proofs.check.obscurlane_crc_of.Reads as c_crc_of
+use Rattle.exports.proofs.types.obscurlane_is_ident.Reads as c_is_ident
+use Rattle.exports.proofs.types.obscurlane_is_timestamp.Reads as c_is_timestamp
+use Rattle.exports.proofs.dates.obscurlane_moment_of.Reads as c_moment_of
+use Rattle.exports.proofs.dates.obscurlane_expiry_of.Reads as c_expiry_of
+use Rattle.exports.proofs.types.obscurlane_is_hex.Reads as c_is_hex
+use Rattle.exports.proofs.types.obscurlane_is_point.Reads as c_is_point
+use Rattle.exports.proofs.types.obscurlane_is_sig.Reads as c_is_sig
+use Rattle.exports.proofs.types.obscurlane_is_mac.Reads as c_is_mac
+use Rattle.exports.proofs.types.obscurlane_is_print.Reads as c_is_print
+use Rattle.exports.proofs.records.obscurlane_read_identity.Reads as c_read_identity
+use Rattle.exports.proofs.records.obscurlane_read_record.Reads as c_read_record
+use Rattle.exports.proofs.records.obscurlane_identity_field.Reads as c_identity_field
+use Rattle.exports.proofs.records.obscurlane_record_field.Reads as c_record_field
+use Rattle.exports.proofs.records.obscurlane_attribute.Reads as c_attribute
+use Rattle.exports.proofs.records.obscurlane_attribute_named.Reads as c_attribute_named
+use Rattle.exports.proofs.writing.obscurlane_build.Reads as c_build
+use Rattle.exports.proofs.writing.obscurlane_shared_info.Reads as c_shared_info
+use Rattle.exports.proofs.writing.obscurlane_module_text.Reads as c_module_text
+use Rattle.exports.proofs.writing.obscurlane_centre_text.Reads as c_centre_text
+use Rattle.exports.proofs.walking.obscurlane_text_item.Reads as c_text_item
+use Rattle.exports.proofs.walking.obscurlane_line_at.Reads as c_line_at
+use Rattle.exports.proofs.walking.obscurlane_reader_new.Reads as c_reader_new
+use Rattle.exports.proofs.walking.obscurlane_reader_step.Reads as c_reader_step
+use Rattle.exports.proofs.walking.obscurlane_count.Reads as c_count
+use Rattle.exports.proofs.walking.obscurlane_newer.Reads as c_newer
+use Rattle.exports.proofs.hashes.obscurlane_sha384_begin.Reads as c_sha384_begin
+use Rattle.exports.proofs.hashes.obscurlane_sha384_add.Reads as c_sha384_add
+use Rattle.exports.proofs.hashes.obscurlane_sha384_end.Reads as c_sha384_end
+use Rattle.exports.proofs.hashes.obscurlane_sha384_of.Reads as c_sha384_of
+use Rattle.exports.proofs.hashes.obscurlane_check_fingerprint.Reads as c_check_fingerprint
+use Rattle.exports.proofs.hashes.obscurlane_write_fingerprint.Reads as c_write_fingerprint
+use Rattle.exports.proofs.confirming.obscurlane_hmac_of.Reads as c_hmac_of
+use Rattle.exports.proofs.confirming.obscurlane_confirm_request.Reads as c_confirm_request
+use Rattle.exports.proofs.confirming.obscurlane_confirm_response.Reads as c_confirm_response
+use Rattle.exports.proofs.trailing.obscurlane_sha1_begin.Reads as c_sha1_begin
+use Rattle.exports.proofs.trailing.obscurlane_sha1_add.Reads as c_sha1_add
+use Rattle.exports.proofs.trailing.obscurlane_sha1_end.Reads as c_sha1_end
+use Rattle.exports.proofs.trailing.obscurlane_sha1_of.Reads as c_sha1_of
+use Rattle.exports.proofs.trailing.obscurlane_read_trailed.Reads as c_read_trailed
+use Rattle.exports.proofs.trailing.obscurlane_trailed_at.Reads as c_trailed_at
+use Rattle.exports.proofs.trailing.obscurlane_count_trailed.Reads as c_count_trailed
+use Rattle.exports.proofs.trailing.obscurlane_write_trailed.Reads as c_write_trailed
+use Rattle.exports.proofs.mailing.obscurlane_write_mail.Reads as c_write_mail
+use Rattle.exports.proofs.mailing.obscurlane_read_mail.Reads as c_read_mail
+use Rattle.exports.proofs.filing.obscurlane_make_cabinet.Reads as c_make_cabinet
+use Rattle.exports.proofs.filing.obscurlane_check_cabinet.Reads as c_check_cabinet
+use Rattle.exports.proofs.filing.obscurlane_count_keys.Reads as c_count_keys
+use Rattle.exports.proofs.filing.obscurlane_put_key.Reads as c_put_key
+use Rattle.exports.proofs.filing.obscurlane_remove_key.Reads as c_remove_key
+use Rattle.exports.proofs.filing.obscurlane_admit.Reads as c_admit
+use Rattle.exports.proofs.filing.obscurlane_find_key.Reads as c_find_key
 
 -- the call whose `requires` is P takes any arguments a, whatever the lifetimes κs
 abbrev pub Takes : {K : Type 0} {A : K → Type 0} → ((κs : K) → A κs → Type 0) → Type 0
@@ -227,7 +227,7 @@ pub record Total : Type 0 where
   -- cards
   pub are-attributes : Takes are-attributes.Pre
   -- reading
-  pub refuse-reading : Takes refuse-reading.Pre
+  pub refuse_reading : Takes refuse_reading.Pre
   pub read-identity : Takes read-identity.Pre
   pub judge : Takes judge.Pre
   pub read_under : Takes read_under.Pre
@@ -249,18 +249,18 @@ pub record Total : Type 0 where
   pub put-decoded : Takes put-decoded.Pre
   pub refuse : Takes refuse.Pre
   -- sha384
-  pub sha384-begin : Takes sha384-begin.Pre
-  pub sha384-add : Takes sha384-add.Pre
-  pub sha384-end : Takes sha384-end.Pre
+  pub sha384_begin : Takes sha384_begin.Pre
+  pub sha384_add : Takes sha384_add.Pre
+  pub sha384_end : Takes sha384_end.Pre
   pub sha384-of : Takes sha384-of.Pre
   -- sha1
-  pub sha1-begin : Takes sha1-begin.Pre
-  pub sha1-add : Takes sha1-add.Pre
-  pub sha1-end : Takes sha1-end.Pre
+  pub sha1_begin : Takes sha1_begin.Pre
+  pub sha1_add : Takes sha1_add.Pre
+  pub sha1_end : Takes sha1_end.Pre
   pub sha1-of : Takes sha1-of.Pre
   -- hmac
-  pub hmac-begin : Takes hmac-begin.Pre
-  pub hmac-end : Takes hmac-end.Pre
+  pub hmac_begin : Takes hmac_begin.Pre
+  pub hmac_end : Takes hmac_end.Pre
   pub hmac-of : Takes hmac-of.Pre
   -- items
   pub item-place : Takes item-place.Pre
@@ -314,58 +314,58 @@ pub record Total : Type 0 where
   pub expiry-of : Takes expiry-of.Pre
   pub newer : Takes newer.Pre
   -- the C interface
-  pub c-crc-begin : Takes c-crc-begin.Pre
-  pub c-crc-add : Takes c-crc-add.Pre
-  pub c-crc-end : Takes c-crc-end.Pre
-  pub c-crc-of : Takes c-crc-of.Pre
-  pub c-is-ident : Takes c-is-ident.Pre
-  pub c-is-timestamp : Takes c-is-timestamp.Pre
-  pub c-moment-of : Takes c-moment-of.Pre
-  pub c-expiry-of : Takes c-expiry-of.Pre
-  pub c-is-hex : Takes c-is-hex.Pre
-  pub c-is-point : Takes c-is-point.Pre
-  pub c-is-sig : Takes c-is-sig.Pre
-  pub c-is-mac : Takes c-is-mac.Pre
-  pub c-is-print : Takes c-is-print.Pre
-  pub c-read-identity : Takes c-read-identity.Pre
-  pub c-read-record : Takes c-read-record.Pre
-  pub c-identity-field : Takes c-identity-field.Pre
-  pub c-record-field : Takes c-record-field.Pre
-  pub c-attribute : Takes c-attribute.Pre
-  pub c-attribute-named : Takes c-attribute-named.Pre
-  pub c-build : Takes c-build.Pre
-  pub c-shared-info : Takes c-shared-info.Pre
-  pub c-module-text : Takes c-module-text.Pre
-  pub c-centre-text : Takes c-centre-text.Pre
-  pub c-text-item : Takes c-text-item.Pre
-  pub c-line-at : Takes c-line-at.Pre
-  pub c-reader-new : Takes c-reader-new.Pre
-  pub c-reader-step : Takes c-reader-step.Pre
-  pub c-count : Takes c-count.Pre
-  pub c-newer : Takes c-newer.Pre
-  pub c-sha384-begin : Takes c-sha384-begin.Pre
-  pub c-sha384-add : Takes c-sha384-add.Pre
-  pub c-sha384-end : Takes c-sha384-end.Pre
-  pub c-sha384-of : Takes c-sha384-of.Pre
-  pub c-check-fingerprint : Takes c-check-fingerprint.Pre
-  pub c-write-fingerprint : Takes c-write-fingerprint.Pre
-  pub c-hmac-of : Takes c-hmac-of.Pre
-  pub c-confirm-request : Takes c-confirm-request.Pre
-  pub c-confirm-response : Takes c-confirm-response.Pre
-  pub c-sha1-begin : Takes c-sha1-begin.Pre
-  pub c-sha1-add : Takes c-sha1-add.Pre
-  pub c-sha1-end : Takes c-sha1-end.Pre
-  pub c-sha1-of : Takes c-sha1-of.Pre
-  pub c-read-trailed : Takes c-read-trailed.Pre
-  pub c-trailed-at : Takes c-trailed-at.Pre
-  pub c-count-trailed : Takes c-count-trailed.Pre
-  pub c-write-trailed : Takes c-write-trailed.Pre
-  pub c-write-mail : Takes c-write-mail.Pre
-  pub c-read-mail : Takes c-read-mail.Pre
-  pub c-make-cabinet : Takes c-make-cabinet.Pre
-  pub c-check-cabinet : Takes c-check-cabinet.Pre
-  pub c-count-keys : Takes c-count-keys.Pre
-  pub c-put-key : Takes c-put-key.Pre
-  pub c-remove-key : Takes c-remove-key.Pre
-  pub c-admit : Takes c-admit.Pre
-  pub c-find-key : Takes c-find-key.Pre
+  pub c_crc_begin : Takes c_crc_begin.Pre
+  pub c_crc_add : Takes c_crc_add.Pre
+  pub c_crc_end : Takes c_crc_end.Pre
+  pub c_crc_of : Takes c_crc_of.Pre
+  pub c_is_ident : Takes c_is_ident.Pre
+  pub c_is_timestamp : Takes c_is_timestamp.Pre
+  pub c_moment_of : Takes c_moment_of.Pre
+  pub c_expiry_of : Takes c_expiry_of.Pre
+  pub c_is_hex : Takes c_is_hex.Pre
+  pub c_is_point : Takes c_is_point.Pre
+  pub c_is_sig : Takes c_is_sig.Pre
+  pub c_is_mac : Takes c_is_mac.Pre
+  pub c_is_print : Takes c_is_print.Pre
+  pub c_read_identity : Takes c_read_identity.Pre
+  pub c_read_record : Takes c_read_record.Pre
+  pub c_identity_field : Takes c_identity_field.Pre
+  pub c_record_field : Takes c_record_field.Pre
+  pub c_attribute : Takes c_attribute.Pre
+  pub c_attribute_named : Takes c_attribute_named.Pre
+  pub c_build : Takes c_build.Pre
+  pub c_shared_info : Takes c_shared_info.Pre
+  pub c_module_text : Takes c_module_text.Pre
+  pub c_centre_text : Takes c_centre_text.Pre
+  pub c_text_item : Takes c_text_item.Pre
+  pub c_line_at : Takes c_line_at.Pre
+  pub c_reader_new : Takes c_reader_new.Pre
+  pub c_reader_step : Takes c_reader_step.Pre
+  pub c_count : Takes c_count.Pre
+  pub c_newer : Takes c_newer.Pre
+  pub c_sha384_begin : Takes c_sha384_begin.Pre
+  pub c_sha384_add : Takes c_sha384_add.Pre
+  pub c_sha384_end : Takes c_sha384_end.Pre
+  pub c_sha384_of : Takes c_sha384_of.Pre
+  pub c_check_fingerprint : Takes c_check_fingerprint.Pre
+  pub c_write_fingerprint : Takes c_write_fingerprint.Pre
+  pub c_hmac_of : Takes c_hmac_of.Pre
+  pub c_confirm_request : Takes c_confirm_request.Pre
+  pub c_confirm_response : Takes c_confirm_response.Pre
+  pub c_sha1_begin : Takes c_sha1_begin.Pre
+  pub c_sha1_add : Takes c_sha1_add.Pre
+  pub c_sha1_end : Takes c_sha1_end.Pre
+  pub c_sha1_of : Takes c_sha1_of.Pre
+  pub c_read_trailed : Takes c_read_trailed.Pre
+  pub c_trailed_at : Takes c_trailed_at.Pre
+  pub c_count_trailed : Takes c_count_trailed.Pre
+  pub c_write_trailed : Takes c_write_trailed.Pre
+  pub c_write_mail : Takes c_write_mail.Pre
+  pub c_read_mail : Takes c_read_mail.Pre
+  pub c_make_cabinet : Takes c_make_cabinet.Pre
+  pub c_check_cabinet : Takes c_check_cabinet.Pre
+  pub c_count_keys : Takes c_count_keys.Pre
+  pub c_put_key : Takes c_put_key.Pre
+  pub c_remove_key : Takes c_remove_key.Pre
+  pub c_admit : Takes c_admit.Pre
+  pub c_find_key : Takes c_find_key.Pre

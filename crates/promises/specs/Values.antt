@@ -24,11 +24,11 @@ AllCome [] = Unit {0}
 AllCome (v ∷ vs) = Comes v × AllCome vs
 
 -- those of the n numbers from c on that make the test true between `before` and `after`
-unfoldable pub admittedFrom : ℕ → ℕ → (Bytes → Bool) → Bytes → Bytes → Bytes
-admittedFrom zero c is before after = []
-admittedFrom (suc n) c is before after =
-    cond (is (before ++ c ∷ after)) (c ∷ admittedFrom n (suc c) is before after) (admittedFrom n (suc c) is before after)
+unfoldable pub admitted_from : ℕ → ℕ → (Bytes → Bool) → Bytes → Bytes → Bytes
+admitted_from zero c is before after = []
+admitted_from (suc n) c is before after =
+    cond (is (before ++ c ∷ after)) (c ∷ admitted_from n (suc c) is before after) (admitted_from n (suc c) is before after)
 
 -- of all byte values
 abbrev pub admitted : (Bytes → Bool) → Bytes → Bytes → Bytes
-admitted is before after = admittedFrom 256 0 is before after
+admitted is before after = admitted_from 256 0 is before after

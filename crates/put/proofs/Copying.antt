@@ -16,11 +16,11 @@ pub record Copy (o : List ℕ) (k : ℕ) (s out : List ℕ) (i : ℕ) : Type 0 w
   pub inside : i ≤ length s
   pub written : out ≡ paste o k s i
 
-pub copy-none : {o s : List ℕ} {k : ℕ} → k + length s ≤ length o → Copy o k s o 0
-copy-none {o} {s} {k} h = record { fits = h; inside = omega arith; written = paste-zero o k s }
+pub copy_none : {o s : List ℕ} {k : ℕ} → k + length s ≤ length o → Copy o k s o 0
+copy_none {o} {s} {k} h = record { fits = h; inside = omega arith; written = paste-zero o k s }
 
-pub copy-length : {o s out : List ℕ} {k i : ℕ} → Copy o k s out i → length out ≡ length o
-copy-length {o} {s} {out} {k} {i} c = ap length c.written ∙ length-paste o k s i (omega arith) c.inside
+pub copy_length : {o s out : List ℕ} {k i : ℕ} → Copy o k s out i → length out ≡ length o
+copy_length {o} {s} {out} {k} {i} c = ap length c.written ∙ length-paste o k s i (omega arith) c.inside
 
 pub copy_more : {o s out : List ℕ} {k i : ℕ} → Copy o k s out i → i < length s → Copy o k s (set out (k + i) (get_or s i 0)) (i + 1)
 copy_more {o} {s} {out} {k} {i} c h = record {
@@ -30,12 +30,12 @@ copy_more {o} {s} {out} {k} {i} c h = record {
 }
 
 -- all of s is written
-pub copy-all : {o s out : List ℕ} {k i : ℕ} → Copy o k s out i → length s ≤ i → Puts o k s out (k + i)
-copy-all {o} {s} {out} {k} {i} c h =
+pub copy_all : {o s out : List ℕ} {k i : ℕ} → Copy o k s out i → length s ≤ i → Puts o k s out (k + i)
+copy_all {o} {s} {out} {k} {i} c h =
     let e : i ≡ length s = omega arith in
     let y = le-leb (k + length s) (length o) c.fits in
     record { leaves = rw y (rw (take-length s) at (rw e at c.written)); answers = rw (y, e) }
 
 -- s does not fit
-pub copy-not : {o s : List ℕ} {k : ℕ} → length o < k + length s → Puts o k s o k
-copy-not {o} {s} {k} h = let n = lt-leb (k + length s) (length o) h in record { leaves = rw n; answers = rw n }
+pub copy_not : {o s : List ℕ} {k : ℕ} → length o < k + length s → Puts o k s o k
+copy_not {o} {s} {k} h = let n = lt-leb (k + length s) (length o) h in record { leaves = rw n; answers = rw n }

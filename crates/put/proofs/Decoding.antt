@@ -10,71 +10,71 @@ use lib.ListN.{length, drop, get_or, length-drop}
 use lib.Seq.{drop-cons}
 use lib.Dec.{T, eqb, eqb_refl}
 use mir.Facts.{and_yes}
-use Rattle.text.specs.Text.{Bytes, every, hexadecimal, isHex}
-use Rattle.text.specs.Base16.{hexValue, base16Decode}
-use Rattle.text.proofs.Tests.{less-or, T_true, true-T}
-use Rattle.text.proofs.Types.{hex-length, hex-characters}
+use Rattle.text.specs.Text.{Bytes, every, hexadecimal, is_hex}
+use Rattle.text.specs.Base16.{hex_value, base16_decode}
+use Rattle.text.proofs.Tests.{less_or, T_true, true_T}
+use Rattle.text.proofs.Types.{hex_length, hex_characters}
 use Rattle.put.specs.Put.{Puts}
 use Rattle.put.specs.Decoded.{decoded}
-use Rattle.put.proofs.Pieces.{puts_of, put-none}
-use Rattle.put.proofs.Copying.{copy-not}
+use Rattle.put.proofs.Pieces.{puts_of, put_none}
+use Rattle.put.proofs.Copying.{copy_not}
 
-every-at : (p : ℕ → Bool) (s : Bytes) (i : ℕ) → T (every p s) → i < length s → T (p (get_or s i 0))
-every-at p [] i t h = absurd (omega arith)
-every-at p (c ∷ s) zero t h = (and_yes (p c) (every p s) t).0
-every-at p (c ∷ s) (suc i) t h = every-at p s i (and_yes (p c) (every p s) t).1 (omega arith)
+every_at : (p : ℕ → Bool) (s : Bytes) (i : ℕ) → T (every p s) → i < length s → T (p (get_or s i 0))
+every_at p [] i t h = absurd (omega arith)
+every_at p (c ∷ s) zero t h = (and_yes (p c) (every p s) t).0
+every_at p (c ∷ s) (suc i) t h = every_at p s i (and_yes (p c) (every p s) t).1 (omega arith)
 
 -- ---- how many there are
 
-pub length-decode : (s : Bytes) → length (base16Decode s) ≡ length s / 2
-length-decode [] = refl
-length-decode (c ∷ []) = refl
-length-decode (c ∷ d ∷ s) = omega (arith, length-decode s)
+pub length_decode : (s : Bytes) → length (base16_decode s) ≡ length s / 2
+length_decode [] = refl
+length_decode (c ∷ []) = refl
+length_decode (c ∷ d ∷ s) = omega (arith, length_decode s)
 
-decode-few : (s : Bytes) → length s < 2 → base16Decode s ≡ []
-decode-few [] h = refl
-decode-few (c ∷ []) h = refl
-decode-few (c ∷ d ∷ s) h = absurd (omega arith)
+decode_few : (s : Bytes) → length s < 2 → base16_decode s ≡ []
+decode_few [] h = refl
+decode_few (c ∷ []) h = refl
+decode_few (c ∷ d ∷ s) h = absurd (omega arith)
 
 -- the byte of pair i comes first, where those of the pairs before it are written
-pub decode-next : (s : Bytes) (i : ℕ) {b : ℕ} → i < length s / 2 → b ≡ 16 * hexValue (get_or s (2 * i) 0) + hexValue (get_or s (2 * i + 1) 0)
-    → base16Decode (drop (2 * i) s) ≡ (b ∷ []) ++ base16Decode (drop (2 * (i + 1)) s)
-decode-next s i {b} h e =
+pub decode_next : (s : Bytes) (i : ℕ) {b : ℕ} → i < length s / 2 → b ≡ 16 * hex_value (get_or s (2 * i) 0) + hex_value (get_or s (2 * i + 1) 0)
+    → base16_decode (drop (2 * i) s) ≡ (b ∷ []) ++ base16_decode (drop (2 * (i + 1)) s)
+decode_next s i {b} h e =
     let two : suc (2 * i + 1) ≡ 2 * (i + 1) = omega arith in
     rw (drop-cons s (2 * i) 0 (omega arith), ← add-one (2 * i), drop-cons s (2 * i + 1) 0 (omega arith), two, e)
 
-pub decode-end : (s : Bytes) (i : ℕ) → length s / 2 ≤ i → base16Decode (drop (2 * i) s) ≡ []
-decode-end s i h = decode-few (drop (2 * i) s) (omega (arith, length-drop (2 * i) s))
+pub decode_end : (s : Bytes) (i : ℕ) → length s / 2 ≤ i → base16_decode (drop (2 * i) s) ≡ []
+decode_end s i h = decode_few (drop (2 * i) s) (omega (arith, length-drop (2 * i) s))
 
 -- ---- of a text of n hexadecimal characters
 
-module _ (n : ℕ) (s : Bytes) (t : T (isHex n s)) where
-  pub hex-decoded : decoded s ≡ base16Decode s
-  hex-decoded = rw (T_true (every hexadecimal s) (hex-characters n s t))
+module _ (n : ℕ) (s : Bytes) (t : T (is_hex n s)) where
+  pub hex_decoded : decoded s ≡ base16_decode s
+  hex_decoded = rw (T_true (every hexadecimal s) (hex_characters n s t))
 
-  pub hex-bytes : length (base16Decode s) ≡ n / 2
-  hex-bytes = rw (length-decode s, hex-length n s t)
+  pub hex_bytes : length (base16_decode s) ≡ n / 2
+  hex_bytes = rw (length_decode s, hex_length n s t)
 
 -- ---- by what `is_hex` said
 
-is-hex-every : (s : Bytes) → isHex (length s) s ≡ every hexadecimal s
-unfolding isHex
-is-hex-every s = rw (T_true (eqb (length s) (length s)) (eqb_refl (length s)))
+is_hex_every : (s : Bytes) → is_hex (length s) s ≡ every hexadecimal s
+unfolding is_hex
+is_hex_every s = rw (T_true (eqb (length s) (length s)) (eqb_refl (length s)))
 
-module _ (s : Bytes) {b : Bool} (e : b ≡ isHex (length s) s) where
+module _ (s : Bytes) {b : Bool} (e : b ≡ is_hex (length s) s) where
   said : every hexadecimal s ≡ b
-  said = sym (is-hex-every s) ∙ sym e
+  said = sym (is_hex_every s) ∙ sym e
 
-  pub decoded-none : {o : Bytes} {k : ℕ} → b ≡ false → Puts o k (decoded s) o k
-  decoded-none {o} {k} f =
-      rw (said ∙ f) (less-or (length o) k (λ h. copy-not (omega arith)) (λ h. puts_of (put-none h)))
+  pub decoded_none : {o : Bytes} {k : ℕ} → b ≡ false → Puts o k (decoded s) o k
+  decoded_none {o} {k} f =
+      rw (said ∙ f) (less_or (length o) k (λ h. copy_not (omega arith)) (λ h. puts_of (put_none h)))
 
   module _ (f : b ≡ true) where
-    pub decoded-all : decoded s ≡ base16Decode s
-    decoded-all = rw (said ∙ f)
+    pub decoded_all : decoded s ≡ base16_decode s
+    decoded_all = rw (said ∙ f)
 
-    pub decoded-length : length (decoded s) ≡ length s / 2
-    decoded-length = ap length decoded-all ∙ length-decode s
+    pub decoded_length : length (decoded s) ≡ length s / 2
+    decoded_length = ap length decoded_all ∙ length_decode s
 
-    pub character-at : (i : ℕ) → i < length s → T (hexadecimal (get_or s i 0))
-    character-at i h = every-at hexadecimal s i (true-T (every hexadecimal s) (said ∙ f)) h
+    pub character_at : (i : ℕ) → i < length s → T (hexadecimal (get_or s i 0))
+    character_at i h = every_at hexadecimal s i (true_T (every hexadecimal s) (said ∙ f)) h

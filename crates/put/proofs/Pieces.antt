@@ -25,20 +25,20 @@ puts_of {o} {v} {out} {k} {r} p =
     record { leaves = rw e p.written; answers = rw e p.next }
 
 -- nothing written
-pub put-none : {o : List ℕ} {k : ℕ} → k ≤ length o → Put o k [] o k
-put-none {o} {k} h = record {
+pub put_none : {o : List ℕ} {k : ℕ} → k ≤ length o → Put o k [] o k
+put_none {o} {k} h = record {
   fits = omega arith;
   written = sym (rw (let e : k + 0 ≡ k = omega arith in e, append-nil) (take-append-drop k o));
   next = omega arith;
 }
 
 -- the output keeps its length
-pub put-length : {o v out : List ℕ} {k r : ℕ} → Put o k v out r → length out ≡ length o
-put-length {o} {v} {out} {k} {r} p =
+pub put_length : {o v out : List ℕ} {k r : ℕ} → Put o k v out r → length out ≡ length o
+put_length {o} {v} {out} {k} {r} p =
     ap length p.written ∙ simp (length-append, length-drop, length-take-le k o (omega arith)) (omega arith)
 
-over-over : (o v w : List ℕ) (k : ℕ) → k ≤ length o → over (over o k v) (k + length v) w ≡ over o k (v ++ w)
-over-over o v w k h =
+over_over : (o v w : List ℕ) (k : ℕ) → k ≤ length o → over (over o k v) (k + length v) w ≡ over o k (v ++ w)
+over_over o v w k h =
     let e : length (take k o ++ v) ≡ k + length v = simp (length-append, length-take-le k o h) in
     rw (take_at (take k o ++ v) (drop (k + length v) o) (k + length v) e, ← e, drop-append-add, drop-drop, e, length-append, add_assoc) (simp append_assoc)
 
@@ -49,14 +49,14 @@ put_as {o} {v} {w} {out} {k} {r} e p = subst (λ (x : List ℕ). Put o k x out r
 -- one piece after another
 pub put_then : {o v o' w out : List ℕ} {k r r' : ℕ} → Put o k v o' r → Put o' r w out r' → Put o k (v ++ w) out r'
 put_then {o} {v} {o'} {w} {out} {k} {r} {r'} p q = record {
-  fits = omega (arith, length-append v w, put-length p);
-  written = q.written ∙ rw (p.next, p.written, over-over o v w k (omega arith));
+  fits = omega (arith, length-append v w, put_length p);
+  written = q.written ∙ rw (p.next, p.written, over_over o v w k (omega arith));
   next = omega (arith, length-append v w);
 }
 
 -- what fills the output is all of it
-pub put-fills : {o v out : List ℕ} {r : ℕ} → length v ≡ length o → Puts o 0 v out r → out ≡ v
-put-fills {o} {v} l p = (put_of (omega (arith, l)) p).written ∙ rw (zero-add, l, drop-length o, append-nil)
+pub put_fills : {o v out : List ℕ} {r : ℕ} → length v ≡ length o → Puts o 0 v out r → out ≡ v
+put_fills {o} {v} l p = (put_of (omega (arith, l)) p).written ∙ rw (zero-add, l, drop-length o, append-nil)
 
 -- the whole, written from the front
 pub put_whole : {o v out : List ℕ} {r : ℕ} → Put o 0 v out r → Writes (made v) o out (record { no = 0; field = 0; len = r })
@@ -66,5 +66,5 @@ put_whole {o} {v} {out} {r} p = record {
 }
 
 -- nothing written
-pub put-denied : {o : List ℕ} {n i : ℕ} (r : Written) → r ≡ says (denied n i) → Writes (denied n i) o o r
-put-denied r e = record { said = e; left = refl }
+pub put_denied : {o : List ℕ} {n i : ℕ} (r : Written) → r ≡ says (denied n i) → Writes (denied n i) o o r
+put_denied r e = record { said = e; left = refl }

@@ -2,7 +2,7 @@
 -- Assumes nothing.
 use Rattle.std.specs.Prelude.{cond, []}
 use Rattle.text.specs.Text.{Bytes, every, hexadecimal}
-use Rattle.text.specs.Base16.{base16Decode}
+use Rattle.text.specs.Base16.{base16_decode}
 
 abbrev pub decoded : Bytes → Bytes
-decoded s = cond (every hexadecimal s) (base16Decode s) []
+decoded s = cond (every hexadecimal s) (base16_decode s) []

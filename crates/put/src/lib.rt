@@ -1,7 +1,7 @@
 // Writing into a lent output, one piece after another.
 ghost use Rattle.std.specs.Prelude.{◌≡◌, [], ◌∷◌, ◌*◌, ◌+◌, T};
 ghost use Rattle.text.specs.Text.{hexadecimal};
-ghost use Rattle.text.specs.Base16.{hexValue, base16};
+ghost use Rattle.text.specs.Base16.{hex_value, base16};
 ghost use Rattle.put.specs.Put.{Puts};
 ghost use Rattle.put.specs.Decoded.{decoded};
 ghost use Rattle.put.specs.Made.{denied, says};
@@ -75,7 +75,7 @@ pub fn put_hex(out: &mut [u8], at: usize, bytes: &[u8]) -> usize
 // The byte of two hexadecimal characters.
 fn byte_of(high: u8, low: u8) -> u8
     requires { T (hexadecimal high) × T (hexadecimal low) }
-    ensures { result ≡ 16 * hexValue high + hexValue low }
+    ensures { result ≡ 16 * hex_value high + hex_value low }
 {
     16 * text::hex_value(high) + text::hex_value(low)
 }

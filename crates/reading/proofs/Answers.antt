@@ -8,12 +8,12 @@ use mathlib.Core.List.{List, [], ◌∷◌}
 use native.Mathlib.Omega.{arith}
 use Rattle.text.specs.Text.{Bytes}
 use Rattle.format.specs.Kinds.{Kind, Field, fields_of}
-use Rattle.format.specs.Read.{Outcome, accepted, refused, answer, place, passing, each, fieldAnswer, wholeAnswer, judged, readIdentity}
+use Rattle.format.specs.Read.{Outcome, accepted, refused, answer, place, passing, each, field_answer, whole_answer, judged, read_identity}
 use Rattle.format.specs.declared.Rules.{Rules}
 use Rattle.format.proofs.Outcomes.{Honest}
 use Rattle.table.specs.Table.{row_of}
-use Rattle.places.specs.Places.{startsOf, lens_of}
-use Rattle.reading.specs.Reading.{kindsOf, answer_of, judgedSaid}
+use Rattle.places.specs.Places.{starts_of, lens_of}
+use Rattle.reading.specs.Reading.{kinds_of, answer_of, judged_said}
 use Rattle.reading.specs.declared.Answer.{Answer}
 use Rattle.reading.specs.declared.Judged.{Judged}
 
@@ -39,13 +39,13 @@ untaken (refused n i) a e z = let t = told (refused n i) a e in ap₂ {C = Outco
 
 -- ---- an accepted answer by its pieces
 
-pub taken-so : (k : Kind) (fs : List Bytes) (row : ℕ) (starts lens kinds : List ℕ) → row ≡ row_of k → starts ≡ startsOf k fs → lens ≡ lens_of fs → kinds ≡ kindsOf k fs
+pub taken_so : (k : Kind) (fs : List Bytes) (row : ℕ) (starts lens kinds : List ℕ) → row ≡ row_of k → starts ≡ starts_of k fs → lens ≡ lens_of fs → kinds ≡ kinds_of k fs
     → record { no = 0; field = 0; kind = row; starts = starts; lens = lens; kinds = kinds } ≡ answer_of (accepted k fs)
-taken-so k fs row starts lens kinds e a b c =
+taken_so k fs row starts lens kinds e a b c =
     ap (λ (x : ℕ). made x starts lens kinds) e
     ∙ ap (λ (x : List ℕ). made (row_of k) x lens kinds) a
-    ∙ ap (λ (x : List ℕ). made (row_of k) (startsOf k fs) x kinds) b
-    ∙ ap (λ (x : List ℕ). made (row_of k) (startsOf k fs) (lens_of fs) x) c
+    ∙ ap (λ (x : List ℕ). made (row_of k) (starts_of k fs) x kinds) b
+    ∙ ap (λ (x : List ℕ). made (row_of k) (starts_of k fs) (lens_of fs) x) c
   where
     made : ℕ → List ℕ → List ℕ → List ℕ → Answer
     made w x y z = record { no = 0; field = 0; kind = w; starts = x; lens = y; kinds = z }
@@ -55,42 +55,42 @@ taken-so k fs row starts lens kinds e a b c =
 abbrev Either : (Outcome → Outcome) → Type 0
 Either f = ((o : Outcome) → f o ≡ o) ⊎ ((n : ℕ) × (i : ℕ) × ((o : Outcome) → f o ≡ refused (suc n) i))
 
-passing-either : (n i : ℕ) (f : Outcome → Outcome) → Either f → Either (λ o. passing n i (f o))
-passing-either zero i f e = e
-passing-either (suc n) i f e = inr (n, i, λ o. refl)
+passing_either : (n i : ℕ) (f : Outcome → Outcome) → Either f → Either (λ o. passing n i (f o))
+passing_either zero i f e = e
+passing_either (suc n) i f e = inr (n, i, λ o. refl)
 
-each-either : (ask : Bytes → Outcome) (i : ℕ) (ts : List Field) (fs : List Bytes) (f : Outcome → Outcome) → Either f → Either (λ o. each ask i ts fs (f o))
-each-either ask i [] fs f e = e
-each-either ask i (t ∷ ts) [] f e = e
-each-either ask i (t ∷ ts) (b ∷ fs) f e = passing-either (fieldAnswer ask t b) i (λ o. each ask (suc i) ts fs (f o)) (each-either ask (suc i) ts fs f e)
+each_either : (ask : Bytes → Outcome) (i : ℕ) (ts : List Field) (fs : List Bytes) (f : Outcome → Outcome) → Either f → Either (λ o. each ask i ts fs (f o))
+each_either ask i [] fs f e = e
+each_either ask i (t ∷ ts) [] f e = e
+each_either ask i (t ∷ ts) (b ∷ fs) f e = passing_either (field_answer ask t b) i (λ o. each ask (suc i) ts fs (f o)) (each_either ask (suc i) ts fs f e)
 
-module _ (rules : Rules) (k : Kind) (fs : List Bytes) (j : Judged) (q : j ≡ judgedSaid (judged rules readIdentity k fs (accepted k fs))) where
-  either : Either (judged rules readIdentity k fs)
+module _ (rules : Rules) (k : Kind) (fs : List Bytes) (j : Judged) (q : j ≡ judged_said (judged rules read_identity k fs (accepted k fs))) where
+  either : Either (judged rules read_identity k fs)
   unfolding judged
-  either = each-either readIdentity 1 (fields_of k) fs (passing (wholeAnswer rules k fs) 0) (passing-either (wholeAnswer rules k fs) 0 (λ o. o) (inl (λ o. refl)))
+  either = each_either read_identity 1 (fields_of k) fs (passing (whole_answer rules k fs) 0) (passing_either (whole_answer rules k fs) 0 (λ o. o) (inl (λ o. refl)))
 
-  its-number : {o : Outcome} → judged rules readIdentity k fs (accepted k fs) ≡ o → j.no ≡ answer o
-  its-number {o} e = ap (λ (x : Judged). x.no) (q ∙ ap judgedSaid e) ∙ go o
+  its_number : {o : Outcome} → judged rules read_identity k fs (accepted k fs) ≡ o → j.no ≡ answer o
+  its_number {o} e = ap (λ (x : Judged). x.no) (q ∙ ap judged_said e) ∙ go o
     where
-      go : (p : Outcome) → (judgedSaid p).no ≡ answer p
+      go : (p : Outcome) → (judged_said p).no ≡ answer p
       go (accepted i gs) = refl
       go (refused n i) = refl
 
   -- with another number than 0 they are refused
-  pub denied : (j.no ≡ 0 → ⊥) → (o : Outcome) → judged rules readIdentity k fs o ≡ refused j.no j.field
+  pub denied : (j.no ≡ 0 → ⊥) → (o : Outcome) → judged rules read_identity k fs o ≡ refused j.no j.field
   denied z o = go either
     where
-      go : Either (judged rules readIdentity k fs) → judged rules readIdentity k fs o ≡ refused j.no j.field
-      go (inl f) = absurd (z (its-number (f (accepted k fs))))
-      go (inr (n, i, f)) = f o ∙ sym (ap₂ {C = Outcome} refused (its-number (f (accepted k fs))) (ap (λ (x : Judged). x.field) (q ∙ ap judgedSaid (f (accepted k fs)))))
+      go : Either (judged rules read_identity k fs) → judged rules read_identity k fs o ≡ refused j.no j.field
+      go (inl f) = absurd (z (its_number (f (accepted k fs))))
+      go (inr (n, i, f)) = f o ∙ sym (ap₂ {C = Outcome} refused (its_number (f (accepted k fs))) (ap (λ (x : Judged). x.field) (q ∙ ap judged_said (f (accepted k fs)))))
 
   -- with 0 they pass
-  pub agreed : j.no ≡ 0 → (o : Outcome) → judged rules readIdentity k fs o ≡ o
+  pub agreed : j.no ≡ 0 → (o : Outcome) → judged rules read_identity k fs o ≡ o
   agreed z o = go either
     where
-      go : Either (judged rules readIdentity k fs) → judged rules readIdentity k fs o ≡ o
+      go : Either (judged rules read_identity k fs) → judged rules read_identity k fs o ≡ o
       go (inl f) = f o
-      go (inr (n, i, f)) = absurd (omega (arith, its-number (f (accepted k fs))))
+      go (inr (n, i, f)) = absurd (omega (arith, its_number (f (accepted k fs))))
 
-  pub agreed-kinds : j.no ≡ 0 → j.kinds ≡ kindsOf k fs
-  agreed-kinds z = ap (λ (x : Judged). x.kinds) (q ∙ ap judgedSaid (agreed z (accepted k fs)))
+  pub agreed_kinds : j.no ≡ 0 → j.kinds ≡ kinds_of k fs
+  agreed_kinds z = ap (λ (x : Judged). x.kinds) (q ∙ ap judged_said (agreed z (accepted k fs)))

@@ -8,42 +8,42 @@ use lib.ListN.{length}
 use lib.Dec.{eqb}
 use borrow.Author.Tests.{eq-eqb, ne_eqb}
 use Rattle.text.specs.Text.{Bytes}
-use Rattle.numbers.specs.Numbers.{wrongCount}
+use Rattle.numbers.specs.Numbers.{wrong_count}
 use Rattle.format.specs.Kinds.{Kind, mark, fields_of}
-use Rattle.format.specs.Read.{Outcome, accepted, provided, passing, ofKind, checkNo, fieldsIn, judged, readAs}
+use Rattle.format.specs.Read.{Outcome, accepted, provided, passing, of_kind, check_no, fields_in, judged, read_as}
 use Rattle.format.specs.declared.Rules.{Rules}
-use Rattle.table.specs.Table.{row_of, missingRow, rowFor, mark_of}
+use Rattle.table.specs.Table.{row_of, missing_row, row_for, mark_of}
 use Rattle.table.proofs.Rows.{row_small, of-kind}
-use Rattle.reading.specs.Steps.{formNo}
+use Rattle.reading.specs.Steps.{form_no}
 
 -- ---- the tests in a row
 
-pub form-none : (row : ℕ) (s : Bytes) → row ≡ missingRow → formNo row s ≡ 2
-unfolding formNo
-form-none row s e = rw (eq-eqb row missingRow e)
+pub form_none : (row : ℕ) (s : Bytes) → row ≡ missing_row → form_no row s ≡ 2
+unfolding form_no
+form_none row s e = rw (eq-eqb row missing_row e)
 
 -- m is the mark as the code has it
-pub form-check : (row : ℕ) (s : Bytes) → (row ≡ missingRow → ⊥) → (m : ℕ) → m ≡ mark_of row → checkNo m s ≡ formNo row s
-unfolding formNo
-form-check row s h m em = ap (λ (x : ℕ). checkNo x s) em ∙ rw (ne_eqb row missingRow h)
+pub form_check : (row : ℕ) (s : Bytes) → (row ≡ missing_row → ⊥) → (m : ℕ) → m ≡ mark_of row → check_no m s ≡ form_no row s
+unfolding form_no
+form_check row s h m em = ap (λ (x : ℕ). check_no x s) em ∙ rw (ne_eqb row missing_row h)
 
 -- a form without a number: a row was found
-pub form-found : (row : ℕ) (s : Bytes) → formNo row s ≡ 0 → row ≡ missingRow → ⊥
-form-found row s e h = omega (arith, form-none row s h)
+pub form_found : (row : ℕ) (s : Bytes) → form_no row s ≡ 0 → row ≡ missing_row → ⊥
+form_found row s e h = omega (arith, form_none row s h)
 
 -- ---- what is left is the number of the fields, and then the fields
 
 module _ (rules : Rules) (ask : Bytes → Outcome) (s : Bytes) where
-  abbrev pub fromFields : Kind → Outcome
-  fromFields k = judged rules ask k (fieldsIn k s) (accepted k (fieldsIn k s))
+  abbrev pub from_fields : Kind → Outcome
+  from_fields k = judged rules ask k (fields_in k s) (accepted k (fields_in k s))
 
-  abbrev pub fromCount : Kind → Outcome
-  fromCount k = provided (eqb (length (fieldsIn k s)) (length (fields_of k))) wrongCount (fromFields k)
+  abbrev pub from_count : Kind → Outcome
+  from_count k = provided (eqb (length (fields_in k s)) (length (fields_of k))) wrong_count (from_fields k)
 
-  as-form : (k : Kind) → readAs rules ask s k ≡ passing (formNo (row_of k) s) 0 (fromCount k)
-  unfolding readAs formNo
-  as-form k = rw (ne_eqb (row_of k) missingRow (λ e. omega (arith, row_small k)), of-kind mark 0 k)
+  as_form : (k : Kind) → read_as rules ask s k ≡ passing (form_no (row_of k) s) 0 (from_count k)
+  unfolding read_as form_no
+  as_form k = rw (ne_eqb (row_of k) missing_row (λ e. omega (arith, row_small k)), of-kind mark 0 k)
 
-  pub of-form : (o : Option Kind) (row : ℕ) → row ≡ rowFor o → ofKind o (readAs rules ask s) ≡ passing (formNo row s) 0 (ofKind o fromCount)
-  of-form none row e = rw (form-none row s e)
-  of-form (some k) row e = rw e (as-form k)
+  pub of_form : (o : Option Kind) (row : ℕ) → row ≡ row_for o → of_kind o (read_as rules ask s) ≡ passing (form_no row s) 0 (of_kind o from_count)
+  of_form none row e = rw (form_none row s e)
+  of_form (some k) row e = rw e (as_form k)

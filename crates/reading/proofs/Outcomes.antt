@@ -8,25 +8,25 @@ use lib.ListN.{length}
 use borrow.Author.Tests.{le-leb, lt-leb}
 use Rattle.text.specs.Text.{Bytes}
 use Rattle.format.specs.Kinds.{Kind}
-use Rattle.format.specs.Read.{Outcome, refused, passing, title, markAfter, kindIn, ofKind, readAs, readOver}
+use Rattle.format.specs.Read.{Outcome, refused, passing, title, mark_after, kind_in, of_kind, read_as, read_over}
 use Rattle.format.specs.declared.Rules.{Rules}
 
-pub passing-stop : (n i : ℕ) (o : Outcome) → (n ≡ 0 → ⊥) → passing n i o ≡ refused n i
-passing-stop zero i o h = absurd (h refl)
-passing-stop (suc n) i o h = refl
+pub passing_stop : (n i : ℕ) (o : Outcome) → (n ≡ 0 → ⊥) → passing n i o ≡ refused n i
+passing_stop zero i o h = absurd (h refl)
+passing_stop (suc n) i o h = refl
 
-pub passing-on : (n i : ℕ) (o : Outcome) → n ≡ 0 → passing n i o ≡ o
-passing-on zero i o h = refl
-passing-on (suc n) i o h = absurd (omega arith)
+pub passing_on : (n i : ℕ) (o : Outcome) → n ≡ 0 → passing n i o ≡ o
+passing_on zero i o h = refl
+passing_on (suc n) i o h = absurd (omega arith)
 
-pub passing-as : {a b : ℕ} (i : ℕ) (o : Outcome) → a ≡ b → passing a i o ≡ passing b i o
-passing-as i o e = ap (λ (x : ℕ). passing x i o) e
+pub passing_as : {a b : ℕ} (i : ℕ) (o : Outcome) → a ≡ b → passing a i o ≡ passing b i o
+passing_as i o e = ap (λ (x : ℕ). passing x i o) e
 
 module _ (rules : Rules) (ask : Bytes → Outcome) (ks : List Kind) (s : Bytes) where
-  pub over-long : 1024 < length s → readOver rules ask ks s ≡ refused 1 0
-  unfolding readOver
-  over-long h = rw (lt-leb (length s) 1024 h)
+  pub over_long : 1024 < length s → read_over rules ask ks s ≡ refused 1 0
+  unfolding read_over
+  over_long h = rw (lt-leb (length s) 1024 h)
 
-  pub over-kind : length s ≤ 1024 → readOver rules ask ks s ≡ ofKind (kindIn ks (title s) (markAfter s)) (readAs rules ask s)
-  unfolding readOver
-  over-kind h = rw (le-leb (length s) 1024 h)
+  pub over_kind : length s ≤ 1024 → read_over rules ask ks s ≡ of_kind (kind_in ks (title s) (mark_after s)) (read_as rules ask s)
+  unfolding read_over
+  over_kind h = rw (le-leb (length s) 1024 h)

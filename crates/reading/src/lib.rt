@@ -5,12 +5,12 @@
 mod together;
 
 ghost use Rattle.std.specs.Prelude.{◌≡◌, cond, ◌&&◌, ◌||◌, ◌<◌, eqb, ltb};
-ghost use Rattle.numbers.specs.Numbers.{wrongText};
+ghost use Rattle.numbers.specs.Numbers.{wrong_text};
 ghost use Rattle.format.specs.Build.{empty};
-ghost use Rattle.format.specs.Read.{refused, identityAnswer, nobody, readIdentity, readUnder, read_of, readRecord};
-ghost use Rattle.table.specs.Table.{fieldType, isIdentity, mayBeEmpty, permitted, kindsFrom};
-ghost use Rattle.reading.specs.Reading.{kindSaid, answer_of, judgedSaid, judgeUnder, judge};
-ghost use Rattle.reading.specs.Steps.{formNo, isText, fieldSaid, partsBy, FirstRefused, Walked};
+ghost use Rattle.format.specs.Read.{refused, identity_answer, nobody, read_identity, read_under, read_of, read_record};
+ghost use Rattle.table.specs.Table.{field_type, is_identity, may_be_empty, permitted, kinds_from};
+ghost use Rattle.reading.specs.Reading.{kind_said, answer_of, judged_said, judge_under, judge};
+ghost use Rattle.reading.specs.Steps.{form_no, is_text, field_said, parts_by, FirstRefused, Walked};
 
 // No record that is read or built is longer.
 pub const LONGEST: usize = 1024;
@@ -69,7 +69,7 @@ pub fn refuse(no: u8, field: u8) -> Answer
 
 // By the row that the title and its mark have.
 fn form_no(row: usize, s: &[u8]) -> u8
-    ensures { result ≡ formNo row s.now }
+    ensures { result ≡ form_no row s.now }
 {
     if row == table::NONE {
         return numbers::UNKNOWN_KIND;
@@ -81,7 +81,7 @@ fn form_no(row: usize, s: &[u8]) -> u8
 
 // The code is IDENT's, or names no text type: an identity's, or none at all.
 fn is_ident_code(code: u8) -> bool
-    ensures { result ≡ (eqb code 0 || (ltb 13 code || isIdentity (fieldType code))) }
+    ensures { result ≡ (eqb code 0 || (ltb 13 code || is_identity (field_type code))) }
 {
     if code == table::IDENT {
         return true;
@@ -95,7 +95,7 @@ fn is_ident_code(code: u8) -> bool
 // Of the text type of this code; a code that names none is taken for IDENT's. The others in three parts, because LLVM makes a table of jumps
 // of more than three codes in a row.
 fn is_text(code: u8, field: &[u8]) -> bool
-    ensures { result ≡ isText (fieldType code) field.now }
+    ensures { result ≡ is_text (field_type code) field.now }
 {
     if is_ident_code(code) {
         return text::is_ident(field);
@@ -125,7 +125,7 @@ fn is_text(code: u8, field: &[u8]) -> bool
 }
 
 fn text_no(code: u8, field: &[u8]) -> u8
-    ensures { result ≡ cond (isText (fieldType code) field.now) 0 wrongText }
+    ensures { result ≡ cond (is_text (field_type code) field.now) 0 wrong_text }
 {
     if is_text(code, field) {
         return numbers::ACCEPTED;
@@ -138,7 +138,7 @@ fn text_no(code: u8, field: &[u8]) -> u8
 // The fields of an identity, which are texts, from left to right. The identity kinds are the rows below 3.
 fn identity_fields(row: usize, s: &[u8], starts: &[usize; 7], lens: &[usize; 7]) -> Refusal
     requires { row < 3 }
-    ensures { FirstRefused nobody row (partsBy row s.now starts.now lens.now) result.no result.field }
+    ensures { FirstRefused nobody row (parts_by row s.now starts.now lens.now) result.no result.field }
 {
     let count = table::count_of(row);
     let mut j: usize = 0;
@@ -158,7 +158,7 @@ fn identity_fields(row: usize, s: &[u8], starts: &[usize; 7], lens: &[usize; 7])
 // Reads an identity. Over 1,024 bytes answer 1, a title and mark that are no identity kind's 2, and so on in the order
 // above; a field that is not of its text type answers 6 with its number.
 pub fn read_identity(identity: &[u8]) -> Answer
-    ensures { result ≡ answer_of (readIdentity identity.now) }
+    ensures { result ≡ answer_of (read_identity identity.now) }
 {
     if LONGEST < identity.len() {
         return refuse(numbers::TOO_LONG, 0);
@@ -193,7 +193,7 @@ pub fn read_identity(identity: &[u8]) -> Answer
 
 // 7 where the field is no accepted identity, then 9 where its kind is not permitted here.
 fn identity_said(code: u8, field: &[u8]) -> FieldSaid
-    ensures { result ≡ record { no = identityAnswer (permitted (fieldType code)) (readIdentity field.now); kind = kindSaid (readIdentity field.now) } }
+    ensures { result ≡ record { no = identity_answer (permitted (field_type code)) (read_identity field.now); kind = kind_said (read_identity field.now) } }
 {
     let inner = read_identity(field);
     let kind = inner.kind;
@@ -217,7 +217,7 @@ fn identity_said(code: u8, field: &[u8]) -> FieldSaid
 
 // The field is empty and may be.
 fn is_left_empty(code: u8, field: &[u8]) -> bool
-    ensures { result ≡ (empty field.now && mayBeEmpty (fieldType code)) }
+    ensures { result ≡ (empty field.now && may_be_empty (field_type code)) }
 {
     if field.len() != 0 {
         return false;
@@ -227,7 +227,7 @@ fn is_left_empty(code: u8, field: &[u8]) -> bool
 
 // One field by the code of its type: 6 for a text, 7 or 9 for an identity, or 0. A field that may be empty and is answers 0.
 fn field_said(code: u8, field: &[u8]) -> FieldSaid
-    ensures { result ≡ fieldSaid (fieldType code) field.now }
+    ensures { result ≡ field_said (field_type code) field.now }
 {
     if is_left_empty(code, field) {
         return FieldSaid {
@@ -246,7 +246,7 @@ fn field_said(code: u8, field: &[u8]) -> FieldSaid
 
 // The fields of a record from left to right.
 fn record_fields(row: usize, s: &[u8], starts: &[usize; 7], lens: &[usize; 7]) -> Judged
-    ensures { Walked row (partsBy row s.now starts.now lens.now) result.no result.field result.kinds }
+    ensures { Walked row (parts_by row s.now starts.now lens.now) result.no result.field result.kinds }
 {
     let count = table::count_of(row);
     let mut kinds = [table::NONE; 7];
@@ -274,7 +274,7 @@ fn record_fields(row: usize, s: &[u8], starts: &[usize; 7], lens: &[usize; 7]) -
 
 // The answer that refuses a record's fields.
 fn deny(no: u8, field: u8) -> Judged
-    ensures { result ≡ judgedSaid (refused no field) }
+    ensures { result ≡ judged_said (refused no field) }
 {
     Judged {
         no,
@@ -292,7 +292,7 @@ fn judge_under(
     starts: &[usize; 7],
     lens: &[usize; 7],
 ) -> Judged
-    ensures { result ≡ judgeUnder rules row s.now starts.now lens.now }
+    ensures { result ≡ judge_under rules row s.now starts.now lens.now }
 {
     if table::ROWS <= row {
         return deny(numbers::UNKNOWN_KIND, 0);
@@ -325,7 +325,7 @@ pub fn judge(row: usize, s: &[u8], starts: &[usize; 7], lens: &[usize; 7]) -> Ju
 // Reads a record of the kinds in the table's rows from `from` to before `to`, under these rules. Every other kind answers 2 in its
 // place, and so does an identity, whatever the rows.
 pub fn read_under(rules: format::Rules, from: usize, to: usize, record: &[u8]) -> Answer
-    ensures { result ≡ answer_of (readUnder rules (kindsFrom from to) «record».now) }
+    ensures { result ≡ answer_of (read_under rules (kinds_from from to) «record».now) }
 {
     if LONGEST < record.len() {
         return refuse(numbers::TOO_LONG, 0);
@@ -359,14 +359,14 @@ pub fn read_under(rules: format::Rules, from: usize, to: usize, record: &[u8]) -
 
 // The same under today's rules.
 pub fn read_of(from: usize, to: usize, record: &[u8]) -> Answer
-    ensures { result ≡ answer_of (read_of (kindsFrom from to) «record».now) }
+    ensures { result ≡ answer_of (read_of (kinds_from from to) «record».now) }
 {
     read_under(format::Rules::Today, from, to, record)
 }
 
 // Reads a record of any of the five record kinds.
 pub fn read_record(record: &[u8]) -> Answer
-    ensures { result ≡ answer_of (readRecord «record».now) }
+    ensures { result ≡ answer_of (read_record «record».now) }
 {
     read_of(table::ECDSA, table::ROWS, record)
 }

@@ -1,12 +1,12 @@
 // The fields of a record together, after each of them: numbers 8, 14 and 28.
 ghost use Rattle.std.specs.Prelude.{◌≡◌, cond};
-ghost use Rattle.numbers.specs.Numbers.{wrongAttributes};
-ghost use Rattle.format.specs.Attributes.{areAttributes};
-ghost use Rattle.reading.specs.Steps.{partsBy, unsignedNo, moduleNo, pubkeyNo, wholeNo};
+ghost use Rattle.numbers.specs.Numbers.{wrong_attributes};
+ghost use Rattle.format.specs.Attributes.{are_attributes};
+ghost use Rattle.reading.specs.Steps.{parts_by, unsigned_no, module_no, pubkey_no, whole_no};
 
 // What the rules answer to the unsigned key of a module.
 fn unsigned_no(rules: format::Rules) -> u8
-    ensures { result ≡ unsignedNo rules }
+    ensures { result ≡ unsigned_no rules }
 {
     match rules {
         format::Rules::UpToE10 => numbers::ACCEPTED,
@@ -16,7 +16,7 @@ fn unsigned_no(rules: format::Rules) -> u8
 
 // 28 for a key whose Subject is a module's and whose Signature is empty, where the rules say so, or 0.
 fn module_no(rules: format::Rules, subject: &[u8], signature: &[u8]) -> u8
-    ensures { result ≡ moduleNo rules subject.now signature.now }
+    ensures { result ≡ module_no rules subject.now signature.now }
 {
     if signature.len() != 0 {
         return numbers::ACCEPTED;
@@ -35,7 +35,7 @@ fn pubkey_no(
     issuer: &[u8],
     signature: &[u8],
 ) -> u8
-    ensures { result ≡ pubkeyNo rules row subject.now issuer.now signature.now }
+    ensures { result ≡ pubkey_no rules row subject.now issuer.now signature.now }
 {
     if (issuer.len() == 0) != (signature.len() == 0) {
         return numbers::UNPAIRED;
@@ -47,7 +47,7 @@ fn pubkey_no(
 }
 
 fn attributes_no(attributes: &[u8]) -> u8
-    ensures { result ≡ cond (areAttributes attributes.now) 0 wrongAttributes }
+    ensures { result ≡ cond (are_attributes attributes.now) 0 wrong_attributes }
 {
     if cards::are_attributes(attributes) {
         return numbers::ACCEPTED;
@@ -63,7 +63,7 @@ pub(crate) fn whole_no(
     starts: &[usize; 7],
     lens: &[usize; 7],
 ) -> u8
-    ensures { result ≡ wholeNo rules row (partsBy row s.now starts.now lens.now) }
+    ensures { result ≡ whole_no rules row (parts_by row s.now starts.now lens.now) }
 {
     if table::is_pubkey(row) {
         let subject = places::field_at(s, starts, lens, table::PUBKEY_SUBJECT);

@@ -5,17 +5,17 @@ use Rattle.sha384.specs.declared.Words.{Words}
 use Rattle.sha384.specs.declared.Sha384.{Sha384}
 use Rattle.sha384.specs.Sha384.{plus}
 use Rattle.sha384.specs.State.{higher, count, keeping}
-use Rattle.sha384.proofs.Taken.{low-waiting}
+use Rattle.sha384.proofs.Taken.{low_waiting}
 
-pub whole-fits : (n r : ℕ) → n < 2 ^ 64 → (n - r) / 128 * 128 < 2 ^ 64
-whole-fits n r h = omega arith
+pub whole_fits : (n r : ℕ) → n < 2 ^ 64 → (n - r) / 128 * 128 < 2 ^ 64
+whole_fits n r h = omega arith
 
 low_sum : (h l k : ℕ) → (l + k) % 2 ^ 64 ≡ (h * 2 ^ 64 + l + k) % 2 ^ 64
 low_sum h l k = omega arith
 
 module _ (s : Sha384) where
-  pub used-is : s.low % 128 ≡ count s % 128
-  used-is = sym (low-waiting s.high s.low)
+  pub used_is : s.low % 128 ≡ count s % 128
+  used_is = sym (low_waiting s.high s.low)
 
   -- with the bytes m
   pub counted : (m : List ℕ) {v : Words} {b : List ℕ} {low high : ℕ} → low ≡ plus s.low (length m) → high ≡ higher (count s + length m)

@@ -9,8 +9,8 @@ use Rattle.sha384.specs.State.{lower, higher, keeping, added}
 
 -- ---- the higher word of the count: a sum of two words carries where it is less than either
 
-higher-sum : (h l m : ℕ) → higher (h * 2 ^ 64 + l + m) ≡ (h + (l + m) / 2 ^ 64) % 2 ^ 64
-higher-sum h l m = ap (λ (j : ℕ). j % 2 ^ 64) (top h l m)
+higher_sum : (h l m : ℕ) → higher (h * 2 ^ 64 + l + m) ≡ (h + (l + m) / 2 ^ 64) % 2 ^ 64
+higher_sum h l m = ap (λ (j : ℕ). j % 2 ^ 64) (top h l m)
   where
     top : (h l m : ℕ) → (h * 2 ^ 64 + l + m) / 2 ^ 64 ≡ h + (l + m) / 2 ^ 64
     top h l m = omega arith
@@ -18,35 +18,35 @@ higher-sum h l m = ap (λ (j : ℕ). j % 2 ^ 64) (top h l m)
 pub carried : (h l m : ℕ) {s : ℕ} → l < 2 ^ 64 → m < 2 ^ 64 → s ≡ (l + m) % 2 ^ 64 → s < m → (h + 1) % 2 ^ 64 ≡ higher (h * 2 ^ 64 + l + m)
 carried h l m {s} a b e c =
     let q : (l + m) / 2 ^ 64 ≡ 1 = omega arith in
-    rw q at (sym (higher-sum h l m))
+    rw q at (sym (higher_sum h l m))
 
 pub uncarried : (h l m : ℕ) {s : ℕ} → h < 2 ^ 64 → l < 2 ^ 64 → m < 2 ^ 64 → s ≡ (l + m) % 2 ^ 64 → m ≤ s → h ≡ higher (h * 2 ^ 64 + l + m)
 uncarried h l m {s} a b c e d =
     let q : (l + m) / 2 ^ 64 ≡ 0 = omega arith in
-    sym (higher-sum h l m ∙ rw q (rw add-zero (mod-eq_of_lt a)))
+    sym (higher_sum h l m ∙ rw q (rw add-zero (mod-eq_of_lt a)))
 
 -- ---- one slice after another
 
-low-more : (n k : ℕ) → lower (higher n * 2 ^ 64 + lower n + k) ≡ lower (n + k)
-low-more n k = omega arith
+low_more : (n k : ℕ) → lower (higher n * 2 ^ 64 + lower n + k) ≡ lower (n + k)
+low_more n k = omega arith
 
-high-more : (n k : ℕ) → higher (higher n * 2 ^ 64 + lower n + k) ≡ higher (n + k)
-high-more n k = omega arith
+high_more : (n k : ℕ) → higher (higher n * 2 ^ 64 + lower n + k) ≡ higher (n + k)
+high_more n k = omega arith
 
 -- a block has 128 bytes, and the lower word tells how many wait
-pub low-waiting : (h l : ℕ) → (h * 2 ^ 64 + l) % 128 ≡ l % 128
-low-waiting h l = omega arith
+pub low_waiting : (h l : ℕ) → (h * 2 ^ 64 + l) % 128 ≡ l % 128
+low_waiting h l = omega arith
 
-waiting-more : (n : ℕ) → lower n % 128 ≡ n % 128
-waiting-more n = omega arith
+waiting_more : (n : ℕ) → lower n % 128 ≡ n % 128
+waiting_more n = omega arith
 
 pub enough : Enough 128 keeping
 enough = record {
   some = omega arith;
-  hash-kept = λ v b n. refl;
-  block-kept = λ v b n. refl;
-  count-on = λ v u b c n m. ap₂ (λ (l h : ℕ). record { hash = u; block = c; low = l; high = h }) (low-more n m) (high-more n m);
-  count-waiting = λ v b n. low-waiting (higher n) (lower n) ∙ waiting-more n;
+  hash_kept = λ v b n. refl;
+  block_kept = λ v b n. refl;
+  count_on = λ v u b c n m. ap₂ (λ (l h : ℕ). record { hash = u; block = c; low = l; high = h }) (low_more n m) (high_more n m);
+  count_waiting = λ v b n. low_waiting (higher n) (lower n) ∙ waiting_more n;
 }
 
 pub added_then : (s : Sha384) (x y : List ℕ) → length s.block ≡ 128 → added (added s x) y ≡ added s (x ++ y)

@@ -46,8 +46,8 @@ unfoldable pub added : Sha384 → List ℕ → Sha384
 added = State.added 128 compress keeping
 
 -- given one slice after another
-abbrev pub addedAll : Sha384 → List (List ℕ) → Sha384
-addedAll = State.addedAll added
+abbrev pub added_all : Sha384 → List (List ℕ) → Sha384
+added_all = State.added_all added
 
 unfoldable pub ended : Sha384 → List ℕ
 ended s = left384 (added s (padding (count s))).hash

@@ -10,37 +10,37 @@ use native.Mathlib.Omega.{arith}
 use lib.ListN.{length, get_or}
 use lib.Dec.{T}
 use mir.Facts.{and_yes, yes_and}
-use Rattle.text.specs.Text.{Bytes, looks, numberFrom, isTimestamp}
+use Rattle.text.specs.Text.{Bytes, looks, number_from, is_timestamp}
 use Rattle.text.specs.Seconds.{start}
 use Rattle.text.specs.Later.{later}
-use Rattle.text.proofs.Tests.{T_true, by-test}
-use Rattle.text.proofs.Types.{timestamp-length}
-use Rattle.text.proofs.Later.{later-itself, later_trans}
-use Rattle.shelf.specs.Cabinet.{isTvp}
+use Rattle.text.proofs.Tests.{T_true, by_test}
+use Rattle.text.proofs.Types.{timestamp_length}
+use Rattle.text.proofs.Later.{later_itself, later_trans}
+use Rattle.shelf.specs.Cabinet.{is_tvp}
 use Rattle.shelf.proofs.Places.{clash}
 
 -- a TIMESTAMP, and not before the start
-pub tvp-parts : (t : Bytes) → T (isTvp t) → T (isTimestamp t) × T (not (later start t))
-unfolding isTvp
-tvp-parts t h = and_yes (isTimestamp t) (not (later start t)) h
+pub tvp_parts : (t : Bytes) → T (is_tvp t) → T (is_timestamp t) × T (not (later start t))
+unfolding is_tvp
+tvp_parts t h = and_yes (is_timestamp t) (not (later start t)) h
 
-pub parts-tvp : (t : Bytes) → T (isTimestamp t) → T (not (later start t)) → T (isTvp t)
-unfolding isTvp
-parts-tvp t h l = yes_and (isTimestamp t) (not (later start t)) h l
+pub parts_tvp : (t : Bytes) → T (is_timestamp t) → T (not (later start t)) → T (is_tvp t)
+unfolding is_tvp
+parts_tvp t h l = yes_and (is_timestamp t) (not (later start t)) h l
 
-pub tvp-length : (t : Bytes) → T (isTvp t) → length t ≡ 16
-tvp-length t h = timestamp-length t (tvp-parts t h).0
+pub tvp_length : (t : Bytes) → T (is_tvp t) → length t ≡ 16
+tvp_length t h = timestamp_length t (tvp_parts t h).0
 
-pub start-tvp : T (isTvp start)
-unfolding isTimestamp looks numberFrom
-start-tvp = parts-tvp start tt (rw (later-itself start) tt)
+pub start_tvp : T (is_tvp start)
+unfolding is_timestamp looks number_from
+start_tvp = parts_tvp start tt (rw (later_itself start) tt)
 
 -- what is later than such a one is not before the start either
-pub later-tvp : (t u : Bytes) → T (isTimestamp t) → T (isTvp u) → later t u ≡ true → T (isTvp t)
-later-tvp t u h k l =
-    parts-tvp t h
-    (by-test (later start t)
-    (λ b. clash (later start u) (rw (later_trans start t u (T_true (later start t) b) l) tt) (tvp-parts u k).1)
+pub later_tvp : (t u : Bytes) → T (is_timestamp t) → T (is_tvp u) → later t u ≡ true → T (is_tvp t)
+later_tvp t u h k l =
+    parts_tvp t h
+    (by_test (later start t)
+    (λ b. clash (later start u) (rw (later_trans start t u (T_true (later start t) b) l) tt) (tvp_parts u k).1)
     (λ b. b))
 
 -- ---- TVPs that were admitted, the last one first
@@ -64,26 +64,26 @@ pub under_none : (o : Option Bytes) → Under o []
 under_none none = tt
 under_none (some u) = λ t h. tt
 
-all-earlier : (t u : Bytes) (ts : List Bytes) → later t u ≡ true → AllEarlier u ts → AllEarlier t ts
-all-earlier t u [] h a = tt
-all-earlier t u (v ∷ ts) h a = (later_trans t u v h a.0, all-earlier t u ts h a.1)
+all_earlier : (t u : Bytes) (ts : List Bytes) → later t u ≡ true → AllEarlier u ts → AllEarlier t ts
+all_earlier t u [] h a = tt
+all_earlier t u (v ∷ ts) h a = (later_trans t u v h a.0, all_earlier t u ts h a.1)
 
 -- one more, which is later than the stored one
-pub rising-more : (t u : Bytes) (o : Option Bytes) (ts : List Bytes) → o ≡ some u → later t u ≡ true → Rising ts × Under o ts → Rising (t ∷ ts) × Under (some t) (t ∷ ts)
-rising-more t u o ts e h (r, b) = let a = (rw e at b) t h in ((a, r), λ v l. (l, all-earlier v t ts l a))
+pub rising_more : (t u : Bytes) (o : Option Bytes) (ts : List Bytes) → o ≡ some u → later t u ≡ true → Rising ts × Under o ts → Rising (t ∷ ts) × Under (some t) (t ∷ ts)
+rising_more t u o ts e h (r, b) = let a = (rw e at b) t h in ((a, r), λ v l. (l, all_earlier v t ts l a))
 
-pub earlier-at : (t : Bytes) (ts : List Bytes) (j : ℕ) → AllEarlier t ts → j < length ts → later t (get_or ts j []) ≡ true
-earlier-at t [] j a h = absurd (omega arith)
-earlier-at t (u ∷ ts) zero a h = a.0
-earlier-at t (u ∷ ts) (suc j) a h = earlier-at t ts j a.1 (omega arith)
+pub earlier_at : (t : Bytes) (ts : List Bytes) (j : ℕ) → AllEarlier t ts → j < length ts → later t (get_or ts j []) ≡ true
+earlier_at t [] j a h = absurd (omega arith)
+earlier_at t (u ∷ ts) zero a h = a.0
+earlier_at t (u ∷ ts) (suc j) a h = earlier_at t ts j a.1 (omega arith)
 
 -- of two of them the one that was admitted later is later
-pub rising-at : (ts : List Bytes) → Rising ts → (i j : ℕ) → i < j → j < length ts → later (get_or ts i []) (get_or ts j []) ≡ true
-rising-at [] r i j h l = absurd (omega arith)
-rising-at (t ∷ ts) r i zero h l = absurd (omega arith)
-rising-at (t ∷ ts) r zero (suc j) h l = earlier-at t ts j r.0 (omega arith)
-rising-at (t ∷ ts) r (suc i) (suc j) h l = rising-at ts r.1 i j (omega arith) (omega arith)
+pub rising_at : (ts : List Bytes) → Rising ts → (i j : ℕ) → i < j → j < length ts → later (get_or ts i []) (get_or ts j []) ≡ true
+rising_at [] r i j h l = absurd (omega arith)
+rising_at (t ∷ ts) r i zero h l = absurd (omega arith)
+rising_at (t ∷ ts) r zero (suc j) h l = earlier_at t ts j r.0 (omega arith)
+rising_at (t ∷ ts) r (suc i) (suc j) h l = rising_at ts r.1 i j (omega arith) (omega arith)
 
 -- and so they are not the same
-pub rising-apart : (ts : List Bytes) → Rising ts → (i j : ℕ) → i < j → j < length ts → get_or ts i [] ≢ get_or ts j []
-rising-apart ts r i j h l e = false≢true (sym (later-itself (get_or ts j [])) ∙ ap (λ (x : Bytes). later x (get_or ts j [])) (sym e) ∙ rising-at ts r i j h l)
+pub rising_apart : (ts : List Bytes) → Rising ts → (i j : ℕ) → i < j → j < length ts → get_or ts i [] ≢ get_or ts j []
+rising_apart ts r i j h l e = false≢true (sym (later_itself (get_or ts j [])) ∙ ap (λ (x : Bytes). later x (get_or ts j [])) (sym e) ∙ rising_at ts r i j h l)

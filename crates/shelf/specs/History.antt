@@ -4,8 +4,8 @@ use Rattle.std.specs.Prelude.{ℕ, suc, ◌+◌, Bool, true, false, cond, List, 
 use Rattle.std.proofs.Math.Option.{Option, none, some}
 use Rattle.text.specs.Text.{Bytes}
 use Rattle.text.specs.Seconds.{start}
-use Rattle.shelf.specs.Places.{Names, sameNames, Held, Place, lookup}
-use Rattle.shelf.specs.Cabinet.{Reading, about, declined, asks, reads, requests, Result, putKey, removeKey, admit}
+use Rattle.shelf.specs.Places.{Names, same_names, Held, Place, lookup}
+use Rattle.shelf.specs.Cabinet.{Reading, about, declined, asks, reads, requests, Result, put_key, remove_key, admit}
 
 -- an accepted put of the record with these names, an accepted removal, or a request of the module with these names admitted with this TVP
 pub data Event : Type 0 where
@@ -18,36 +18,36 @@ pub data Event : Type 0 where
 abbrev pub nowhere : Names → Option Held
 nowhere k = none
 
-abbrev pub heldIn : List Place → Names → Option Held
-heldIn ps k = lookup k ps
+abbrev pub held_in : List Place → Names → Option Held
+held_in ps k = lookup k ps
 
 abbrev pub text_of : Option Held → Option Bytes
 text_of none = none
 text_of (some h) = some h.text
 
-abbrev pub tvpOf : Option Held → Option Bytes
-tvpOf none = none
-tvpOf (some h) = some h.tvp
+abbrev pub tvp_of : Option Held → Option Bytes
+tvp_of none = none
+tvp_of (some h) = some h.tvp
 
 -- ---- the request's words, of the accepted calls, the last one first; `before` says what was there before the first of them
 
 -- the last accepted put that was not removed
-abbrev pub lastPut : (Names → Option Held) → Names → List Event → Option Bytes
-lastPut before k [] = text_of (before k)
-lastPut before k (stored l r ∷ es) = cond (sameNames k l) (some r) (lastPut before k es)
-lastPut before k (removed l ∷ es) = cond (sameNames k l) none (lastPut before k es)
-lastPut before k (admitted l t ∷ es) = lastPut before k es
+abbrev pub last_put : (Names → Option Held) → Names → List Event → Option Bytes
+last_put before k [] = text_of (before k)
+last_put before k (stored l r ∷ es) = cond (same_names k l) (some r) (last_put before k es)
+last_put before k (removed l ∷ es) = cond (same_names k l) none (last_put before k es)
+last_put before k (admitted l t ∷ es) = last_put before k es
 
-abbrev pub isNothing : Option Bytes → Bool
-isNothing none = true
-isNothing (some r) = false
+abbrev pub is_nothing : Option Bytes → Bool
+is_nothing none = true
+is_nothing (some r) = false
 
 -- an accepted put is a first put where nothing of its names was there
-abbrev pub firstPuts : (Names → Option Held) → List Event → ℕ
-firstPuts before [] = 0
-firstPuts before (stored k r ∷ es) = cond (isNothing (lastPut before k es)) 1 0 + firstPuts before es
-firstPuts before (removed k ∷ es) = firstPuts before es
-firstPuts before (admitted k t ∷ es) = firstPuts before es
+abbrev pub first_puts : (Names → Option Held) → List Event → ℕ
+first_puts before [] = 0
+first_puts before (stored k r ∷ es) = cond (is_nothing (last_put before k es)) 1 0 + first_puts before es
+first_puts before (removed k ∷ es) = first_puts before es
+first_puts before (admitted k t ∷ es) = first_puts before es
 
 abbrev pub removals : List Event → ℕ
 removals [] = 0
@@ -58,28 +58,28 @@ removals (admitted k t ∷ es) = removals es
 -- ---- the TVPs (E10)
 
 -- a first put starts at 19930101T000000Z
-abbrev pub orStart : Option Bytes → Bytes
-orStart none = start
-orStart (some t) = t
+abbrev pub or_start : Option Bytes → Bytes
+or_start none = start
+or_start (some t) = t
 
 -- the last TVP accepted for a module: "replacing a certificate keeps the TVP; removing it drops the TVP"
-abbrev pub lastTvp : (Names → Option Held) → Names → List Event → Option Bytes
-lastTvp before k [] = tvpOf (before k)
-lastTvp before k (stored l r ∷ es) = cond (sameNames k l) (some (orStart (lastTvp before l es))) (lastTvp before k es)
-lastTvp before k (removed l ∷ es) = cond (sameNames k l) none (lastTvp before k es)
-lastTvp before k (admitted l t ∷ es) = cond (sameNames k l) (some t) (lastTvp before k es)
+abbrev pub last_tvp : (Names → Option Held) → Names → List Event → Option Bytes
+last_tvp before k [] = tvp_of (before k)
+last_tvp before k (stored l r ∷ es) = cond (same_names k l) (some (or_start (last_tvp before l es))) (last_tvp before k es)
+last_tvp before k (removed l ∷ es) = cond (same_names k l) none (last_tvp before k es)
+last_tvp before k (admitted l t ∷ es) = cond (same_names k l) (some t) (last_tvp before k es)
 
 -- the TVPs ts, or none of them where the put was a first put
-abbrev pub unlessFirst : Option Bytes → List Bytes → List Bytes
-unlessFirst none ts = []
-unlessFirst (some r) ts = ts
+abbrev pub unless_first : Option Bytes → List Bytes → List Bytes
+unless_first none ts = []
+unless_first (some r) ts = ts
 
 -- the TVPs of a module's requests that were admitted since its latest first put, the last one first
-abbrev pub admittedOf : (Names → Option Held) → Names → List Event → List Bytes
-admittedOf before k [] = []
-admittedOf before k (stored l r ∷ es) = cond (sameNames k l) (unlessFirst (lastPut before l es) (admittedOf before l es)) (admittedOf before k es)
-admittedOf before k (removed l ∷ es) = admittedOf before k es
-admittedOf before k (admitted l t ∷ es) = cond (sameNames k l) (t ∷ admittedOf before l es) (admittedOf before k es)
+abbrev pub admitted_of : (Names → Option Held) → Names → List Event → List Bytes
+admitted_of before k [] = []
+admitted_of before k (stored l r ∷ es) = cond (same_names k l) (unless_first (last_put before l es) (admitted_of before l es)) (admitted_of before k es)
+admitted_of before k (removed l ∷ es) = admitted_of before k es
+admitted_of before k (admitted l t ∷ es) = cond (same_names k l) (t ∷ admitted_of before l es) (admitted_of before k es)
 
 -- ---- calls, one after another
 
@@ -96,17 +96,17 @@ pub record Moment : Type 0 where
   pub bytes : Bytes
   pub events : List Event
 
-abbrev pub putEvent : Bytes → Reading → Option Event
-putEvent r (about k g) = some (stored k r)
-putEvent r (declined n i) = none
+abbrev pub put_event : Bytes → Reading → Option Event
+put_event r (about k g) = some (stored k r)
+put_event r (declined n i) = none
 
-abbrev pub removeEvent : Reading → Option Event
-removeEvent (about k g) = some (removed k)
-removeEvent (declined n i) = none
+abbrev pub remove_event : Reading → Option Event
+remove_event (about k g) = some (removed k)
+remove_event (declined n i) = none
 
-abbrev pub admitEvent : Reading → Option Event
-admitEvent (about k t) = some (admitted k t)
-admitEvent (declined n i) = none
+abbrev pub admit_event : Reading → Option Event
+admit_event (about k t) = some (admitted k t)
+admit_event (declined n i) = none
 
 abbrev pub onto : Option Event → List Event → List Event
 onto none es = es
@@ -117,10 +117,10 @@ abbrev pub noted : Option Event → Result → List Event → Moment
 noted e r es = record { bytes = r.bytes; events = cond (eqb r.no 0) (onto e es) es }
 
 unfoldable pub after_call : Call → Moment → Moment
-after_call (putting r) m = noted (putEvent r (reads r)) (putKey m.bytes r) m.events
-after_call (removing i) m = noted (removeEvent (asks i)) (removeKey m.bytes i) m.events
+after_call (putting r) m = noted (put_event r (reads r)) (put_key m.bytes r) m.events
+after_call (removing i) m = noted (remove_event (asks i)) (remove_key m.bytes i) m.events
 after_call (finding i) m = m
-after_call (admitting q) m = noted (admitEvent (requests q)) (admit m.bytes q) m.events
+after_call (admitting q) m = noted (admit_event (requests q)) (admit m.bytes q) m.events
 after_call checking m = m
 after_call counting m = m
 

@@ -8,8 +8,8 @@ use Rattle.text.specs.Text.{Bytes, same}
 pub data Names : Type 0 where
   named : Bytes → Bytes → Bytes → Names
 
-abbrev pub sameNames : Names → Names → Bool
-sameNames (named a b c) (named x y z) = same a x && (same b y && same c z)
+abbrev pub same_names : Names → Names → Bool
+same_names (named a b c) (named x y z) = same a x && (same b y && same c z)
 
 -- what an occupied place holds: the record's bytes, what is read from its Subject, and the last TVP accepted for its module
 pub record Held : Type 0 where
@@ -22,13 +22,13 @@ pub data Place : Type 0 where
   free : Place
   held : Held → Place
 
-abbrev pub isFree : Place → Bool
-isFree free = true
-isFree (held h) = false
+abbrev pub is_free : Place → Bool
+is_free free = true
+is_free (held h) = false
 
 abbrev pub holds : Names → Place → Bool
 holds k free = false
-holds k (held h) = sameNames k h.names
+holds k (held h) = same_names k h.names
 
 abbrev pub contents : Place → Option Held
 contents free = none
@@ -53,16 +53,16 @@ lowest t (p ∷ ps) = cond (t p) 0 (suc (lowest t ps))
 
 abbrev pub occupied : List Place → ℕ
 occupied [] = 0
-occupied (p ∷ ps) = cond (isFree p) 0 1 + occupied ps
+occupied (p ∷ ps) = cond (is_free p) 0 1 + occupied ps
 
-abbrev pub anyFree : List Place → Bool
-anyFree [] = false
-anyFree (p ∷ ps) = isFree p || anyFree ps
+abbrev pub any_free : List Place → Bool
+any_free [] = false
+any_free (p ∷ ps) = is_free p || any_free ps
 
 -- how many hold records of other names than these
 abbrev pub others : Names → List Place → ℕ
 others k [] = 0
-others k (p ∷ ps) = cond (isFree p || holds k p) 0 1 + others k ps
+others k (p ∷ ps) = cond (is_free p || holds k p) 0 1 + others k ps
 
 -- ---- no two records share the three names
 

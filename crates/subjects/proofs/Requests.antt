@@ -3,26 +3,26 @@
 use mathlib.Core.Path.{◌≡◌}
 use mathlib.Core.List.{List, [], ◌∷◌}
 use lib.Dec.{T, lit<}
-use Rattle.text.specs.Text.{Bytes, isTimestamp}
+use Rattle.text.specs.Text.{Bytes, is_timestamp}
 use Rattle.format.specs.Kinds.{Kind, SMID, REQ, fields_of}
-use Rattle.format.specs.Requests.{idSm, tvp}
+use Rattle.format.specs.Requests.{id_sm, tvp}
 use Rattle.format.specs.Build.{Fits, IsIdentity}
 use Rattle.format.specs.Read.{accepted, read_of}
 use Rattle.format.proofs.Table.{among_one}
 use Rattle.format.proofs.Fields.{fit_at}
-use Rattle.format.proofs.Exactly.{ask-complete, read-exact}
+use Rattle.format.proofs.Exactly.{ask_complete, read_exact}
 use Rattle.subjects.specs.Requests.{Request}
 
 pub request : (s : Bytes) (k : Kind) (fs : List Bytes) → read_of (REQ ∷ []) s ≡ accepted k fs → Request s
 unfolding Fits
 request s k fs e =
-    let one = among_one k REQ ((read-exact (REQ ∷ []) s k fs).0 e).of-kind in
+    let one = among_one k REQ ((read_exact (REQ ∷ []) s k fs).0 e).of-kind in
     let is : read_of (REQ ∷ []) s ≡ accepted REQ fs = rw one at e in
-    let b = (read-exact (REQ ∷ []) s REQ fs).0 is in
+    let b = (read_exact (REQ ∷ []) s REQ fs).0 is in
     let inner = fit_at IsIdentity (fields_of REQ) fs b.permitted.fit 0 (lit< tt) in
-    let asked = ask-complete SMID (idSm fs) (rw (among_one inner.0 SMID inner.1) at inner.2) in
+    let asked = ask_complete SMID (id_sm fs) (rw (among_one inner.0 SMID inner.1) at inner.2) in
     record { fields = fs; is = is; names = asked.0; known = asked.1 }
 
-pub request-tvp : {s : Bytes} (q : Request s) → T (isTimestamp (tvp q.fields))
+pub request_tvp : {s : Bytes} (q : Request s) → T (is_timestamp (tvp q.fields))
 unfolding Fits
-request-tvp {s} q = fit_at IsIdentity (fields_of REQ) q.fields ((read-exact (REQ ∷ []) s REQ q.fields).0 q.is).permitted.fit 2 (lit< tt)
+request_tvp {s} q = fit_at IsIdentity (fields_of REQ) q.fields ((read_exact (REQ ∷ []) s REQ q.fields).0 q.is).permitted.fit 2 (lit< tt)

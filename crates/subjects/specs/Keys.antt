@@ -2,8 +2,8 @@
 -- Assumes nothing.
 use Rattle.std.specs.Prelude.{◌≡◌, List, [], get_or}
 use Rattle.text.specs.Text.{Bytes}
-use Rattle.format.specs.Kinds.{Kind, pubkeyKinds}
-use Rattle.format.specs.Read.{accepted, readIdentity, readUnder}
+use Rattle.format.specs.Kinds.{Kind, pubkey_kinds}
+use Rattle.format.specs.Read.{accepted, read_identity, read_under}
 use Rattle.format.specs.declared.Rules.{Rules}
 use Rattle.format.specs.declared.Rules.TheVariants.{Today}
 use Rattle.subjects.specs.Subjects.{gnt}
@@ -16,14 +16,14 @@ subject fs = get_or fs 0 []
 pub record KeyUnder (rules : Rules) (s : Bytes) : Type 0 where
   pub kind : Kind
   pub fields : List Bytes
-  pub is : readUnder rules pubkeyKinds s ≡ accepted kind fields
+  pub is : read_under rules pubkey_kinds s ≡ accepted kind fields
   pub who : Kind
   pub names : List Bytes
-  pub known : readIdentity (subject fields) ≡ accepted who names
+  pub known : read_identity (subject fields) ≡ accepted who names
 
 -- today's rules do
 abbrev pub Key : Bytes → Type 0
 Key = KeyUnder Today
 
-abbrev pub gntOf : {rules : Rules} {s : Bytes} → KeyUnder rules s → Bytes
-gntOf k = gnt k.names
+abbrev pub gnt_of : {rules : Rules} {s : Bytes} → KeyUnder rules s → Bytes
+gnt_of k = gnt k.names

@@ -7,7 +7,7 @@ use Rattle.text.specs.Text.{Bytes, same}
 use Rattle.text.specs.Part.{Part}
 use Rattle.format.specs.Kinds.{Kind, name}
 use Rattle.format.specs.Read.{title, body}
-use Rattle.frame.specs.Frame.{part_of, partPlace}
+use Rattle.frame.specs.Frame.{part_of, part_place}
 
 -- ---- of an identity that is accepted, by its fields
 
@@ -27,14 +27,14 @@ alike j fs k gs = same (name j) (name k) && (same (manufacturer fs) (manufacture
 -- ---- of any bytes, by their places
 
 -- field n, from 1
-abbrev pub identityPart : Bytes → ℕ → Bytes
-identityPart s n = part_of (code ":") (body s) n
+abbrev pub identity_part : Bytes → ℕ → Bytes
+identity_part s n = part_of (code ":") (body s) n
 
 -- r is field n of s, where it stands
 abbrev pub IsIdentityPart : Bor Bytes → ℕ → Bor Bytes → Type 0
-IsIdentityPart s n r = Part s (partPlace (code ":") (body s.now) n) (identityPart s.now n) r
+IsIdentityPart s n r = Part s (part_place (code ":") (body s.now) n) (identity_part s.now n) r
 
 -- the two agree in what stands before the first mark, in field 1 and in field 2
-unfoldable pub areAlike : Bytes → Bytes → Bool
-areAlike s t =
-    same (title s) (title t) && (same (identityPart s 1) (identityPart t 1) && same (identityPart s 2) (identityPart t 2))
+unfoldable pub are_alike : Bytes → Bytes → Bool
+are_alike s t =
+    same (title s) (title t) && (same (identity_part s 1) (identity_part t 1) && same (identity_part s 2) (identity_part t 2))

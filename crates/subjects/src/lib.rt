@@ -3,7 +3,7 @@
 // take any bytes and have no `requires`.
 ghost use Rattle.std.specs.Prelude.{◌≡◌};
 ghost use Rattle.text.specs.Text.{same};
-ghost use Rattle.subjects.specs.Subjects.{identityPart, IsIdentityPart, areAlike};
+ghost use Rattle.subjects.specs.Subjects.{identity_part, IsIdentityPart, are_alike};
 
 // Field n, from 1, of an identity; an empty part at its front where there is none.
 pub fn field_in<'a>(identity: &'a [u8], n: usize) -> &'a [u8]
@@ -14,7 +14,7 @@ pub fn field_in<'a>(identity: &'a [u8], n: usize) -> &'a [u8]
 
 // The two identities have the same field n.
 fn do_agree(s: &[u8], t: &[u8], n: usize) -> bool
-    ensures { result ≡ same (identityPart s.now n) (identityPart t.now n) }
+    ensures { result ≡ same (identity_part s.now n) (identity_part t.now n) }
 {
     text::are_same(field_in(s, n), field_in(t, n))
 }
@@ -22,7 +22,7 @@ fn do_agree(s: &[u8], t: &[u8], n: usize) -> bool
 // The two identities agree in what stands before the first mark, in Manufacturer and in MID: of two accepted identities,
 // in kind, Manufacturer and MID.
 pub fn are_alike(s: &[u8], t: &[u8]) -> bool
-    ensures { result ≡ areAlike s.now t.now }
+    ensures { result ≡ are_alike s.now t.now }
 {
     if !text::are_same(frame::title_of(s), frame::title_of(t)) {
         return false;

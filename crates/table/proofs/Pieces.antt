@@ -15,22 +15,22 @@ module _ {ℓ} {A : Type ℓ} where
 
   -- l stands in all from place a to before place e
   pub record Piece (all l : List A) (a e : ℕ) : Type ℓ where
-    pub from-to : a ≤ e
+    pub from_to : a ≤ e
     pub to_end : e ≤ length all
     pub is : take (e - a) (drop a all) ≡ l
 
-  first-place : (i : ℕ) (ls : List (List A)) → get_or (places i ls) 0 0 ≡ i
-  first-place i [] = refl
-  first-place i (l ∷ ls) = refl
+  first_place : (i : ℕ) (ls : List (List A)) → get_or (places i ls) 0 0 ≡ i
+  first_place i [] = refl
+  first_place i (l ∷ ls) = refl
 
   after : (pre : List A) (ls : List (List A)) (k : ℕ) → k < length ls → Piece (pre ++ flatten ls) (get_or ls k []) (get_or (places (length pre) ls) k 0) (get_or (places (length pre) ls) (suc k) 0)
   unfolding flatten
   after pre [] k h = absurd (omega arith)
   after pre (l ∷ ls) zero h =
       let z : length pre + length l - length pre ≡ length l = omega arith in
-      rw (first-place (length pre + length l) ls)
+      rw (first_place (length pre + length l) ls)
       record {
-        from-to = omega arith;
+        from_to = omega arith;
         to_end = omega (arith, length-append pre (l ++ flatten ls), length-append l (flatten ls));
         is = rw (z, drop-append_seam, take-append_seam);
       }
@@ -40,11 +40,11 @@ module _ {ℓ} {A : Type ℓ} where
   piece ls k h = after [] ls k h
 
   module _ {all l : List A} {a e : ℕ} (p : Piece all l a e) where
-    pub piece-length : length l ≡ e - a
-    piece-length = omega (arith, ap length (sym p.is), length-take (e - a) (drop a all), length-drop a all, p.from-to, p.to_end)
+    pub piece_length : length l ≡ e - a
+    piece_length = omega (arith, ap length (sym p.is), length-take (e - a) (drop a all), length-drop a all, p.from_to, p.to_end)
 
-    pub piece-entry : (j : ℕ) (d : A) → j < length l → get_or all (a + j) d ≡ get_or l j d
-    piece-entry j d h =
+    pub piece_entry : (j : ℕ) (d : A) → j < length l → get_or all (a + j) d ≡ get_or l j d
+    piece_entry j d h =
         sym (get_or-drop a all j d)
-        ∙ sym (get_or-take (e - a) (drop a all) j d (omega (arith, piece-length)))
+        ∙ sym (get_or-take (e - a) (drop a all) j d (omega (arith, piece_length)))
         ∙ ap (λ (x : List A). get_or x j d) p.is

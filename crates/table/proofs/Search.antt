@@ -10,9 +10,9 @@ use native.Mathlib.Numerals.{add-one}
 use lib.ListN.{length, take, drop, drop_of_length-le, length-take}
 use lib.Seq.{drop-cons, drop-drop, get_or-take}
 use Rattle.text.specs.Text.{Bytes, same}
-use Rattle.format.specs.Kinds.{Kind, SMMAN, name, recordKinds, allKinds}
-use Rattle.format.specs.Read.{kindIn}
-use Rattle.table.specs.Table.{missingRow, rowCount, rowFor, ofRow, isKind, named, kindsFrom}
+use Rattle.format.specs.Kinds.{Kind, SMMAN, name, record_kinds, all_kinds}
+use Rattle.format.specs.Read.{kind_in}
+use Rattle.table.specs.Table.{missing_row, row_count, row_for, of_row, is_kind, named, kinds_from}
 use Rattle.table.proofs.Rows.{kind_at, row_at, in_row}
 
 -- f finds the first kind that passes p
@@ -20,48 +20,48 @@ pub record Search (p : Kind → Bool) (f : List Kind → Option Kind) : Type 0 w
   pub ends : f [] ≡ none
   pub step : (k : Kind) (ks : List Kind) → f (k ∷ ks) ≡ cond (p k) (some k) (f ks)
 
-pub kind-search : (t : Bytes) (m : ℕ) → Search (isKind t m) (λ ks. kindIn ks t m)
-kind-search t m = record { ends = refl; step = λ k ks. refl }
+pub kind_search : (t : Bytes) (m : ℕ) → Search (is_kind t m) (λ ks. kind_in ks t m)
+kind_search t m = record { ends = refl; step = λ k ks. refl }
 
-pub name-search : (t : Bytes) → Search (λ k. same t (name k)) (λ ks. named ks t)
-name-search t = record { ends = refl; step = λ k ks. refl }
+pub name_search : (t : Bytes) → Search (λ k. same t (name k)) (λ ks. named ks t)
+name_search t = record { ends = refl; step = λ k ks. refl }
 
 module _ (p : Kind → Bool) (f : List Kind → Option Kind) (w : Search p f) (to row : ℕ) where
   abbrev rows : List Kind
-  rows = take to allKinds
+  rows = take to all_kinds
 
-  look : row < rowCount → row < to → f (drop row rows) ≡ cond (ofRow p false row) (some (kind_at row)) (f (drop (row + 1) rows))
+  look : row < row_count → row < to → f (drop row rows) ≡ cond (of_row p false row) (some (kind_at row)) (f (drop (row + 1) rows))
   look h l =
-      rw (drop-cons rows row SMMAN (omega (arith, length-take to allKinds)), get_or-take to allKinds row SMMAN l, add-one, in_row p false row h)
+      rw (drop-cons rows row SMMAN (omega (arith, length-take to all_kinds)), get_or-take to all_kinds row SMMAN l, add-one, in_row p false row h)
       (w.step (kind_at row) _)
 
-  pub search-hit : row < rowCount → row < to → ofRow p false row ≡ true → row ≡ rowFor (f (drop row rows))
-  search-hit h l e = sym (ap rowFor (rw e at (look h l)) ∙ row_at row h)
+  pub search_hit : row < row_count → row < to → of_row p false row ≡ true → row ≡ row_for (f (drop row rows))
+  search_hit h l e = sym (ap row_for (rw e at (look h l)) ∙ row_at row h)
 
-  pub search-on : row < rowCount → row < to → ofRow p false row ≡ false → f (drop (row + 1) rows) ≡ f (drop row rows)
-  search-on h l e = sym (rw e at (look h l))
+  pub search_on : row < row_count → row < to → of_row p false row ≡ false → f (drop (row + 1) rows) ≡ f (drop row rows)
+  search_on h l e = sym (rw e at (look h l))
 
-  none_left : length rows ≤ row → missingRow ≡ rowFor (f (drop row rows))
-  none_left h = sym (ap rowFor (ap f (drop_of_length-le rows {i = row} h) ∙ w.ends))
+  none_left : length rows ≤ row → missing_row ≡ row_for (f (drop row rows))
+  none_left h = sym (ap row_for (ap f (drop_of_length-le rows {i = row} h) ∙ w.ends))
 
-  pub search-end : to ≤ row → missingRow ≡ rowFor (f (drop row rows))
-  search-end h = none_left (omega (arith, length-take to allKinds))
+  pub search_end : to ≤ row → missing_row ≡ row_for (f (drop row rows))
+  search_end h = none_left (omega (arith, length-take to all_kinds))
 
-  pub search-past : rowCount ≤ row → missingRow ≡ rowFor (f (drop row rows))
-  search-past h = none_left (omega (arith, length-take to allKinds))
+  pub search_past : row_count ≤ row → missing_row ≡ row_for (f (drop row rows))
+  search_past h = none_left (omega (arith, length-take to all_kinds))
 
 -- ---- the record kinds in a range of rows: the first is row 3
 
-from-three : (to : ℕ) → drop 3 (take to allKinds) ≡ take (to - 3) recordKinds
-from-three zero = refl
-from-three (suc zero) = refl
-from-three (suc (suc zero)) = refl
-from-three (suc (suc (suc to))) = ap (λ (n : ℕ). take n recordKinds) (sym (let e : suc (suc (suc to)) - 3 ≡ to = omega arith in e))
+from_three : (to : ℕ) → drop 3 (take to all_kinds) ≡ take (to - 3) record_kinds
+from_three zero = refl
+from_three (suc zero) = refl
+from_three (suc (suc zero)) = refl
+from_three (suc (suc (suc to))) = ap (λ (n : ℕ). take n record_kinds) (sym (let e : suc (suc (suc to)) - 3 ≡ to = omega arith in e))
 
-pub range-above : (from to : ℕ) → 3 ≤ from → drop from (take to allKinds) ≡ kindsFrom from to
-range-above from to h =
+pub range_above : (from to : ℕ) → 3 ≤ from → drop from (take to all_kinds) ≡ kinds_from from to
+range_above from to h =
     let e : 3 + (from - 3) ≡ from = omega arith in
-    ap (λ (n : ℕ). drop n (take to allKinds)) (sym e) ∙ sym (drop-drop (from - 3) 3 (take to allKinds)) ∙ ap (drop (from - 3)) (from-three to)
+    ap (λ (n : ℕ). drop n (take to all_kinds)) (sym e) ∙ sym (drop-drop (from - 3) 3 (take to all_kinds)) ∙ ap (drop (from - 3)) (from_three to)
 
-pub range-below : (from to : ℕ) → from < 3 → drop 3 (take to allKinds) ≡ kindsFrom from to
-range-below from to h = let e : from - 3 ≡ 0 = omega arith in rw e (from-three to)
+pub range_below : (from to : ℕ) → from < 3 → drop 3 (take to all_kinds) ≡ kinds_from from to
+range_below from to h = let e : from - 3 ≡ 0 = omega arith in rw e (from_three to)

@@ -4,7 +4,7 @@
 use Rattle.std.specs.Prelude.{ℕ, ◌-◌, ◌<◌, ◌≡◌, Bool, true, false, cond, ◌&&◌, ◌||◌, List, [], ◌∷◌, map, length, take, drop, get_or, eqb}
 use Rattle.std.proofs.Math.Option.{Option, none, some}
 use Rattle.text.specs.Text.{Bytes, same, Ident, Timestamp, Point, Sig, Mac, Print, Protected, Hex}
-use Rattle.format.specs.Kinds.{Kind, SMMAN, SMID, KMCID, ECDSA, ECDH, REQ, RESP, KEY, Field, Text, Printable, Identity, OrEmpty, name, mark, fields_of, recordKinds, pubkeyKinds, allKinds, among}
+use Rattle.format.specs.Kinds.{Kind, SMMAN, SMID, KMCID, ECDSA, ECDH, REQ, RESP, KEY, Field, Text, Printable, Identity, OrEmpty, name, mark, fields_of, record_kinds, pubkey_kinds, all_kinds, among}
 
 -- ---- rows
 
@@ -18,54 +18,54 @@ row_of REQ = 5
 row_of RESP = 6
 row_of KEY = 7
 
-abbrev pub rowCount : ℕ
-rowCount = length allKinds
+abbrev pub row_count : ℕ
+row_count = length all_kinds
 
 -- where there is no kind: a number that no row will ever take
-abbrev pub missingRow : ℕ
-missingRow = 255
+abbrev pub missing_row : ℕ
+missing_row = 255
 
 -- the row of the kind that was found
-abbrev pub rowFor : Option Kind → ℕ
-rowFor none = missingRow
-rowFor (some k) = row_of k
+abbrev pub row_for : Option Kind → ℕ
+row_for none = missing_row
+row_for (some k) = row_of k
 
 -- what f says of the kind of a row, and z for a row that is not there
-unfoldable pub ofRow {ℓ} : {A : Type ℓ} → (Kind → A) → A → ℕ → A
-ofRow f z row = get_or (map f allKinds) row z
+unfoldable pub of_row {ℓ} : {A : Type ℓ} → (Kind → A) → A → ℕ → A
+of_row f z row = get_or (map f all_kinds) row z
 
 abbrev pub kind_of : ℕ → Option Kind
-kind_of row = ofRow some none row
+kind_of row = of_row some none row
 
 abbrev pub mark_of : ℕ → ℕ
-mark_of row = ofRow mark 0 row
+mark_of row = of_row mark 0 row
 
 abbrev pub fields_at : ℕ → List Field
-fields_at row = ofRow fields_of [] row
+fields_at row = of_row fields_of [] row
 
 abbrev pub count_of : ℕ → ℕ
-count_of row = ofRow (λ k. length (fields_of k)) 0 row
+count_of row = of_row (λ k. length (fields_of k)) 0 row
 
-abbrev pub isPubkey : ℕ → Bool
-isPubkey row = ofRow (λ k. among k pubkeyKinds) false row
+abbrev pub is_pubkey : ℕ → Bool
+is_pubkey row = of_row (λ k. among k pubkey_kinds) false row
 
 -- ---- kinds by name, and by a range of rows
 
-abbrev pub isKind : Bytes → ℕ → Kind → Bool
-isKind t m k = same t (name k) && eqb m (mark k)
+abbrev pub is_kind : Bytes → ℕ → Kind → Bool
+is_kind t m k = same t (name k) && eqb m (mark k)
 
 abbrev pub named : List Kind → Bytes → Option Kind
 named [] t = none
 named (k ∷ ks) t = cond (same t (name k)) (some k) (named ks t)
 
 -- the record kinds from row `from` to before row `to`
-abbrev pub kindsFrom : ℕ → ℕ → List Kind
-kindsFrom from to = drop (from - row_of ECDSA) (take (to - row_of ECDSA) recordKinds)
+abbrev pub kinds_from : ℕ → ℕ → List Kind
+kinds_from from to = drop (from - row_of ECDSA) (take (to - row_of ECDSA) record_kinds)
 
 -- ---- field types by their codes
 
-abbrev pub fieldTypes : List Field
-fieldTypes =
+abbrev pub field_types : List Field
+field_types =
     Text Ident
     ∷ Text Timestamp
     ∷ Text Print
@@ -83,28 +83,28 @@ fieldTypes =
     ∷ []
 
 -- the type of a code; IDENT for a number that is no code
-unfoldable pub fieldType : ℕ → Field
-fieldType code = get_or fieldTypes code (Text Ident)
+unfoldable pub field_type : ℕ → Field
+field_type code = get_or field_types code (Text Ident)
 
 -- the code of the type of field j, from 0, of a row; that of IDENT where there is no such field
 pub record TypeOf (row j code : ℕ) : Type 0 where
-  pub means : fieldType code ≡ get_or (fields_at row) j (Text Ident)
-  pub listed : code < length fieldTypes
+  pub means : field_type code ≡ get_or (fields_at row) j (Text Ident)
+  pub listed : code < length field_types
 
 -- ---- what a field type says
 
 -- it is an identity, or may be one
-abbrev pub isIdentity : Field → Bool
-isIdentity (Text t) = false
-isIdentity Printable = false
-isIdentity (Identity ks) = true
-isIdentity (OrEmpty t) = isIdentity t
+abbrev pub is_identity : Field → Bool
+is_identity (Text t) = false
+is_identity Printable = false
+is_identity (Identity ks) = true
+is_identity (OrEmpty t) = is_identity t
 
-abbrev pub mayBeEmpty : Field → Bool
-mayBeEmpty (Text t) = false
-mayBeEmpty Printable = false
-mayBeEmpty (Identity ks) = false
-mayBeEmpty (OrEmpty t) = true
+abbrev pub may_be_empty : Field → Bool
+may_be_empty (Text t) = false
+may_be_empty Printable = false
+may_be_empty (Identity ks) = false
+may_be_empty (OrEmpty t) = true
 
 -- the kinds of identity that it permits
 abbrev pub permitted : Field → List Kind
@@ -114,6 +114,6 @@ permitted (Identity ks) = ks
 permitted (OrEmpty t) = permitted t
 
 -- one of ks stands in this row
-abbrev pub rowAmong : ℕ → List Kind → Bool
-rowAmong row [] = false
-rowAmong row (k ∷ ks) = eqb row (row_of k) || rowAmong row ks
+abbrev pub row_among : ℕ → List Kind → Bool
+row_among row [] = false
+row_among row (k ∷ ks) = eqb row (row_of k) || row_among row ks

@@ -3,9 +3,9 @@
 // a row, a field or a code that is not there.
 ghost use Rattle.std.specs.Prelude.{◌≡◌, false, ◌||◌, ◌<◌, take, drop, eqb};
 ghost use Rattle.text.specs.Text.{same};
-ghost use Rattle.format.specs.Kinds.{name, identityKinds, allKinds};
-ghost use Rattle.format.specs.Read.{kindIn};
-ghost use Rattle.table.specs.Table.{rowCount, rowFor, ofRow, mark_of, count_of, isPubkey, isKind, named, kindsFrom, fieldType, TypeOf, isIdentity, mayBeEmpty, permitted, rowAmong};
+ghost use Rattle.format.specs.Kinds.{name, identity_kinds, all_kinds};
+ghost use Rattle.format.specs.Read.{kind_in};
+ghost use Rattle.table.specs.Table.{row_count, row_for, of_row, mark_of, count_of, is_pubkey, is_kind, named, kinds_from, field_type, TypeOf, is_identity, may_be_empty, permitted, row_among};
 
 // ---- the rows
 
@@ -194,7 +194,7 @@ pub fn type_of(row: usize, j: usize) -> u8
 
 // The row is a public key's, whose Issuer and Signature go together; false for a row that is not there.
 pub fn is_pubkey(row: usize) -> bool
-    ensures { result ≡ isPubkey row }
+    ensures { result ≡ is_pubkey row }
 {
     if row == ECDSA {
         return true;
@@ -205,8 +205,8 @@ pub fn is_pubkey(row: usize) -> bool
 // ---- the row that has a name
 
 fn is_named(row: usize, title: &[u8]) -> bool
-    requires { row < rowCount }
-    ensures { result ≡ ofRow (λ k. same title.now (name k)) false row }
+    requires { row < row_count }
+    ensures { result ≡ of_row (λ k. same title.now (name k)) false row }
 {
     let start = STARTS[row] as usize;
     let end = STARTS[row + 1] as usize;
@@ -215,7 +215,7 @@ fn is_named(row: usize, title: &[u8]) -> bool
 
 // The row has this name; false for a row that is not there.
 pub fn is_called(row: usize, title: &[u8]) -> bool
-    ensures { result ≡ ofRow (λ k. same title.now (name k)) false row }
+    ensures { result ≡ of_row (λ k. same title.now (name k)) false row }
 {
     if row < ROWS {
         return is_named(row, title);
@@ -224,8 +224,8 @@ pub fn is_called(row: usize, title: &[u8]) -> bool
 }
 
 fn is_kind(row: usize, title: &[u8], mark: u8) -> bool
-    requires { row < rowCount }
-    ensures { result ≡ ofRow (isKind title.now mark) false row }
+    requires { row < row_count }
+    ensures { result ≡ of_row (is_kind title.now mark) false row }
 {
     if !is_named(row, title) {
         return false;
@@ -235,7 +235,7 @@ fn is_kind(row: usize, title: &[u8], mark: u8) -> bool
 
 // The row from `from` to before `to` that has this name and this mark, or NONE.
 fn row_in(title: &[u8], mark: u8, from: usize, to: usize) -> usize
-    ensures { result ≡ rowFor (kindIn (drop from (take to allKinds)) title.now mark) }
+    ensures { result ≡ row_for (kind_in (drop from (take to all_kinds)) title.now mark) }
 {
     let mut row = from;
     while row < ROWS {
@@ -252,14 +252,14 @@ fn row_in(title: &[u8], mark: u8, from: usize, to: usize) -> usize
 
 // The row of an identity kind, or NONE.
 pub fn identity_kind(title: &[u8], mark: u8) -> usize
-    ensures { result ≡ rowFor (kindIn identityKinds title.now mark) }
+    ensures { result ≡ row_for (kind_in identity_kinds title.now mark) }
 {
     row_in(title, mark, SMMAN, ECDSA)
 }
 
 // The row of a record kind from `from` to before `to`, or NONE.
 pub fn record_kind(title: &[u8], mark: u8, from: usize, to: usize) -> usize
-    ensures { result ≡ rowFor (kindIn (kindsFrom from to) title.now mark) }
+    ensures { result ≡ row_for (kind_in (kinds_from from to) title.now mark) }
 {
     if from < ECDSA {
         return row_in(title, mark, ECDSA, to);
@@ -269,7 +269,7 @@ pub fn record_kind(title: &[u8], mark: u8, from: usize, to: usize) -> usize
 
 // The row of a kind by its name alone, or NONE.
 pub fn kind_named(title: &[u8]) -> usize
-    ensures { result ≡ rowFor (named allKinds title.now) }
+    ensures { result ≡ row_for (named all_kinds title.now) }
 {
     let mut row: usize = 0;
     while row < ROWS {
@@ -285,7 +285,7 @@ pub fn kind_named(title: &[u8]) -> usize
 
 // An identity, or nothing in its place; false for a number that is no code.
 pub fn is_identity(code: u8) -> bool
-    ensures { result ≡ isIdentity (fieldType code) }
+    ensures { result ≡ is_identity (field_type code) }
 {
     if code < ID_SMMAN {
         return false;
@@ -305,7 +305,7 @@ fn is_either(code: u8, a: u8, b: u8) -> bool
 
 // False for a number that is no code.
 pub fn may_be_empty(code: u8) -> bool
-    ensures { result ≡ mayBeEmpty (fieldType code) }
+    ensures { result ≡ may_be_empty (field_type code) }
 {
     is_either(code, SIG_OR_EMPTY, ID_SMMAN_OR_EMPTY)
 }
@@ -313,7 +313,7 @@ pub fn may_be_empty(code: u8) -> bool
 // The field type permits identities of the kind of this row; false for a number that is no code or no row. By the row first, because LLVM
 // makes a table of jumps of the five codes.
 pub fn does_permit(code: u8, row: usize) -> bool
-    ensures { result ≡ rowAmong row (permitted (fieldType code)) }
+    ensures { result ≡ row_among row (permitted (field_type code)) }
 {
     if row == SMMAN {
         return is_either(code, ID_SMMAN, ID_SMMAN_OR_EMPTY);

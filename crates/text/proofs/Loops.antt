@@ -10,7 +10,7 @@ use lib.ListN.{length, take, drop, get_or, drop_of_length-le, length-drop}
 use lib.Seq.{drop-cons, take_all}
 use lib.Dec.{T, eqb}
 use mir.Facts.{and_yes}
-use Rattle.text.specs.Text.{Bytes, every, same, fits, looks, number, numberFrom, part, year}
+use Rattle.text.specs.Text.{Bytes, every, same, fits, looks, number, number_from, part, year}
 
 -- the part from i to the end, as code takes it
 pub rest_all : (s : Bytes) (i : ℕ) → take (length s - i) (drop i s) ≡ drop i s
@@ -20,11 +20,11 @@ rest_all s i = take_all (length s - i) (drop i s) (omega (arith, length-drop i s
 
 -- `all` says what holds of the bytes before place i, and what is left decides
 module _ (p : ℕ → Bool) (s : Bytes) (i : ℕ) (all : Bool) (so : (all && every p (drop i s)) ≡ every p s) where
-  pub every-on : i < length s → ((all && p (get_or s i 0)) && every p (drop (i + 1) s)) ≡ every p s
-  every-on h = and_assoc all (p (get_or s i 0)) (every p (drop (i + 1) s)) ∙ ap (λ (b : Bool). all && b) (rw (drop-cons s i 0 h, add-one)) ∙ so
+  pub every_on : i < length s → ((all && p (get_or s i 0)) && every p (drop (i + 1) s)) ≡ every p s
+  every_on h = and_assoc all (p (get_or s i 0)) (every p (drop (i + 1) s)) ∙ ap (λ (b : Bool). all && b) (rw (drop-cons s i 0 h, add-one)) ∙ so
 
-  pub every-end : length s ≤ i → all ≡ every p s
-  every-end h = sym (and-true all) ∙ (rw (drop_of_length-le s h) at so)
+  pub every_end : length s ≤ i → all ≡ every p s
+  every_end h = sym (and-true all) ∙ (rw (drop_of_length-le s h) at so)
 
 -- ---- two lists, byte against byte: `same` and `looks` are such tests
 
@@ -35,12 +35,12 @@ pub record Pairwise (p : ℕ → ℕ → Bool) (f : Bytes → Bytes → Bool) : 
   pub long : (c : ℕ) (s : Bytes) → f (c ∷ s) [] ≡ false
   pub both : (c d : ℕ) (s t : Bytes) → f (c ∷ s) (d ∷ t) ≡ (p c d && f s t)
 
-pub same-pairwise : Pairwise eqb same
-same-pairwise = record { ends = refl; short = λ d t. refl; long = λ c s. refl; both = λ c d s t. refl }
+pub same_pairwise : Pairwise eqb same
+same_pairwise = record { ends = refl; short = λ d t. refl; long = λ c s. refl; both = λ c d s t. refl }
 
-pub looks-pairwise : Pairwise fits looks
+pub looks_pairwise : Pairwise fits looks
 unfolding looks
-looks-pairwise = record { ends = refl; short = λ d t. refl; long = λ c s. refl; both = λ c d s t. refl }
+looks_pairwise = record { ends = refl; short = λ d t. refl; long = λ c s. refl; both = λ c d s t. refl }
 
 module _ (p : ℕ → ℕ → Bool) (f : Bytes → Bytes → Bool) (w : Pairwise p f) where
   pub apart : (a b : Bytes) → (length a ≡ length b → ⊥) → f a b ≡ false
@@ -49,43 +49,43 @@ module _ (p : ℕ → ℕ → Bool) (f : Bytes → Bytes → Bool) (w : Pairwise
   apart (x ∷ a) [] h = w.long x a
   apart (x ∷ a) (y ∷ b) h = w.both x y a b ∙ rw (apart a b (λ (e : length a ≡ length b). h (rw e))) (and-false (p x y))
 
-  pub pairwise-length : (a b : Bytes) → T (f a b) → length a ≡ length b
-  pairwise-length [] [] t = refl
-  pairwise-length [] (y ∷ b) t = absurd (rw (w.short y b) at t)
-  pairwise-length (x ∷ a) [] t = absurd (rw (w.long x a) at t)
-  pairwise-length (x ∷ a) (y ∷ b) t = ap suc (pairwise-length a b (and_yes (p x y) (f a b) (rw (w.both x y a b) at t)).1)
+  pub pairwise_length : (a b : Bytes) → T (f a b) → length a ≡ length b
+  pairwise_length [] [] t = refl
+  pairwise_length [] (y ∷ b) t = absurd (rw (w.short y b) at t)
+  pairwise_length (x ∷ a) [] t = absurd (rw (w.long x a) at t)
+  pairwise_length (x ∷ a) (y ∷ b) t = ap suc (pairwise_length a b (and_yes (p x y) (f a b) (rw (w.both x y a b) at t)).1)
 
   module _ (a b : Bytes) (i : ℕ) where
     step : i < length a → i < length b → f (drop i a) (drop i b) ≡ (p (get_or a i 0) (get_or b i 0) && f (drop (suc i) a) (drop (suc i) b))
     step ha hb = rw (drop-cons a i 0 ha, drop-cons b i 0 hb) (w.both (get_or a i 0) (get_or b i 0) (drop (suc i) a) (drop (suc i) b))
 
-    pub pairwise-stop : i < length a → i < length b → p (get_or a i 0) (get_or b i 0) ≡ false → f (drop i a) (drop i b) ≡ false
-    pairwise-stop ha hb e = step ha hb ∙ rw e
+    pub pairwise_stop : i < length a → i < length b → p (get_or a i 0) (get_or b i 0) ≡ false → f (drop i a) (drop i b) ≡ false
+    pairwise_stop ha hb e = step ha hb ∙ rw e
 
-    pub pairwise-on : i < length a → i < length b → p (get_or a i 0) (get_or b i 0) ≡ true → f (drop (i + 1) a) (drop (i + 1) b) ≡ f (drop i a) (drop i b)
-    pairwise-on ha hb e = sym (step ha hb ∙ rw (e, add-one))
+    pub pairwise_on : i < length a → i < length b → p (get_or a i 0) (get_or b i 0) ≡ true → f (drop (i + 1) a) (drop (i + 1) b) ≡ f (drop i a) (drop i b)
+    pairwise_on ha hb e = sym (step ha hb ∙ rw (e, add-one))
 
-    pub pairwise-end : length a ≤ i → length b ≤ i → f (drop i a) (drop i b) ≡ true
-    pairwise-end ha hb = rw (drop_of_length-le a ha, drop_of_length-le b hb) w.ends
+    pub pairwise_end : length a ≤ i → length b ≤ i → f (drop i a) (drop i b) ≡ true
+    pairwise_end ha hb = rw (drop_of_length-le a ha, drop_of_length-le b hb) w.ends
 
 -- ---- digits
 
-pub number-two : (s : Bytes) (i : ℕ) → i + 2 ≤ length s → number (part i 2 s) ≡ 10 * (get_or s i 0 - 48) + (get_or s (i + 1) 0 - 48)
-unfolding numberFrom
-number-two s i h = rw (drop-cons s i 0 (omega arith), drop-cons s (suc i) 0 (omega arith), add-one) (omega arith)
+pub number_two : (s : Bytes) (i : ℕ) → i + 2 ≤ length s → number (part i 2 s) ≡ 10 * (get_or s i 0 - 48) + (get_or s (i + 1) 0 - 48)
+unfolding number_from
+number_two s i h = rw (drop-cons s i 0 (omega arith), drop-cons s (suc i) 0 (omega arith), add-one) (omega arith)
 
-pub year-twice : (s : Bytes) → 4 ≤ length s → year s ≡ 100 * number (part 0 2 s) + number (part 2 2 s)
-unfolding numberFrom
-year-twice [] h = absurd (omega arith)
-year-twice (a ∷ []) h = absurd (omega arith)
-year-twice (a ∷ b ∷ []) h = absurd (omega arith)
-year-twice (a ∷ b ∷ c ∷ []) h = absurd (omega arith)
-year-twice (a ∷ b ∷ c ∷ d ∷ s) h = omega arith
+pub year_twice : (s : Bytes) → 4 ≤ length s → year s ≡ 100 * number (part 0 2 s) + number (part 2 2 s)
+unfolding number_from
+year_twice [] h = absurd (omega arith)
+year_twice (a ∷ []) h = absurd (omega arith)
+year_twice (a ∷ b ∷ []) h = absurd (omega arith)
+year_twice (a ∷ b ∷ c ∷ []) h = absurd (omega arith)
+year_twice (a ∷ b ∷ c ∷ d ∷ s) h = omega arith
 
-pub number-three : (s : Bytes) → length s ≡ 3 → number s ≡ 10 * number (part 0 2 s) + (get_or s 2 0 - 48)
-unfolding numberFrom
-number-three [] h = absurd (omega arith)
-number-three (a ∷ []) h = absurd (omega arith)
-number-three (a ∷ b ∷ []) h = absurd (omega arith)
-number-three (a ∷ b ∷ c ∷ []) h = omega arith
-number-three (a ∷ b ∷ c ∷ d ∷ s) h = absurd (omega arith)
+pub number_three : (s : Bytes) → length s ≡ 3 → number s ≡ 10 * number (part 0 2 s) + (get_or s 2 0 - 48)
+unfolding number_from
+number_three [] h = absurd (omega arith)
+number_three (a ∷ []) h = absurd (omega arith)
+number_three (a ∷ b ∷ []) h = absurd (omega arith)
+number_three (a ∷ b ∷ c ∷ []) h = omega arith
+number_three (a ∷ b ∷ c ∷ d ∷ s) h = absurd (omega arith)

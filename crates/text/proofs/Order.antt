@@ -8,10 +8,10 @@ use mathlib.Core.List.{List, [], ◌∷◌}
 use native.Mathlib.Omega.{arith}
 use borrow.Author.Tests.{lt-ltb, le-ltb, eq-eqb, ne_eqb}
 use Rattle.text.specs.Text.{after}
-use Rattle.text.proofs.Tests.{less-or}
+use Rattle.text.proofs.Tests.{less_or}
 
 pub by_order {ℓ} : {X : Type ℓ} (x y : ℕ) → (x < y → X) → (x ≡ y → X) → (y < x → X) → X
-by_order x y f g h = less-or x y f (λ l. less-or y x h (λ k. g (omega arith)))
+by_order x y f g h = less_or x y f (λ l. less_or y x h (λ k. g (omega arith)))
 
 -- ---- the first part
 
@@ -27,26 +27,26 @@ module _ (x y : ℕ) (xs ys : List ℕ) where
 
 -- ---- the order
 
-pub after-itself : (xs : List ℕ) → after xs xs ≡ false
-after-itself [] = refl
-after-itself (x ∷ xs) = after_equal x x xs xs refl ∙ after-itself xs
+pub after_itself : (xs : List ℕ) → after xs xs ≡ false
+after_itself [] = refl
+after_itself (x ∷ xs) = after_equal x x xs xs refl ∙ after_itself xs
 
-pub after-one-way : (xs ys : List ℕ) → after xs ys ≡ true → after ys xs ≡ false
-after-one-way [] ys h = absurd (false≢true h)
-after-one-way (x ∷ xs) [] h = refl
-after-one-way (x ∷ xs) (y ∷ ys) h =
+pub after_one_way : (xs ys : List ℕ) → after xs ys ≡ true → after ys xs ≡ false
+after_one_way [] ys h = absurd (false≢true h)
+after_one_way (x ∷ xs) [] h = refl
+after_one_way (x ∷ xs) (y ∷ ys) h =
     by_order x y
     (λ l. absurd (true≢false (sym h ∙ after_less x y xs ys l)))
-    (λ e. after_equal y x ys xs (sym e) ∙ after-one-way xs ys (sym (after_equal x y xs ys e) ∙ h))
+    (λ e. after_equal y x ys xs (sym e) ∙ after_one_way xs ys (sym (after_equal x y xs ys e) ∙ h))
     (after_less y x ys xs)
 
-pub after-neither : (xs ys : List ℕ) → after xs ys ≡ false → after ys xs ≡ false → xs ≡ ys
-after-neither [] [] h k = refl
-after-neither [] (y ∷ ys) h k = absurd (true≢false k)
-after-neither (x ∷ xs) [] h k = absurd (true≢false h)
-after-neither (x ∷ xs) (y ∷ ys) h k =
+pub after_neither : (xs ys : List ℕ) → after xs ys ≡ false → after ys xs ≡ false → xs ≡ ys
+after_neither [] [] h k = refl
+after_neither [] (y ∷ ys) h k = absurd (true≢false k)
+after_neither (x ∷ xs) [] h k = absurd (true≢false h)
+after_neither (x ∷ xs) (y ∷ ys) h k =
     by_order x y
     (λ l. absurd (true≢false (sym (after_more y x ys xs l) ∙ k)))
     (λ e. ap₂ {C = List ℕ} (λ z zs. z ∷ zs) e
-    (after-neither xs ys (sym (after_equal x y xs ys e) ∙ h) (sym (after_equal y x ys xs (sym e)) ∙ k)))
+    (after_neither xs ys (sym (after_equal x y xs ys e) ∙ h) (sym (after_equal y x ys xs (sym e)) ∙ k)))
     (λ l. absurd (true≢false (sym (after_more x y xs ys l) ∙ h)))

@@ -7,5 +7,5 @@ use Rattle.text.specs.Text.{Bytes}
 use Rattle.text.specs.Part.{Part}
 
 -- it starts at b where it starts at a, and holds y where it holds x
-pub same-part : {s r : Bor Bytes} {a b : ℕ} {x y : Bytes} → a ≡ b → x ≡ y → Part s a x r → Part s b y r
-same-part e f p = rw (← e, ← f) p
+pub same_part : {s r : Bor Bytes} {a b : ℕ} {x y : Bytes} → a ≡ b → x ≡ y → Part s a x r → Part s b y r
+same_part e f p = rw (← e, ← f) p

@@ -12,24 +12,24 @@ use lib.Dec.{T, not_T, leb, ltb, eqb, leb→le, ltb→lt, nltb→le, eqb→eq, e
 use mir.Facts.{and_yes, yes_and, or_yes}
 use Rattle.text.specs.Text.{Bytes, every, all_of, same, between, one_of}
 
-pub or-stop : (a b : Bool) → a ≡ true → (a || b) ≡ true
-or-stop a b e = rw e
+pub or_stop : (a b : Bool) → a ≡ true → (a || b) ≡ true
+or_stop a b e = rw e
 
-pub or-on : (a b : Bool) → a ≡ false → (a || b) ≡ b
-or-on a b e = rw e
+pub or_on : (a b : Bool) → a ≡ false → (a || b) ≡ b
+or_on a b e = rw e
 
-pub and-stop : (a b : Bool) → a ≡ false → (a && b) ≡ false
-and-stop a b e = rw e
+pub and_stop : (a b : Bool) → a ≡ false → (a && b) ≡ false
+and_stop a b e = rw e
 
-pub and-on : (a b : Bool) → a ≡ true → (a && b) ≡ b
-and-on a b e = rw e
+pub and_on : (a b : Bool) → a ≡ true → (a && b) ≡ b
+and_on a b e = rw e
 
 pub T_true : (b : Bool) → T b → b ≡ true
 T_true true t = refl
 T_true false t = absurd t
 
-pub true-T : (b : Bool) → b ≡ true → T b
-true-T b e = rw e tt
+pub true_T : (b : Bool) → b ≡ true → T b
+true_T b e = rw e tt
 
 pub T_false : (b : Bool) → T (not b) → b ≡ false
 T_false true t = absurd t
@@ -51,24 +51,24 @@ pub cond_no {ℓ} : {X : Type ℓ} (b : Bool) (x y : X) → T (not b) → cond b
 cond_no true x y t = absurd t
 cond_no false x y t = refl
 
-pub by-test {ℓ} : {X : Type ℓ} (b : Bool) → (T b → X) → (T (not b) → X) → X
-by-test true f g = f tt
-by-test false f g = g tt
+pub by_test {ℓ} : {X : Type ℓ} (b : Bool) → (T b → X) → (T (not b) → X) → X
+by_test true f g = f tt
+by_test false f g = g tt
 
-pub less-or {ℓ} : {X : Type ℓ} (a b : ℕ) → (a < b → X) → (b ≤ a → X) → X
-less-or a b f g = by-test (ltb a b) (λ h. f (ltb→lt a b h)) (λ h. g (nltb→le a b h))
+pub less_or {ℓ} : {X : Type ℓ} (a b : ℕ) → (a < b → X) → (b ≤ a → X) → X
+less_or a b f g = by_test (ltb a b) (λ h. f (ltb→lt a b h)) (λ h. g (nltb→le a b h))
 
-pub between-low : (low high n : ℕ) → T (between low high n) → low ≤ n
-between-low low high n t = leb→le low n (and_yes (leb low n) (leb n high) t).0
+pub between_low : (low high n : ℕ) → T (between low high n) → low ≤ n
+between_low low high n t = leb→le low n (and_yes (leb low n) (leb n high) t).0
 
-pub between-high : (low high n : ℕ) → T (between low high n) → n ≤ high
-between-high low high n t = leb→le n high (and_yes (leb low n) (leb n high) t).1
+pub between_high : (low high n : ℕ) → T (between low high n) → n ≤ high
+between_high low high n t = leb→le n high (and_yes (leb low n) (leb n high) t).1
 
-pub every-mono : (p q : ℕ → Bool) → ((c : ℕ) → T (p c) → T (q c)) → (s : Bytes) → T (every p s) → T (every q s)
-every-mono p q f [] h = tt
-every-mono p q f (c ∷ s) h =
+pub every_mono : (p q : ℕ → Bool) → ((c : ℕ) → T (p c) → T (q c)) → (s : Bytes) → T (every p s) → T (every q s)
+every_mono p q f [] h = tt
+every_mono p q f (c ∷ s) h =
     let h' = and_yes (p c) (every p s) h in
-    yes_and (q c) (every q s) (f c h'.0) (every-mono p q f s h'.1)
+    yes_and (q c) (every q s) (f c h'.0) (every_mono p q f s h'.1)
 
 pub one-of : (p : ℕ → Bool) (ds : Bytes) → T (every p ds) → (c : ℕ) → T (one_of ds c) → T (p c)
 one-of p [] h c t = absurd t
@@ -82,11 +82,11 @@ every_append p (c ∷ s) t hs ht =
     let h = and_yes (p c) (every p s) hs in
     yes_and (p c) (every p (s ++ t)) h.0 (every_append p s t h.1 ht)
 
-pub every-parts : (p : ℕ → Bool) (s t : Bytes) → T (every p (s ++ t)) → T (every p s) × T (every p t)
-every-parts p [] t h = (tt, h)
-every-parts p (c ∷ s) t h =
+pub every_parts : (p : ℕ → Bool) (s t : Bytes) → T (every p (s ++ t)) → T (every p s) × T (every p t)
+every_parts p [] t h = (tt, h)
+every_parts p (c ∷ s) t h =
     let h' = and_yes (p c) (every p (s ++ t)) h in
-    let i = every-parts p s t h'.1 in
+    let i = every_parts p s t h'.1 in
     (yes_and (p c) (every p s) h'.0 i.0, i.1)
 
 -- ---- two texts
@@ -110,11 +110,11 @@ pub same_false : (s t : Bytes) → s ≢ t → same s t ≡ false
 same_false s t n = T_false (same s t) (not_T (same s t) (λ h. n (same→eq s t h)))
 
 -- of two parts each, the first of one length
-pub same-append : (a b c d : Bytes) → length a ≡ length c → same (a ++ b) (c ++ d) ≡ (same a c && same b d)
-same-append [] b [] d e = refl
-same-append [] b (y ∷ c) d e = absurd (omega arith)
-same-append (x ∷ a) b [] d e = absurd (omega arith)
-same-append (x ∷ a) b (y ∷ c) d e = rw (same-append a b c d (omega arith)) (go (eqb x y))
+pub same_append : (a b c d : Bytes) → length a ≡ length c → same (a ++ b) (c ++ d) ≡ (same a c && same b d)
+same_append [] b [] d e = refl
+same_append [] b (y ∷ c) d e = absurd (omega arith)
+same_append (x ∷ a) b [] d e = absurd (omega arith)
+same_append (x ∷ a) b (y ∷ c) d e = rw (same_append a b c d (omega arith)) (go (eqb x y))
   where
     go : (q : Bool) → (q && (same a c && same b d)) ≡ ((q && same a c) && same b d)
     go true = refl

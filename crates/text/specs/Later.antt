@@ -3,11 +3,11 @@
 use Rattle.std.specs.Prelude.{ℕ, Bool, List, [], ◌∷◌}
 use Rattle.std.specs.Int.Signed.{lt_z}
 use Rattle.text.specs.Text.{Bytes, year, month, day, hour, minute, second}
-use Rattle.text.specs.Seconds.{momentOf}
+use Rattle.text.specs.Seconds.{moment_of}
 
 -- s is later than t
 unfoldable pub later : Bytes → Bytes → Bool
-later s t = lt_z (momentOf t).seconds (momentOf s).seconds
+later s t = lt_z (moment_of t).seconds (moment_of s).seconds
 
 -- ---- for what is promised of it
 

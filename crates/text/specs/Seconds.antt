@@ -3,35 +3,35 @@
 -- Assumes nothing.
 use Rattle.std.specs.Prelude.{ℕ, zero, suc, ◌+◌, ◌-◌, ◌*◌, ◌/◌, ◌%◌, ◌^◌, true, false, cond, [], ◌∷◌, ◌++◌, ℤ, pos, negsuc}
 use Rattle.std.proofs.Math.IntN.{sub_ℕ}
-use Rattle.text.specs.Calendar.{daysBefore}
-use Rattle.text.specs.Text.{Bytes, ascii, year, month, day, hour, minute, second, isTimestamp}
+use Rattle.text.specs.Calendar.{days_before}
+use Rattle.text.specs.Text.{Bytes, ascii, year, month, day, hour, minute, second, is_timestamp}
 use Rattle.text.specs.declared.moment.Moment.{Moment}
 
 -- every day has 86,400 seconds
-unfoldable pub sinceYearOne : Bytes → ℕ
-sinceYearOne s = 86400 * daysBefore (year s) (month s) (day s) + (3600 * hour s + 60 * minute s + second s)
+unfoldable pub since_year_one : Bytes → ℕ
+since_year_one s = 86400 * days_before (year s) (month s) (day s) + (3600 * hour s + 60 * minute s + second s)
 
 abbrev pub start : Bytes
 start = ascii "19930101T000000Z"
 
 -- of a TIMESTAMP; negative before the start
 unfoldable pub seconds : Bytes → ℤ
-seconds s = sub_ℕ (sinceYearOne s) (sinceYearOne start)
+seconds s = sub_ℕ (since_year_one s) (since_year_one start)
 
 -- what the date call answers: 0 with a text that is no TIMESTAMP
-unfoldable pub momentOf : Bytes → Moment
-momentOf s = cond (isTimestamp s) (record { valid = true; seconds = seconds s }) (record { valid = false; seconds = pos 0 })
+unfoldable pub moment_of : Bytes → Moment
+moment_of s = cond (is_timestamp s) (record { valid = true; seconds = seconds s }) (record { valid = false; seconds = pos 0 })
 
 -- ---- eight bytes
 
-abbrev pub twosComplement : ℤ → ℕ
-twosComplement (pos n) = n
-twosComplement (negsuc n) = 2 ^ 64 - suc n
+abbrev pub twos_complement : ℤ → ℕ
+twos_complement (pos n) = n
+twos_complement (negsuc n) = 2 ^ 64 - suc n
 
 -- the lowest n bytes of a number, the highest of them first
-abbrev pub bigEndian : ℕ → ℕ → Bytes
-bigEndian zero x = []
-bigEndian (suc n) x = bigEndian n (x / 256) ++ (x % 256 ∷ [])
+abbrev pub big_endian : ℕ → ℕ → Bytes
+big_endian zero x = []
+big_endian (suc n) x = big_endian n (x / 256) ++ (x % 256 ∷ [])
 
-unfoldable pub secondsBytes : ℤ → Bytes
-secondsBytes z = bigEndian 8 (twosComplement z)
+unfoldable pub seconds_bytes : ℤ → Bytes
+seconds_bytes z = big_endian 8 (twos_complement z)

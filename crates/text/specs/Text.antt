@@ -4,7 +4,7 @@
 use Rattle.std.specs.Prelude.{ℕ, ◌+◌, ◌-◌, ◌*◌, ◌%◌, Bool, true, false, cond, not, ◌&&◌, ◌||◌, List, [], ◌∷◌, length, take, drop, get_or, leb, ltb, eqb}
 use Prim.Native.String.{String}
 use Prim.Native.Char.{code}
-use Rattle.text.specs.Calendar.{daysOfMonth}
+use Rattle.text.specs.Calendar.{days_of_month}
 
 abbrev pub Bytes : Type 0
 Bytes = List ℕ
@@ -72,25 +72,25 @@ abbrev pub sized : ℕ → (ℕ → Bool) → Bytes → Bool
 sized n p s = eqb (length s) n && every p s
 
 -- nD
-unfoldable pub isDigits : ℕ → Bytes → Bool
-isDigits n s = sized n decimal s
+unfoldable pub is_digits : ℕ → Bytes → Bool
+is_digits n s = sized n decimal s
 
 -- nAN
-unfoldable pub isAlphanumeric : ℕ → Bytes → Bool
-isAlphanumeric n s = sized n alphanumeric s
+unfoldable pub is_alphanumeric : ℕ → Bytes → Bool
+is_alphanumeric n s = sized n alphanumeric s
 
 -- ---- IDENT (clause 5.1.3)
 
 -- document 01's limit
-abbrev pub longestIdent : ℕ
-longestIdent = 32
+abbrev pub longest_ident : ℕ
+longest_ident = 32
 
 -- underscore, hyphen, period and comma too, but not as the first character
-abbrev pub identCharacter : ℕ → Bool
-identCharacter c = alphanumeric c || one_of (ascii "_-.,") c
+abbrev pub ident_character : ℕ → Bool
+ident_character c = alphanumeric c || one_of (ascii "_-.,") c
 
-unfoldable pub isIdent : Bytes → Bool
-isIdent s = all_of (between 1 longestIdent (length s) ∷ alphanumeric (get_or s 0 0) ∷ every identCharacter (drop 1 s) ∷ [])
+unfoldable pub is_ident : Bytes → Bool
+is_ident s = all_of (between 1 longest_ident (length s) ∷ alphanumeric (get_or s 0 0) ∷ every ident_character (drop 1 s) ∷ [])
 
 -- ---- TIMESTAMP (clause 5.1.4; document 02, E2)
 
@@ -105,12 +105,12 @@ looks (p ∷ ps) [] = false
 looks (p ∷ ps) (c ∷ s) = fits p c && looks ps s
 
 -- the number that decimal digits stand for, after those that give n
-unfoldable pub numberFrom : ℕ → Bytes → ℕ
-numberFrom n [] = n
-numberFrom n (c ∷ s) = numberFrom (10 * n + (c - code "0")) s
+unfoldable pub number_from : ℕ → Bytes → ℕ
+number_from n [] = n
+number_from n (c ∷ s) = number_from (10 * n + (c - code "0")) s
 
 abbrev pub number : Bytes → ℕ
-number s = numberFrom 0 s
+number s = number_from 0 s
 
 abbrev pub year : Bytes → ℕ
 year s = number (part 0 4 s)
@@ -131,50 +131,50 @@ abbrev pub second : Bytes → ℕ
 second s = number (part 13 2 s)
 
 -- every part in its range, and the day one that exists in its month
-abbrev pub timestampTests : Bytes → List Bool
-timestampTests s =
+abbrev pub timestamp_tests : Bytes → List Bool
+timestamp_tests s =
     looks (ascii "YYYYMMDDThhmmssZ") s
     ∷ between 1 9999 (year s)
     ∷ between 1 12 (month s)
-    ∷ between 1 (daysOfMonth (year s) (month s)) (day s)
+    ∷ between 1 (days_of_month (year s) (month s)) (day s)
     ∷ between 0 23 (hour s)
     ∷ between 0 59 (minute s)
     ∷ between 0 59 (second s)
     ∷ []
 
-unfoldable pub isTimestamp : Bytes → Bool
-isTimestamp s = all_of (timestampTests s)
+unfoldable pub is_timestamp : Bytes → Bool
+is_timestamp s = all_of (timestamp_tests s)
 
 -- ---- HEX(n) and what is made of it
 
-unfoldable pub isHex : ℕ → Bytes → Bool
-isHex n s = sized n hexadecimal s
+unfoldable pub is_hex : ℕ → Bytes → Bool
+is_hex n s = sized n hexadecimal s
 
-unfoldable pub isPoint : Bytes → Bool
-isPoint s = isHex 194 s && same (take 2 s) (ascii "04")
+unfoldable pub is_point : Bytes → Bool
+is_point s = is_hex 194 s && same (take 2 s) (ascii "04")
 
-abbrev pub isSig : Bytes → Bool
-isSig s = isHex 192 s
+abbrev pub is_sig : Bytes → Bool
+is_sig s = is_hex 192 s
 
-abbrev pub isMac : Bytes → Bool
-isMac s = isHex 48 s
+abbrev pub is_mac : Bytes → Bool
+is_mac s = is_hex 48 s
 
-abbrev pub isPrint : Bytes → Bool
-isPrint s = isHex 16 s
+abbrev pub is_print : Bytes → Bool
+is_print s = is_hex 16 s
 
 -- ---- what a wrapped key has beside them (clause 7.5, Appendix B)
 
 -- P: at least one character
-unfoldable pub isPrintable : Bytes → Bool
-isPrintable s = leb 1 (length s) && every printable s
+unfoldable pub is_printable : Bytes → Bool
+is_printable s = leb 1 (length s) && every printable s
 
 -- a protected key: a key of at most 160 bits and a tag of 128, two characters for eight bits
-unfoldable pub isProtected : Bytes → Bool
-isProtected s = all_of (between 32 72 (length s) ∷ eqb (length s % 2) 0 ∷ every hexadecimal s ∷ [])
+unfoldable pub is_protected : Bytes → Bool
+is_protected s = all_of (between 32 72 (length s) ∷ eqb (length s % 2) 0 ∷ every hexadecimal s ∷ [])
 
 -- 3D, in the range 0-255
-unfoldable pub isOctet : Bytes → Bool
-isOctet s = isDigits 3 s && leb (number s) 255
+unfoldable pub is_octet : Bytes → Bool
+is_octet s = is_digits 3 s && leb (number s) 255
 
 -- ---- the types of ident characters by name, for what is said of all of them
 
@@ -183,14 +183,14 @@ pub data TextType : Type 0 where
   Hex : ℕ → TextType
 
 abbrev pub is_of : TextType → Bytes → Bool
-is_of Ident s = isIdent s
-is_of Timestamp s = isTimestamp s
-is_of Point s = isPoint s
-is_of Sig s = isSig s
-is_of Mac s = isMac s
-is_of Print s = isPrint s
-is_of Protected s = isProtected s
-is_of (Hex n) s = isHex n s
+is_of Ident s = is_ident s
+is_of Timestamp s = is_timestamp s
+is_of Point s = is_point s
+is_of Sig s = is_sig s
+is_of Mac s = is_mac s
+is_of Print s = is_print s
+is_of Protected s = is_protected s
+is_of (Hex n) s = is_hex n s
 
 -- the lengths that a type admits
 abbrev pub shortest : TextType → ℕ
@@ -204,7 +204,7 @@ shortest Protected = 32
 shortest (Hex n) = n
 
 abbrev pub longest : TextType → ℕ
-longest Ident = longestIdent
+longest Ident = longest_ident
 longest Timestamp = 16
 longest Point = 194
 longest Sig = 192

@@ -1,6 +1,6 @@
 // The alphabets of STS 600-4-2, clauses 5.1.1 and 5.1.3, and texts of n characters (clause 5.1.2).
 ghost use Rattle.std.specs.Prelude.{◌≡◌};
-ghost use Rattle.text.specs.Text.{between, decimal, hexadecimal, alphanumeric, identCharacter, printable, every, sized};
+ghost use Rattle.text.specs.Text.{between, decimal, hexadecimal, alphanumeric, ident_character, printable, every, sized};
 ghost use Rattle.text.specs.Steps.{belongs};
 
 // The alphabets that a whole text is held to.
@@ -57,7 +57,7 @@ pub(crate) fn is_alphanumeric(c: u8) -> bool
 }
 
 fn is_ident_character(c: u8) -> bool
-    ensures { result ≡ identCharacter c }
+    ensures { result ≡ ident_character c }
 {
     if is_alphanumeric(c) {
         return true;

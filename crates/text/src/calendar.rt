@@ -1,6 +1,6 @@
 // The Gregorian calendar (document 02, E2 and E9).
 ghost use Rattle.std.specs.Prelude.{◌≡◌, ◌^◌, ◌≤◌, ◌<◌};
-ghost use Rattle.text.specs.Calendar.{leap, daysOfMonth, sum_to, daysOfYear, daysBefore};
+ghost use Rattle.text.specs.Calendar.{leap, days_of_month, sum_to, days_of_year, days_before};
 
 // A year that ends a century is one by 400, every other by 4.
 fn is_leap(year: usize) -> bool
@@ -14,7 +14,7 @@ fn is_leap(year: usize) -> bool
 
 // Branches and no table: the module team counts constants.
 pub(crate) fn days_of_month(year: usize, month: usize) -> usize
-    ensures { result ≡ daysOfMonth year month }
+    ensures { result ≡ days_of_month year month }
 {
     match month {
         2 => {
@@ -31,7 +31,7 @@ pub(crate) fn days_of_month(year: usize, month: usize) -> usize
 // The days of the years 1 to n: every fourth has a day more, but of those that end a century only every fourth.
 fn days_of_years(n: usize) -> usize
     requires { n < 10000 }
-    ensures { (result ≡ sum_to n daysOfYear) × (result < 2 ^ 22) }
+    ensures { (result ≡ sum_to n days_of_year) × (result < 2 ^ 22) }
 {
     365 * n + n / 4 - n / 100 + n / 400
 }
@@ -39,7 +39,7 @@ fn days_of_years(n: usize) -> usize
 // The days of the months 1 to n of a year: first as though February had 30.
 fn days_of_months(year: usize, n: usize) -> usize
     requires { n < 12 }
-    ensures { (result ≡ sum_to n (daysOfMonth year)) × (result < 2 ^ 9) }
+    ensures { (result ≡ sum_to n (days_of_month year)) × (result < 2 ^ 9) }
 {
     let days = (367 * n + 5) / 12;
     if n < 2 {
@@ -54,7 +54,7 @@ fn days_of_months(year: usize, n: usize) -> usize
 // The days from 1 January of the year 1 to a date.
 pub(crate) fn days_before(year: usize, month: usize, day: usize) -> usize
     requires { (1 ≤ year) × (year ≤ 9999) × (1 ≤ month) × (month ≤ 12) × (1 ≤ day) × (day ≤ 31) }
-    ensures { (result ≡ daysBefore year month day) × (result < 2 ^ 23) }
+    ensures { (result ≡ days_before year month day) × (result < 2 ^ 23) }
 {
     days_of_years(year - 1) + days_of_months(year, month - 1) + (day - 1)
 }

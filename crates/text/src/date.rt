@@ -1,7 +1,7 @@
 // TIMESTAMP (STS 600-4-2, clause 5.1.4; document 02, E2).
 ghost use Rattle.std.specs.Prelude.{◌≡◌, ◌+◌, ◌-◌, ◌≤◌, ◌<◌, length};
-ghost use Rattle.text.specs.Calendar.{daysOfMonth};
-ghost use Rattle.text.specs.Text.{between, fits, looks, number, part, year, month, day, isTimestamp};
+ghost use Rattle.text.specs.Calendar.{days_of_month};
+ghost use Rattle.text.specs.Text.{between, fits, looks, number, part, year, month, day, is_timestamp};
 
 // The byte c stands where a pattern has p: T and Z for themselves, any other letter for a digit.
 fn does_fit(p: u8, c: u8) -> bool
@@ -75,7 +75,7 @@ fn is_year(s: &[u8]) -> bool
 // The day is one that exists in its month.
 fn is_day(s: &[u8]) -> bool
     requires { 8 ≤ length s.now }
-    ensures { result ≡ between 1 (daysOfMonth (year s.now) (month s.now)) (day s.now) }
+    ensures { result ≡ between 1 (days_of_month (year s.now) (month s.now)) (day s.now) }
 {
     let last = crate::calendar::days_of_month(year_of(s), two(s, 4));
     is_two_between(1, last, s, 6)
@@ -83,7 +83,7 @@ fn is_day(s: &[u8]) -> bool
 
 // TIMESTAMP: YYYYMMDDThhmmssZ, every part in its range, the day by its month and year.
 pub(crate) fn is_date(s: &[u8]) -> bool
-    ensures { result ≡ isTimestamp s.now }
+    ensures { result ≡ is_timestamp s.now }
 {
     if !looks_like(b"YYYYMMDDThhmmssZ", s) {
         return false;

@@ -8,7 +8,7 @@ mod moment;
 mod wrapped;
 
 ghost use Rattle.std.specs.Prelude.{◌≡◌};
-ghost use Rattle.text.specs.Text.{same, isIdent, isHex, isPoint, isSig, isMac, isPrint};
+ghost use Rattle.text.specs.Text.{same, is_ident, is_hex, is_point, is_sig, is_mac, is_print};
 
 pub use base16::{check_text, hex_digit, hex_value};
 pub use moment::{Moment, is_later, is_timestamp, moment_of, seconds_bytes};
@@ -36,7 +36,7 @@ pub fn are_same(a: &[u8], b: &[u8]) -> bool
 
 // IDENT: 1 to LONGEST_IDENT characters, the first of them alphanumeric, the others alphanumeric or one of `_ - . ,`.
 pub fn is_ident(s: &[u8]) -> bool
-    ensures { result ≡ isIdent s.now }
+    ensures { result ≡ is_ident s.now }
 {
     if !alphabet::is_between(1, LONGEST_IDENT, s.len()) {
         return false;
@@ -49,14 +49,14 @@ pub fn is_ident(s: &[u8]) -> bool
 
 // HEX(n): exactly n characters 0-9 and A-F.
 pub fn is_hex(n: usize, s: &[u8]) -> bool
-    ensures { result ≡ isHex n s.now }
+    ensures { result ≡ is_hex n s.now }
 {
     alphabet::is_sized(n, alphabet::Alphabet::Hexadecimal, s)
 }
 
 // POINT: HEX(194) that begins with "04".
 pub fn is_point(s: &[u8]) -> bool
-    ensures { result ≡ isPoint s.now }
+    ensures { result ≡ is_point s.now }
 {
     if !is_hex(194, s) {
         return false;
@@ -66,21 +66,21 @@ pub fn is_point(s: &[u8]) -> bool
 
 // SIG: HEX(192).
 pub fn is_sig(s: &[u8]) -> bool
-    ensures { result ≡ isSig s.now }
+    ensures { result ≡ is_sig s.now }
 {
     is_hex(192, s)
 }
 
 // MAC: HEX(48).
 pub fn is_mac(s: &[u8]) -> bool
-    ensures { result ≡ isMac s.now }
+    ensures { result ≡ is_mac s.now }
 {
     is_hex(48, s)
 }
 
 // PRINT: HEX(16).
 pub fn is_print(s: &[u8]) -> bool
-    ensures { result ≡ isPrint s.now }
+    ensures { result ≡ is_print s.now }
 {
     is_hex(16, s)
 }

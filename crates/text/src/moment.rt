@@ -1,8 +1,8 @@
 // The number that a TIMESTAMP stands for, and its eight bytes (document 02, E9).
 ghost use Rattle.std.specs.Prelude.{◌≡◌, ◌^◌, ◌<◌, T};
 ghost use Rattle.std.proofs.Math.IntN.{sub_ℕ};
-ghost use Rattle.text.specs.Text.{isTimestamp};
-ghost use Rattle.text.specs.Seconds.{sinceYearOne, start, momentOf, twosComplement, secondsBytes};
+ghost use Rattle.text.specs.Text.{is_timestamp};
+ghost use Rattle.text.specs.Seconds.{since_year_one, start, moment_of, twos_complement, seconds_bytes};
 ghost use Rattle.text.specs.Later.{later};
 
 // What the date call answers: whether a text is a TIMESTAMP, and its seconds since 19930101T000000Z, negative before; 0 with
@@ -19,8 +19,8 @@ const START: i64 = 62_861_443_200;
 
 // The seconds from the beginning of the year 1 to a TIMESTAMP.
 fn since_year_one(s: &[u8]) -> usize
-    requires { T (isTimestamp s.now) }
-    ensures { (result ≡ sinceYearOne s.now) × (result < 2 ^ 40) }
+    requires { T (is_timestamp s.now) }
+    ensures { (result ≡ since_year_one s.now) × (result < 2 ^ 40) }
 {
     let days = crate::calendar::days_before(
         crate::date::year_of(s),
@@ -35,14 +35,14 @@ fn since_year_one(s: &[u8]) -> usize
 // From seconds since the beginning of the year 1 to seconds since 19930101T000000Z.
 fn since_start(total: usize) -> i64
     requires { total < 2 ^ 40 }
-    ensures { result ≡ sub_ℕ total (sinceYearOne start) }
+    ensures { result ≡ sub_ℕ total (since_year_one start) }
 {
     total as i64 - START
 }
 
 // The date call.
 pub fn moment_of(s: &[u8]) -> Moment
-    ensures { result ≡ momentOf s.now }
+    ensures { result ≡ moment_of s.now }
 {
     if !crate::date::is_date(s) {
         return Moment {
@@ -59,7 +59,7 @@ pub fn moment_of(s: &[u8]) -> Moment
 
 // TIMESTAMP: YYYYMMDDThhmmssZ, every part in its range, the day by its month and year.
 pub fn is_timestamp(s: &[u8]) -> bool
-    ensures { result ≡ isTimestamp s.now }
+    ensures { result ≡ is_timestamp s.now }
 {
     let moment = moment_of(s);
     moment.valid
@@ -76,7 +76,7 @@ pub fn is_later(s: &[u8], t: &[u8]) -> bool
 
 // Two's complement in 64 bits: of a negative number, as many below the greatest as the number is below -1.
 fn twos_complement(x: i64) -> u64
-    ensures { result ≡ twosComplement x }
+    ensures { result ≡ twos_complement x }
 {
     if x < 0 {
         return 0xffff_ffff_ffff_ffff - ((-1 - x) as u64);
@@ -86,7 +86,7 @@ fn twos_complement(x: i64) -> u64
 
 // A number of seconds in eight bytes, big-endian two's complement.
 pub fn seconds_bytes(seconds: i64) -> [u8; 8]
-    ensures { result ≡ secondsBytes seconds }
+    ensures { result ≡ seconds_bytes seconds }
 {
     let n7 = twos_complement(seconds);
     let n6 = n7 / 256;

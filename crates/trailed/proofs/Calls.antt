@@ -7,108 +7,108 @@ use mathlib.Core.List.{[], ◌∷◌, ◌++◌, append-nil}
 use native.Mathlib.Omega.{arith}
 use lib.ListN.{length, take, drop, get_or, replicate}
 use borrow.Author.Tests.{eq-eqb, ne_eqb}
-use Rattle.text.specs.Text.{Bytes, same, isHex}
+use Rattle.text.specs.Text.{Bytes, same, is_hex}
 use Rattle.text.specs.Base16.{base16}
 use Rattle.text.proofs.Loops.{rest_all}
-use Rattle.sha1.specs.Sha1.{sha1}
-use Rattle.sha1.proofs.Digest.{digest-size}
-use Rattle.numbers.specs.Numbers.{shortOutput, missingTrailer, wrongHash}
-use Rattle.format.specs.Kinds.{recordKinds}
+use Rattle.sha_1.specs.Sha1.{sha1}
+use Rattle.sha_1.proofs.Digest.{digest_size}
+use Rattle.numbers.specs.Numbers.{short_output, missing_trailer, wrong_hash}
+use Rattle.format.specs.Kinds.{record_kinds}
 use Rattle.format.specs.Build.{Built}
-use Rattle.format.specs.Read.{Outcome, refused, readRecord}
-use Rattle.format.proofs.Exactly.{record-says}
+use Rattle.format.specs.Read.{Outcome, refused, read_record}
+use Rattle.format.proofs.Exactly.{record_says}
 use Rattle.reading.specs.Reading.{answer_of}
 use Rattle.reading.specs.declared.Answer.{Answer}
 use Rattle.reading.proofs.Answers.{Taken, taken, untaken}
 use Rattle.put.specs.Put.{Puts}
 use Rattle.put.specs.Made.{denied, says, Writes}
 use Rattle.put.specs.declared.Written.{Written}
-use Rattle.put.proofs.Hex.{length-base16}
-use Rattle.put.proofs.Pieces.{put_of, put_as, put_then, put-length}
-use Rattle.given.proofs.Given.{given-short, given-put}
-use Rattle.trailed.specs.Trailed.{sharp, hashText, trailer, trailed, recordIn, trailerIn, isTrailer, only_if, readTrailed, writeTrailed}
-use Rattle.trailed.proofs.Trailed.{onlyIf-true, trailer-length, trailed-length}
+use Rattle.put.proofs.Hex.{length_base16}
+use Rattle.put.proofs.Pieces.{put_of, put_as, put_then, put_length}
+use Rattle.given.proofs.Given.{given_short, given_put}
+use Rattle.trailed.specs.Trailed.{sharp, hash_text, trailer, trailed, record_in, trailer_in, is_trailer, only_if, read_trailed, write_trailed}
+use Rattle.trailed.proofs.Trailed.{only_if_true, trailer_length, trailed_length}
 
 -- ---- '#' and HEX(40)
 
-pub no-trailer : (s : Bytes) → length s ≡ 0 → false ≡ isTrailer s
-no-trailer [] e = refl
-no-trailer (c ∷ s) e = absurd (omega arith)
+pub no_trailer : (s : Bytes) → length s ≡ 0 → false ≡ is_trailer s
+no_trailer [] e = refl
+no_trailer (c ∷ s) e = absurd (omega arith)
 
-pub other-mark : (s : Bytes) → (get_or s 0 0 ≡ sharp → ⊥) → false ≡ isTrailer s
-other-mark [] n = refl
-other-mark (c ∷ s) n = rw (ne_eqb c sharp n)
+pub other_mark : (s : Bytes) → (get_or s 0 0 ≡ sharp → ⊥) → false ≡ is_trailer s
+other_mark [] n = refl
+other_mark (c ∷ s) n = rw (ne_eqb c sharp n)
 
-pub is-marked : (s : Bytes) {b : Bool} → (length s ≡ 0 → ⊥) → get_or s 0 0 ≡ sharp → b ≡ isHex 40 (take (length s - 1) (drop 1 s)) → b ≡ isTrailer s
-is-marked [] n e h = absurd (n refl)
-is-marked (c ∷ s) n e h = h ∙ rw (rest_all (c ∷ s) 1, eq-eqb c sharp e)
+pub is_marked : (s : Bytes) {b : Bool} → (length s ≡ 0 → ⊥) → get_or s 0 0 ≡ sharp → b ≡ is_hex 40 (take (length s - 1) (drop 1 s)) → b ≡ is_trailer s
+is_marked [] n e h = absurd (n refl)
+is_marked (c ∷ s) n e h = h ∙ rw (rest_all (c ∷ s) 1, eq-eqb c sharp e)
 
 -- ---- the trailer of a record
 
-pub trailer-written : (r h : Bytes) {out : Bytes} {n : ℕ} → h ≡ sha1 (hashText r) → Puts (sharp ∷ replicate 40 0) 1 (base16 h) out n → out ≡ trailer r
+pub trailer_written : (r h : Bytes) {out : Bytes} {n : ℕ} → h ≡ sha1 (hash_text r) → Puts (sharp ∷ replicate 40 0) 1 (base16 h) out n → out ≡ trailer r
 unfolding trailer
-trailer-written r h e p =
-    let long : length (base16 h) ≡ 40 = length-base16 h ∙ omega (arith, ap length e, digest-size (hashText r)) in
-    (put_of (omega (arith, long)) p).written ∙ rw (long, e) (ap {B = Bytes} (λ (x : Bytes). sharp ∷ x) (append-nil (base16 (sha1 (hashText r)))))
+trailer_written r h e p =
+    let long : length (base16 h) ≡ 40 = length_base16 h ∙ omega (arith, ap length e, digest_size (hash_text r)) in
+    (put_of (omega (arith, long)) p).written ∙ rw (long, e) (ap {B = Bytes} (λ (x : Bytes). sharp ∷ x) (append-nil (base16 (sha1 (hash_text r)))))
 
 -- ---- reading a line
 
 -- the line s, whose record ends at e, and the test for a trailer after it
-module _ (s : Bytes) {e : ℕ} (end : e ≡ length s - 41) {b : Bool} (test : b ≡ isTrailer (take (length s - e) (drop e s))) where
-  front : take (e - 0) (drop 0 s) ≡ recordIn s
+module _ (s : Bytes) {e : ℕ} (end : e ≡ length s - 41) {b : Bool} (test : b ≡ is_trailer (take (length s - e) (drop e s))) where
+  front : take (e - 0) (drop 0 s) ≡ record_in s
   front = let z : e - 0 ≡ length s - 41 = omega (arith, end) in rw z
 
-  back : take (length s - e) (drop e s) ≡ trailerIn s
+  back : take (length s - e) (drop e s) ≡ trailer_in s
   back = rest_all s e ∙ ap (λ (j : ℕ). drop j s) end
 
-  there : {x : Bool} → b ≡ x → isTrailer (trailerIn s) ≡ x
-  there q = ap isTrailer (sym back) ∙ sym test ∙ q
+  there : {x : Bool} → b ≡ x → is_trailer (trailer_in s) ≡ x
+  there q = ap is_trailer (sym back) ∙ sym test ∙ q
 
-  pub says-missing : {a : Answer} → b ≡ false → a ≡ answer_of (refused missingTrailer 0) → a ≡ answer_of (readTrailed s)
-  unfolding readTrailed
-  says-missing q h = h ∙ rw (there q)
+  pub says_missing : {a : Answer} → b ≡ false → a ≡ answer_of (refused missing_trailer 0) → a ≡ answer_of (read_trailed s)
+  unfolding read_trailed
+  says_missing q h = h ∙ rw (there q)
 
   -- there is one, and a is the record call's answer for what stands before it
-  module _ {a : Answer} (has : b ≡ true) (own : a ≡ answer_of (readRecord (take (e - 0) (drop 0 s)))) where
-    own-said : a ≡ answer_of (readRecord (recordIn s))
-    own-said = own ∙ ap (λ (x : Bytes). answer_of (readRecord x)) front
+  module _ {a : Answer} (has : b ≡ true) (own : a ≡ answer_of (read_record (take (e - 0) (drop 0 s)))) where
+    own_said : a ≡ answer_of (read_record (record_in s))
+    own_said = own ∙ ap (λ (x : Bytes). answer_of (read_record x)) front
 
-    read_by : {x : Bool} {o : Outcome} → same (trailerIn s) (trailer (recordIn s)) ≡ x → readRecord (recordIn s) ≡ o → readTrailed s ≡ only_if x wrongHash o
-    unfolding readTrailed
+    read_by : {x : Bool} {o : Outcome} → same (trailer_in s) (trailer (record_in s)) ≡ x → read_record (record_in s) ≡ o → read_trailed s ≡ only_if x wrong_hash o
+    unfolding read_trailed
     read_by p q = rw (there has, p, q)
 
-    pub says-own : (a.no ≡ 0 → ⊥) → a ≡ answer_of (readTrailed s)
-    says-own n =
-        let o = untaken (readRecord (recordIn s)) a own-said n in
-        own-said ∙ ap answer_of (o ∙ sym (read_by refl o))
+    pub says_own : (a.no ≡ 0 → ⊥) → a ≡ answer_of (read_trailed s)
+    says_own n =
+        let o = untaken (read_record (record_in s)) a own_said n in
+        own_said ∙ ap answer_of (o ∙ sym (read_by refl o))
 
     -- the record is accepted, and t is the trailer that is right for it
     module _ {t : Bytes} {c : Bool} (right : t ≡ trailer (take (e - 0) (drop 0 s))) (compared : c ≡ same (take (length s - e) (drop e s)) t) where
-      as-compared : {x : Bool} → c ≡ x → same (trailerIn s) (trailer (recordIn s)) ≡ x
-      as-compared q = sym (compared ∙ rw (back, right, front)) ∙ q
+      as_compared : {x : Bool} → c ≡ x → same (trailer_in s) (trailer (record_in s)) ≡ x
+      as_compared q = sym (compared ∙ rw (back, right, front)) ∙ q
 
-      pub says-right : c ≡ true → a ≡ answer_of (readTrailed s)
-      says-right q = own-said ∙ ap answer_of (sym (read_by (as-compared q) refl ∙ onlyIf-true wrongHash (readRecord (recordIn s))))
+      pub says_right : c ≡ true → a ≡ answer_of (read_trailed s)
+      says_right q = own_said ∙ ap answer_of (sym (read_by (as_compared q) refl ∙ only_if_true wrong_hash (read_record (record_in s))))
 
-      pub says-wrong : {a' : Answer} → a.no ≡ 0 → c ≡ false → a' ≡ answer_of (refused wrongHash 0) → a' ≡ answer_of (readTrailed s)
-      says-wrong z q h =
-          let k = taken (Built recordKinds (recordIn s)) (readRecord (recordIn s)) a (record-says (recordIn s)) own-said z in
-          h ∙ ap answer_of (sym (read_by (as-compared q) k.is))
+      pub says_wrong : {a' : Answer} → a.no ≡ 0 → c ≡ false → a' ≡ answer_of (refused wrong_hash 0) → a' ≡ answer_of (read_trailed s)
+      says_wrong z q h =
+          let k = taken (Built record_kinds (record_in s)) (read_record (record_in s)) a (record_says (record_in s)) own_said z in
+          h ∙ ap answer_of (sym (read_by (as_compared q) k.is))
 
 -- ---- writing a line: the record r, which is accepted where the record call answers 0
 
-module _ (r : Bytes) {a : Answer} (own : a ≡ answer_of (readRecord r)) (z : a.no ≡ 0) where
-  abbrev read-so : Taken (Built recordKinds r) (readRecord r) a.kind
-  read-so = taken (Built recordKinds r) (readRecord r) a (record-says r) own z
+module _ (r : Bytes) {a : Answer} (own : a ≡ answer_of (read_record r)) (z : a.no ≡ 0) where
+  abbrev read_so : Taken (Built record_kinds r) (read_record r) a.kind
+  read_so = taken (Built record_kinds r) (read_record r) a (record_says r) own z
 
-  pub write-short : (out : Bytes) (w : Written) → length out < length r + 41 → w ≡ says (denied shortOutput 0) → Writes (writeTrailed r (length out)) out out w
-  unfolding writeTrailed
-  write-short out w h e = given-short _ read-so.is out w (omega (arith, trailed-length r)) e
+  pub write_short : (out : Bytes) (w : Written) → length out < length r + 41 → w ≡ says (denied short_output 0) → Writes (write_trailed r (length out)) out out w
+  unfolding write_trailed
+  write_short out w h e = given_short _ read_so.is out w (omega (arith, trailed_length r)) e
 
-  pub write-said : {out out' out'' t : Bytes} {n n' : ℕ} → length r + 41 ≤ length out → t ≡ trailer r → Puts out 0 r out' n → Puts out' n t out'' n'
-      → Writes (writeTrailed r (length out)) out out'' (record { no = 0; field = 0; len = n' })
-  unfolding writeTrailed trailed
-  write-said h e p q =
+  pub write_said : {out out' out'' t : Bytes} {n n' : ℕ} → length r + 41 ≤ length out → t ≡ trailer r → Puts out 0 r out' n → Puts out' n t out'' n'
+      → Writes (write_trailed r (length out)) out out'' (record { no = 0; field = 0; len = n' })
+  unfolding write_trailed trailed
+  write_said h e p q =
       let first = put_of (omega arith) p in
-      let second = put_of (omega (arith, ap length e, trailer-length r, put-length first, first.next)) q in
-      given-put _ read-so.is (put_as (ap (λ (x : Bytes). r ++ x) e) (put_then first second))
+      let second = put_of (omega (arith, ap length e, trailer_length r, put_length first, first.next)) q in
+      given_put _ read_so.is (put_as (ap (λ (x : Bytes). r ++ x) e) (put_then first second))

@@ -11,29 +11,29 @@ use lib.Dec.{T, eqb}
 use lib.ListN.{length, length-take, length-append, take-append-drop}
 use lib.Seq.{take_at, drop_at}
 use mir.Facts.{yes_and}
-use Rattle.text.specs.Text.{Bytes, same, isHex}
+use Rattle.text.specs.Text.{Bytes, same, is_hex}
 use Rattle.text.specs.Base16.{base16}
 use Rattle.text.proofs.Tests.{T_true, same→eq, same_refl}
-use Rattle.put.proofs.Hex.{base16-hex}
-use Rattle.sha1.specs.Sha1.{sha1}
-use Rattle.sha1.proofs.Digest.{digest-bytes, digest-size}
-use Rattle.text.proofs.Types.{hex-length}
-use Rattle.numbers.specs.Numbers.{missingTrailer, wrongHash}
-use Rattle.format.specs.Kinds.{Kind, recordKinds}
+use Rattle.put.proofs.Hex.{base16_hex}
+use Rattle.sha_1.specs.Sha1.{sha1}
+use Rattle.sha_1.proofs.Digest.{digest_bytes, digest_size}
+use Rattle.text.proofs.Types.{hex_length}
+use Rattle.numbers.specs.Numbers.{missing_trailer, wrong_hash}
+use Rattle.format.specs.Kinds.{Kind, record_kinds}
 use Rattle.format.specs.Build.{Built}
-use Rattle.format.specs.Read.{Outcome, accepted, refused, provided, readRecord}
+use Rattle.format.specs.Read.{Outcome, accepted, refused, provided, read_record}
 use Rattle.format.specs.Damage.{DamagedOver, WithinTwo, Catches, AllCaught}
 use Rattle.format.proofs.Outcomes.{never, Numbered, NeverZero}
-use Rattle.format.proofs.Exactly.{record-exact}
-use Rattle.format.proofs.DamagedLines.{part_bytes, within-part, all-lines-caught}
-use Rattle.format.proofs.Damage.{record-catches, record-never-zero}
-use Rattle.trailed.specs.Trailed.{sharp, hashText, trailer, trailed, recordIn, trailerIn, isTrailer, only_if, InRecord, readTrailed, walkTrailed}
+use Rattle.format.proofs.Exactly.{record_exact}
+use Rattle.format.proofs.DamagedLines.{part_bytes, within_part, all_lines_caught}
+use Rattle.format.proofs.Damage.{record_catches, record_never_zero}
+use Rattle.trailed.specs.Trailed.{sharp, hash_text, trailer, trailed, record_in, trailer_in, is_trailer, only_if, InRecord, read_trailed, walk_trailed}
 
 -- ---- a test that passes changes nothing
 
-pub onlyIf-true : (n : ℕ) (o : Outcome) → only_if true n o ≡ o
-onlyIf-true n (accepted k fs) = refl
-onlyIf-true n (refused m i) = refl
+pub only_if_true : (n : ℕ) (o : Outcome) → only_if true n o ≡ o
+only_if_true n (accepted k fs) = refl
+only_if_true n (refused m i) = refl
 
 -- ---- a line that is accepted
 
@@ -44,76 +44,76 @@ passed true c n m (refused j i) k fs e = absurd (never e)
 passed false c n m o k fs e = absurd (never e)
 
 -- is its record and the trailer of that
-pub trailed-sound : (s : Bytes) (k : Kind) (fs : List Bytes) → readTrailed s ≡ accepted k fs → (readRecord (recordIn s) ≡ accepted k fs) × (s ≡ trailed (recordIn s))
-unfolding readTrailed trailed
-trailed-sound s k fs e =
-    let (right, own) = passed (isTrailer (trailerIn s)) (same (trailerIn s) (trailer (recordIn s))) _ _ (readRecord (recordIn s)) k fs e in
-    (own, sym (take-append-drop (length s - 41) s) ∙ ap (λ (t : Bytes). recordIn s ++ t) (same→eq (trailerIn s) (trailer (recordIn s)) right))
+pub trailed_sound : (s : Bytes) (k : Kind) (fs : List Bytes) → read_trailed s ≡ accepted k fs → (read_record (record_in s) ≡ accepted k fs) × (s ≡ trailed (record_in s))
+unfolding read_trailed trailed
+trailed_sound s k fs e =
+    let (right, own) = passed (is_trailer (trailer_in s)) (same (trailer_in s) (trailer (record_in s))) _ _ (read_record (record_in s)) k fs e in
+    (own, sym (take-append-drop (length s - 41) s) ∙ ap (λ (t : Bytes). record_in s ++ t) (same→eq (trailer_in s) (trailer (record_in s)) right))
 
 -- ---- a line that is written
 
 module _ (r : Bytes) where
-  hash-hex : T (isHex 40 (base16 (sha1 (hashText r))))
-  hash-hex = base16-hex 40 (sha1 (hashText r)) (digest-bytes (hashText r)) (omega (arith, digest-size (hashText r)))
+  hash_hex : T (is_hex 40 (base16 (sha1 (hash_text r))))
+  hash_hex = base16_hex 40 (sha1 (hash_text r)) (digest_bytes (hash_text r)) (omega (arith, digest_size (hash_text r)))
 
-  pub trailer-length : length (trailer r) ≡ 41
+  pub trailer_length : length (trailer r) ≡ 41
   unfolding trailer
-  trailer-length = omega (arith, hex-length 40 (base16 (sha1 (hashText r))) hash-hex)
+  trailer_length = omega (arith, hex_length 40 (base16 (sha1 (hash_text r))) hash_hex)
 
-  trailer-fits : T (isTrailer (trailer r))
+  trailer_fits : T (is_trailer (trailer r))
   unfolding trailer
-  trailer-fits = yes_and (eqb sharp sharp) (isHex 40 (base16 (sha1 (hashText r)))) tt hash-hex
+  trailer_fits = yes_and (eqb sharp sharp) (is_hex 40 (base16 (sha1 (hash_text r)))) tt hash_hex
 
-  pub trailed-length : length (trailed r) ≡ length r + 41
+  pub trailed_length : length (trailed r) ≡ length r + 41
   unfolding trailed
-  trailed-length = omega (arith, length-append r (trailer r), trailer-length)
+  trailed_length = omega (arith, length-append r (trailer r), trailer_length)
 
-  pub record-in : recordIn (trailed r) ≡ r
+  pub record-in : record_in (trailed r) ≡ r
   unfolding trailed
-  record-in = take_at r (trailer r) (length (trailed r) - 41) (omega (arith, trailed-length))
+  record-in = take_at r (trailer r) (length (trailed r) - 41) (omega (arith, trailed_length))
 
-  trailer-in : trailerIn (trailed r) ≡ trailer r
+  trailer-in : trailer_in (trailed r) ≡ trailer r
   unfolding trailed
-  trailer-in = drop_at r (trailer r) (length (trailed r) - 41) (omega (arith, trailed-length))
+  trailer-in = drop_at r (trailer r) (length (trailed r) - 41) (omega (arith, trailed_length))
 
   -- is read as its record
-  pub trailed-read : readTrailed (trailed r) ≡ readRecord r
-  unfolding readTrailed
-  trailed-read =
-      rw (record-in, trailer-in, T_true (isTrailer (trailer r)) trailer-fits, T_true (same (trailer r) (trailer r)) (same_refl (trailer r))) (onlyIf-true wrongHash (readRecord r))
+  pub trailed_read : read_trailed (trailed r) ≡ read_record r
+  unfolding read_trailed
+  trailed_read =
+      rw (record-in, trailer-in, T_true (is_trailer (trailer r)) trailer_fits, T_true (same (trailer r) (trailer r)) (same_refl (trailer r))) (only_if_true wrong_hash (read_record r))
 
-pub trailed-exact : (s : Bytes) (k : Kind) (fs : List Bytes) → (readTrailed s ≡ accepted k fs) ↔ ((r : Bytes) × Built recordKinds r k fs × (s ≡ trailed r))
-trailed-exact s k fs = (
-  λ e. let (own, is) = trailed-sound s k fs e in (recordIn s, (record-exact (recordIn s) k fs).0 own, is),
-  λ (r, b, is). ap readTrailed is ∙ trailed-read r ∙ (record-exact r k fs).1 b,
+pub trailed_exact : (s : Bytes) (k : Kind) (fs : List Bytes) → (read_trailed s ≡ accepted k fs) ↔ ((r : Bytes) × Built record_kinds r k fs × (s ≡ trailed r))
+trailed_exact s k fs = (
+  λ e. let (own, is) = trailed_sound s k fs e in (record_in s, (record_exact (record_in s) k fs).0 own, is),
+  λ (r, b, is). ap read_trailed is ∙ trailed_read r ∙ (record_exact r k fs).1 b,
 )
 
 -- ---- damage
 
-pub trailed-never-zero : NeverZero readTrailed
-unfolding readTrailed
-trailed-never-zero s = go (isTrailer (trailerIn s)) (same (trailerIn s) (trailer (recordIn s))) (readRecord (recordIn s)) (record-never-zero (recordIn s))
+pub trailed_never_zero : NeverZero read_trailed
+unfolding read_trailed
+trailed_never_zero s = go (is_trailer (trailer_in s)) (same (trailer_in s) (trailer (record_in s))) (read_record (record_in s)) (record_never_zero (record_in s))
   where
-    go : (b c : Bool) (o : Outcome) → Numbered o → Numbered (provided b missingTrailer (only_if c wrongHash o))
+    go : (b c : Bool) (o : Outcome) → Numbered o → Numbered (provided b missing_trailer (only_if c wrong_hash o))
     go true true (accepted k fs) h = tt
     go true false (accepted k fs) h = tt
     go true c (refused n i) h = h
     go false c o h = tt
 
 -- what the record call catches in the record is caught in the line
-pub trailed-catches : (Harm : Bytes → Bytes → Type 0) → Catches readRecord Harm → Catches readTrailed (InRecord Harm)
-trailed-catches Harm catches x y bx by long harm (j, gs, ax) (k, fs, ay) =
-    let (own_x, is_x) = trailed-sound x j gs ax in
-    let (own-y, is_y) = trailed-sound y k fs ay in
-    let records : recordIn x ≡ recordIn y =
-    catches (recordIn x) (recordIn y) (part_bytes 0 (length x - 41) x bx) (part_bytes 0 (length y - 41) y by) (simp (length-take, long)) harm (j, gs, own_x) (k, fs, own-y) in
+pub trailed_catches : (Harm : Bytes → Bytes → Type 0) → Catches read_record Harm → Catches read_trailed (InRecord Harm)
+trailed_catches Harm catches x y bx by long harm (j, gs, ax) (k, fs, ay) =
+    let (own_x, is_x) = trailed_sound x j gs ax in
+    let (own-y, is_y) = trailed_sound y k fs ay in
+    let records : record_in x ≡ record_in y =
+    catches (record_in x) (record_in y) (part_bytes 0 (length x - 41) x bx) (part_bytes 0 (length y - 41) y by) (simp (length-take, long)) harm (j, gs, own_x) (k, fs, own-y) in
     is_x ∙ ap trailed records ∙ sym is_y
 
 -- two neighbouring bytes of a line are at most two of its record
-pub trailed-within-two : Catches readTrailed WithinTwo
-trailed-within-two x y bx by long harm =
-    trailed-catches WithinTwo record-catches x y bx by long (rw (← long) (within-part 0 (length x - 41) x y harm))
+pub trailed_within_two : Catches read_trailed WithinTwo
+trailed_within_two x y bx by long harm =
+    trailed_catches WithinTwo record_catches x y bx by long (rw (← long) (within_part 0 (length x - 41) x y harm))
 
 -- in files of such lines
-pub trailed-damage-caught : (Harm : Bytes → Bytes → Type 0) → Catches readTrailed Harm → (a b : Bytes) → DamagedOver readTrailed Harm a b → AllCaught a b (walkTrailed a) (walkTrailed b)
-trailed-damage-caught Harm = all-lines-caught readTrailed Harm trailed-never-zero
+pub trailed_damage_caught : (Harm : Bytes → Bytes → Type 0) → Catches read_trailed Harm → (a b : Bytes) → DamagedOver read_trailed Harm a b → AllCaught a b (walk_trailed a) (walk_trailed b)
+trailed_damage_caught Harm = all_lines_caught read_trailed Harm trailed_never_zero

@@ -1,11 +1,11 @@
 // Manufacturers' record files: document 02, E6; STS 600-4-2, Appendix D. A line is a record, '#', and the forty characters of the SHA-1 of
 // the record and one line feed. The calls take any bytes and have no `requires`. The numbers of a line are 11, 19, the record's own, 20.
 ghost use Rattle.std.specs.Prelude.{◌≡◌, ◌-◌, length};
-ghost use Rattle.sha1.specs.Sha1.{sha1};
+ghost use Rattle.sha_1.specs.Sha1.{sha1};
 ghost use Rattle.reading.specs.Reading.{answer_of};
 ghost use Rattle.put.specs.Made.{Writes};
-ghost use Rattle.files.specs.Walk.{lineSaid};
-ghost use Rattle.trailed.specs.Trailed.{hashText, trailer, isTrailer, readTrailed, trailedAt, countTrailed, writeTrailed};
+ghost use Rattle.files.specs.Walk.{line_said};
+ghost use Rattle.trailed.specs.Trailed.{hash_text, trailer, is_trailer, read_trailed, trailed_at, count_trailed, write_trailed};
 
 // A trailer has so many bytes.
 pub const TRAILER: usize = 41;
@@ -24,7 +24,7 @@ fn record_end(line: &[u8]) -> usize
 
 // '#' and HEX(40).
 fn is_trailer(s: &[u8]) -> bool
-    ensures { result ≡ isTrailer s.now }
+    ensures { result ≡ is_trailer s.now }
 {
     if s.len() == 0 {
         return false;
@@ -37,9 +37,9 @@ fn is_trailer(s: &[u8]) -> bool
 
 // Of the record and one line feed, which need not stand behind it.
 fn hash_of(record: &[u8]) -> [u8; 20]
-    ensures { result ≡ sha1 (hashText «record».now) }
+    ensures { result ≡ sha1 (hash_text «record».now) }
 {
-    let begun = sha1::Sha1::begin();
+    let begun = sha_1::Sha1::begin();
     begun.add(record).add(b"\n").end()
 }
 
@@ -59,7 +59,7 @@ fn trailer_of(record: &[u8]) -> [u8; 41]
 // Reads a line without its line feed. 19 where no trailer stands at its end, then the record's own numbers for what stands before, then 20 where
 // the SHA-1 differs. The places of the fields are those of the record, which stands at the front.
 pub fn read_trailed(line: &[u8]) -> reading::Answer
-    ensures { result ≡ answer_of (readTrailed line.now) }
+    ensures { result ≡ answer_of (read_trailed line.now) }
 {
     let end = record_end(line);
     if !is_trailer(&line[end..]) {
@@ -79,7 +79,7 @@ pub fn read_trailed(line: &[u8]) -> reading::Answer
 // The line at a place of a file, as `files::line_at` has it: start and length are those of the whole line with its trailer. An unfinished last
 // line answers 11, before any other number.
 pub fn trailed_at(file: &[u8], place: usize) -> files::Line
-    ensures { result ≡ lineSaid (trailedAt file.now place) }
+    ensures { result ≡ line_said (trailed_at file.now place) }
 {
     let end = files::line_end(file, place);
     if file.len() <= end {
@@ -98,7 +98,7 @@ pub fn trailed_at(file: &[u8], place: usize) -> files::Line
 
 // The lines of a file from its start to its end, an unfinished last line too, and those that are accepted.
 pub fn count_trailed(file: &[u8]) -> files::Totals
-    ensures { result ≡ countTrailed file.now }
+    ensures { result ≡ count_trailed file.now }
 {
     let mut lines: usize = 0;
     let mut accepted: usize = 0;
@@ -118,7 +118,7 @@ pub fn count_trailed(file: &[u8]) -> files::Totals
 // Writes the line of a record, without a line feed, from the front of a lent output; or refuses, with the record's own number, then 10, and
 // leaves it untouched.
 pub fn write_trailed(record: &[u8], out: &mut [u8]) -> put::Written
-    ensures { Writes (writeTrailed «record».now (length out.old)) out.old out.new result }
+    ensures { Writes (write_trailed «record».now (length out.old)) out.old out.new result }
 {
     let answer = reading::read_record(record);
     if answer.no != numbers::ACCEPTED {

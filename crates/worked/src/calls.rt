@@ -201,14 +201,14 @@ fn hash(known: &[u8], bytes: &[u8]) -> usize {
 }
 
 fn sha1(known: &[u8], bytes: &[u8]) -> usize {
-    let digest = sha1::sha1_of(bytes);
+    let digest = sha_1::sha1_of(bytes);
     say::hex(known, numbers::ACCEPTED, &digest)
 }
 
 // SHA-1, or else SHA-384, of the bytes a thousand times, one behind the other.
 fn thousandfold(known: &[u8], is_sha1: bool, bytes: &[u8]) -> usize {
     let mut long = sha384::Sha384::begin();
-    let mut short = sha1::Sha1::begin();
+    let mut short = sha_1::Sha1::begin();
     let mut k: usize = 0;
     while k < 1000 {
         long = long.add(bytes);

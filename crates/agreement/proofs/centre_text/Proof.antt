@@ -1,6 +1,6 @@
 -- `agreement::centre_text` meets its contract.
 -- Assumes nothing.
-use Rattle.agreement.specs.Texts.{centreText}
+use Rattle.agreement.specs.Texts.{centre_text}
 use borrow.Author.Rules.{rules}
 use Rattle.agreement.proofs.centre_text.Statement.{statement}
 use Rattle.agreement.proofs.centre_text.Tie as tie
@@ -18,7 +18,7 @@ same_length : tie.Need-same-length
 same_length c = search rules
 
 returns : tie.Need-returns
-unfolding centreText
+unfolding centre_text
 returns c = c.before.before.write-text.ensures
 
 pub centre-text-spec : {M : Type 1} → statement M

@@ -1,6 +1,6 @@
 -- `agreement::module_text` meets its contract.
 -- Assumes nothing.
-use Rattle.agreement.specs.Texts.{moduleText}
+use Rattle.agreement.specs.Texts.{module_text}
 use borrow.Author.Rules.{rules}
 use Rattle.agreement.proofs.module_text.Statement.{statement}
 use Rattle.agreement.proofs.module_text.Tie as tie
@@ -18,7 +18,7 @@ same_length : tie.Need-same-length
 same_length c = search rules
 
 returns : tie.Need-returns
-unfolding moduleText
+unfolding module_text
 returns c = c.before.before.write-text.ensures
 
 pub module-text-spec : {M : Type 1} → statement M

@@ -1,7 +1,7 @@
 -- `agreement::put_item` meets its contract.
 -- Assumes nothing.
 use native.Mathlib.Omega.{arith}
-use Rattle.put.proofs.Pieces.{put_of, put-length, put_then}
+use Rattle.put.proofs.Pieces.{put_of, put_length, put_then}
 use borrow.Author.Rules.{rules}
 use Rattle.agreement.proofs.put_item.Statement.{statement}
 use Rattle.agreement.proofs.put_item.Tie as tie
@@ -21,7 +21,7 @@ same_length c = search rules
 returns : tie.Need-returns
 returns c =
     let first = put_of (omega arith) c.before.before.before.before.before.before.put_byte.ensures in
-    put_then first (put_of (omega (arith, first.next, put-length first)) c.before.before.put.ensures)
+    put_then first (put_of (omega (arith, first.next, put_length first)) c.before.before.put.ensures)
 
 pub put-item-spec : {M : Type 1} → statement M
 put-item-spec =

@@ -1,6 +1,6 @@
 -- `agreement::put_point` meets its contract.
 -- Assumes nothing.
-use Rattle.agreement.proofs.Decoding.{point-put}
+use Rattle.agreement.proofs.Decoding.{point_put}
 use borrow.Author.Rules.{rules}
 use Rattle.agreement.proofs.put_point.Statement.{statement}
 use Rattle.agreement.proofs.put_point.Tie as tie
@@ -20,7 +20,7 @@ same_length c = search rules
 returns : tie.Need-returns
 returns c =
     let s = c.before.before.before.before.before.before.before.before.before.before in
-    point-put s.args.point.now s.requires.0 s.requires.1 c.before.before.before.before.before.before.put_byte.ensures c.before.before.put-decoded.ensures
+    point_put s.args.point.now s.requires.0 s.requires.1 c.before.before.before.before.before.before.put_byte.ensures c.before.before.put-decoded.ensures
 
 pub put-point-spec : {M : Type 1} → statement M
 put-point-spec =

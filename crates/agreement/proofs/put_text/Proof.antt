@@ -5,15 +5,15 @@ use mathlib.Core.Path.{◌∙◌}
 use native.Mathlib.Omega.{arith}
 use lib.ListN.{length}
 use Rattle.format.specs.Kinds.{REQ}
-use Rattle.format.specs.Read.{fieldsIn}
-use Rattle.put.proofs.Pieces.{put_of, put-length}
-use Rattle.agreement.proofs.Items.{text-length, text-pieces, Entered, entered-none, entered-room, entered-more, entered_all}
+use Rattle.format.specs.Read.{fields_in}
+use Rattle.put.proofs.Pieces.{put_of, put_length}
+use Rattle.agreement.proofs.Items.{text_length, text_pieces, Entered, entered_none, entered_room, entered_more, entered_all}
 use borrow.Author.Rules.{rules}
 use Rattle.agreement.proofs.put_text.Statement.{statement}
 use Rattle.agreement.proofs.put_text.Tie as tie
 
 abbrev invariant-loop : tie.invariant-loop
-invariant-loop out₀ label fields request starts lens next at₀ i₀ out at i = Entered out₀ at₀ fields (fieldsIn REQ request) out at i
+invariant-loop out₀ label fields request starts lens next at₀ i₀ out at i = Entered out₀ at₀ fields (fields_in REQ request) out at i
 
 abbrev decreases-loop : tie.decreases-loop
 decreases-loop out₀ label fields request starts lens next at₀ i₀ out at i = length fields - i
@@ -30,17 +30,17 @@ put-byte-requires c κs = search rules
 put-item-requires : tie.Need-put-item-requires invariant-loop decreases-loop
 put-item-requires c κs =
     let s = c.before.before.before.before.before.before.before.before.before in
-    let l = text-length s.args.label.now s.args.fields.now (fieldsIn REQ s.args.request.now) in
+    let l = text_length s.args.label.now s.args.fields.now (fields_in REQ s.args.request.now) in
     let first = put_of (omega (arith, s.requires.3)) c.before.before.before.put_byte.ensures in
-    (s.requires.0.short-label, omega (arith, l, s.requires.3, first.next, put-length first))
+    (s.requires.0.short_label, omega (arith, l, s.requires.3, first.next, put_length first))
 
 loop-holds : tie.Need-loop-init invariant-loop decreases-loop
 loop-holds c =
     let s = c.before.before.before.before.before.before.before.before.before.before.before.before in
-    let l = text-length s.args.label.now s.args.fields.now (fieldsIn REQ s.args.request.now) in
+    let l = text_length s.args.label.now s.args.fields.now (fields_in REQ s.args.request.now) in
     let first = put_of (omega (arith, s.requires.3)) c.before.before.before.before.before.before.put_byte.ensures in
     let second = c.before.before.put_item.ensures in
-    entered-none (omega (arith, l, s.requires.3, first.next, put-length first, second.next, put-length second))
+    entered_none (omega (arith, l, s.requires.3, first.next, put_length first, second.next, put_length second))
 
 mul-put-field : tie.Need-overflow-mul-put-field invariant-loop decreases-loop
 mul-put-field c = search rules
@@ -49,7 +49,7 @@ shared-slice-read-put-field : tie.Need-shared-slice-read-put-field invariant-loo
 shared-slice-read-put-field c = search rules
 
 put-field-requires : tie.Need-put-field-requires invariant-loop decreases-loop
-put-field-requires c κs = (c.before.before.before.before.before.before.before.before.before.before.before.before.before.before.before.before.requires.1, c.before.before.before.before.before.before.before.before.before.before.before.before.before.before.before.before.requires.2, entered-room c.before.before.before.loop.invariant c.before.before.loop-test.true)
+put-field-requires c κs = (c.before.before.before.before.before.before.before.before.before.before.before.before.before.before.before.before.requires.1, c.before.before.before.before.before.before.before.before.before.before.before.before.before.before.before.before.requires.2, entered_room c.before.before.before.loop.invariant c.before.before.loop-test.true)
 
 add-i : tie.Need-overflow-add-i invariant-loop decreases-loop
 add-i c = search rules
@@ -58,15 +58,15 @@ loop-less : tie.Need-loop-smaller invariant-loop decreases-loop
 loop-less c = search rules
 
 loop-again : tie.Need-loop-preserved invariant-loop decreases-loop
-loop-again c = entered-more c.before.before.before.before.before.before.loop.invariant c.before.before.before.before.before.loop-test.true c.before.before.put-field.ensures
+loop-again c = entered_more c.before.before.before.before.before.before.loop.invariant c.before.before.before.before.before.loop-test.true c.before.before.put-field.ensures
 
 same_length : tie.Need-same-length invariant-loop decreases-loop
-same_length c = put-length c.before.loop.invariant.way.put ∙ put-length c.before.before.before.before.put_item.ensures ∙ c.before.before.before.before.before.before.before.before.put_byte.auto.0
+same_length c = put_length c.before.loop.invariant.way.put ∙ put_length c.before.before.before.before.put_item.ensures ∙ c.before.before.before.before.before.before.before.before.put_byte.auto.0
 
 returns : tie.Need-returns invariant-loop decreases-loop
 returns c =
     let s = c.before.before.before.before.before.before.before.before.before.before.before.before.before.before in
-    text-pieces s.args.label.now s.args.fields.now (fieldsIn REQ s.args.request.now)
+    text_pieces s.args.label.now s.args.fields.now (fields_in REQ s.args.request.now)
     (put_of (omega (arith, s.requires.3)) c.before.before.before.before.before.before.before.before.put_byte.ensures)
     c.before.before.before.before.put_item.ensures
     (entered_all c.before.loop.invariant c.loop-test.false)

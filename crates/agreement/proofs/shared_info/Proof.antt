@@ -1,6 +1,6 @@
 -- `agreement::shared_info` meets its contract.
 -- Assumes nothing.
-use Rattle.agreement.specs.Texts.{sharedInfo}
+use Rattle.agreement.specs.Texts.{shared_info}
 use borrow.Author.Rules.{rules}
 use Rattle.agreement.proofs.shared_info.Statement.{statement}
 use Rattle.agreement.proofs.shared_info.Tie as tie
@@ -18,7 +18,7 @@ same_length : tie.Need-same-length
 same_length c = search rules
 
 returns : tie.Need-returns
-unfolding sharedInfo
+unfolding shared_info
 returns c = c.before.before.write-text.ensures
 
 pub shared-info-spec : {M : Type 1} → statement M

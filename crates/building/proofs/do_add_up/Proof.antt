@@ -2,7 +2,7 @@
 -- Assumes nothing.
 use Prim.Native.Nat.{◌-◌}
 use lib.ListN.{length}
-use Rattle.building.proofs.Sums.{Left, left-all, left-short, left-next, left_end}
+use Rattle.building.proofs.Sums.{Left, left_all, left_short, left_next, left_end}
 use borrow.Author.Rules.{rules}
 use Rattle.building.proofs.do_add_up.Statement.{statement}
 use Rattle.building.proofs.do_add_up.Tie as tie
@@ -14,7 +14,7 @@ abbrev decreases-loop : tie.decreases-loop
 decreases-loop lens total left₀ j₀ left j = length lens - j
 
 loop-holds : tie.Need-loop-init invariant-loop decreases-loop
-loop-holds c = left-all _ _
+loop-holds c = left_all _ _
 
 mul-if1 : tie.Need-overflow-mul-if1 invariant-loop decreases-loop
 mul-if1 c = search rules
@@ -23,7 +23,7 @@ shared-slice-read-if1 : tie.Need-shared-slice-read-if1 invariant-loop decreases-
 shared-slice-read-if1 c = search rules
 
 returns : tie.Need-returns invariant-loop decreases-loop
-returns c = left-short c.before.before.before.loop.invariant c.before.before.loop-test.true c.if1.true
+returns c = left_short c.before.before.before.loop.invariant c.before.before.loop-test.true c.if1.true
 
 mul_left : tie.Need-overflow-mul-left invariant-loop decreases-loop
 mul_left c = search rules
@@ -41,7 +41,7 @@ loop-less : tie.Need-loop-smaller invariant-loop decreases-loop
 loop-less c = search rules
 
 loop-again : tie.Need-loop-preserved invariant-loop decreases-loop
-loop-again c = left-next c.before.before.before.before.loop.invariant c.before.before.before.loop-test.true c.before.if1.false
+loop-again c = left_next c.before.before.before.before.loop.invariant c.before.before.before.loop-test.true c.before.if1.false
 
 returns-2 : tie.Need-returns-2 invariant-loop decreases-loop
 returns-2 c = left_end c.before.loop.invariant c.loop-test.false

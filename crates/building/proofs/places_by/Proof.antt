@@ -3,7 +3,7 @@
 use Prim.Native.Nat.{◌-◌, ◌≤◌}
 use native.Mathlib.Omega.{arith}
 use lib.ListN.{length}
-use Rattle.building.proofs.Pieces.{Found, found_none, found_all, found-fits, found-next}
+use Rattle.building.proofs.Pieces.{Found, found_none, found_all, found_fits, found_next}
 use borrow.Author.Rules.{rules}
 use Rattle.building.proofs.places_by.Statement.{statement}
 use Rattle.building.proofs.places_by.Tie as tie
@@ -21,7 +21,7 @@ mul-starts : tie.Need-overflow-mul-starts invariant-loop decreases-loop
 mul-starts c = omega (arith, c.loop-test.true, c.before.loop.invariant.0.few)
 
 array-write-starts : tie.Need-array-write-starts invariant-loop decreases-loop
-array-write-starts c = omega (arith, c.loop-test.true, c.before.loop.invariant.0.few, c.before.loop.invariant.0.seven-starts)
+array-write-starts c = omega (arith, c.loop-test.true, c.before.loop.invariant.0.few, c.before.loop.invariant.0.seven_starts)
 
 mul-sizes : tie.Need-overflow-mul-sizes invariant-loop decreases-loop
 mul-sizes c = search rules
@@ -33,7 +33,7 @@ mul-sizes-2 : tie.Need-overflow-mul-sizes-2 invariant-loop decreases-loop
 mul-sizes-2 c = omega (arith, c.before.loop-test.true, c.before.before.loop.invariant.0.few)
 
 array-write-sizes : tie.Need-array-write-sizes invariant-loop decreases-loop
-array-write-sizes c = omega (arith, c.before.loop-test.true, c.before.before.loop.invariant.0.few, c.before.before.loop.invariant.0.seven-sizes)
+array-write-sizes c = omega (arith, c.before.loop-test.true, c.before.before.loop.invariant.0.few, c.before.before.loop.invariant.0.seven_sizes)
 
 mul-start : tie.Need-overflow-mul-start invariant-loop decreases-loop
 mul-start c = search rules
@@ -42,7 +42,7 @@ shared-slice-read-start : tie.Need-shared-slice-read-start invariant-loop decrea
 shared-slice-read-start c = search rules
 
 add_start : tie.Need-overflow-add-start invariant-loop decreases-loop
-add_start c = omega (arith, found-fits c.before.before.before.loop.invariant.0 c.before.before.loop-test.true)
+add_start c = omega (arith, found_fits c.before.before.before.loop.invariant.0 c.before.before.loop-test.true)
 
 add-j : tie.Need-overflow-add-j invariant-loop decreases-loop
 add-j c = search rules
@@ -51,7 +51,7 @@ loop-less : tie.Need-loop-smaller invariant-loop decreases-loop
 loop-less c = search rules
 
 loop-again : tie.Need-loop-preserved invariant-loop decreases-loop
-loop-again c = (found-next c.before.before.before.loop.invariant.0 c.before.before.loop-test.true, omega arith)
+loop-again c = (found_next c.before.before.before.loop.invariant.0 c.before.before.loop-test.true, omega arith)
 
 returns : tie.Need-returns invariant-loop decreases-loop
 returns c = found_all c.before.loop.invariant.0 c.before.loop.invariant.1 c.loop-test.false

@@ -3,7 +3,7 @@
 use Prim.Native.Nat.{◌-◌}
 use mathlib.Core.Path.{◌∙◌}
 use lib.ListN.{length}
-use Rattle.building.proofs.Writing.{Through, through-none, through-length, through-all, through-next}
+use Rattle.building.proofs.Writing.{Through, through_none, through_length, through_all, through_next}
 use borrow.Author.Rules.{rules}
 use Rattle.building.proofs.put_fields.Statement.{statement}
 use Rattle.building.proofs.put_fields.Tie as tie
@@ -15,7 +15,7 @@ abbrev decreases-loop : tie.decreases-loop
 decreases-loop out₀ at mark bytes lens starts sizes next₀ j₀ out next j = length lens - j
 
 loop-holds : tie.Need-loop-init invariant-loop decreases-loop
-loop-holds c = through-none _ _ _ _ _ c.before.before.before.requires.0 c.before.before.before.requires.2
+loop-holds c = through_none _ _ _ _ _ c.before.before.before.requires.0 c.before.before.before.requires.2
 
 part-at-requires : tie.Need-part-at-requires invariant-loop decreases-loop
 part-at-requires c κs = search rules
@@ -33,13 +33,13 @@ loop-less : tie.Need-loop-smaller invariant-loop decreases-loop
 loop-less c = search rules
 
 loop-again : tie.Need-loop-preserved invariant-loop decreases-loop
-loop-again c = through-next c.before.before.before.before.before.before.before.before.before.before.loop.invariant c.before.before.before.before.before.before.before.before.before.loop-test.true (c.before.before.before.before.before.before.before.part-at.ensures.holds ∙ c.before.before.before.before.before.before.before.before.before.before.before.before.before.before.requires.1.at c.before.before.before.before.before.before.before.before.before.before.loop.j) c.before.before.before.before.before.before.put.ensures c.before.before.put_byte.ensures
+loop-again c = through_next c.before.before.before.before.before.before.before.before.before.before.loop.invariant c.before.before.before.before.before.before.before.before.before.loop-test.true (c.before.before.before.before.before.before.before.part-at.ensures.holds ∙ c.before.before.before.before.before.before.before.before.before.before.before.before.before.before.requires.1.at c.before.before.before.before.before.before.before.before.before.before.loop.j) c.before.before.before.before.before.before.put.ensures c.before.before.put_byte.ensures
 
 same_length : tie.Need-same-length invariant-loop decreases-loop
-same_length c = through-length c.before.loop.invariant
+same_length c = through_length c.before.loop.invariant
 
 returns : tie.Need-returns invariant-loop decreases-loop
-returns c = through-all c.before.loop.invariant c.loop-test.false
+returns c = through_all c.before.loop.invariant c.loop-test.false
 
 pub put-fields-spec : {M : Type 1} → statement M
 put-fields-spec =

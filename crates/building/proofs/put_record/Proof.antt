@@ -1,6 +1,6 @@
 -- `building::put_record` meets its contract: the name and its mark, the fields, the check.
 -- Assumes nothing.
-use Rattle.building.proofs.Writing.{Headed, headed, headed-room, headed-end, headed-sealed}
+use Rattle.building.proofs.Writing.{Headed, headed, headed_room, headed_end, headed_sealed}
 use borrow.Author.Rules.{rules}
 use Rattle.building.proofs.put_record.Statement.{statement}
 use Rattle.building.proofs.put_record.Tie as tie
@@ -16,7 +16,7 @@ put-byte-requires : tie.Need-put-byte-requires
 put-byte-requires c κs = search rules
 
 put-fields-requires : tie.Need-put-fields-requires
-put-fields-requires c κs = (c.before.before.before.before.before.before.before.before.before.before.before.before.before.requires.0, c.before.before.before.before.before.before.before.before.before.before.before.before.before.requires.1, headed-room (head c.before.before.before))
+put-fields-requires c κs = (c.before.before.before.before.before.before.before.before.before.before.before.before.before.requires.0, c.before.before.before.before.before.before.before.before.before.before.before.before.before.requires.1, headed_room (head c.before.before.before))
 
 sub-crc-of : tie.Need-overflow-sub-crc-of
 sub-crc-of c = search rules
@@ -25,7 +25,7 @@ part-crc-of-start : tie.Need-slice-bounds-crc-of-start
 part-crc-of-start c = search rules
 
 part-crc-of-end : tie.Need-slice-bounds-crc-of-end
-part-crc-of-end c = headed-end (head c.before.before.before.before.before.before.before) c.before.before.before.put-fields.ensures
+part-crc-of-end c = headed_end (head c.before.before.before.before.before.before.before) c.before.before.before.put-fields.ensures
 
 crc-of-requires : tie.Need-crc-of-requires
 crc-of-requires c κs = search rules
@@ -43,7 +43,7 @@ same_length : tie.Need-same-length
 same_length c = search rules
 
 returns : tie.Need-returns
-returns c = headed-sealed (head c.before.before.before.before.before.before.before.before.before.before.before.before.before.before.before) c.before.before.before.before.before.before.before.before.before.before.before.put-fields.ensures c.before.before.before.before.before.before.crc-of.ensures c.before.before.before.before.before.check-text.ensures c.before.before.put2.ensures
+returns c = headed_sealed (head c.before.before.before.before.before.before.before.before.before.before.before.before.before.before.before) c.before.before.before.before.before.before.before.before.before.before.before.put-fields.ensures c.before.before.before.before.before.before.crc-of.ensures c.before.before.before.before.before.check-text.ensures c.before.before.put2.ensures
 
 pub put-record-spec : {M : Type 1} → statement M
 put-record-spec =

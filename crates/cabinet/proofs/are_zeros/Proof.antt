@@ -3,7 +3,7 @@
 use Prim.Native.Nat.{◌-◌}
 use mathlib.Core.Path.{refl}
 use lib.ListN.{length}
-use Rattle.cabinet.proofs.Loops.{Zeros, zeros-more, zeros-all}
+use Rattle.cabinet.proofs.Loops.{Zeros, zeros_more, zeros_all}
 use borrow.Author.Rules.{rules}
 use Rattle.cabinet.proofs.are_zeros.Statement.{statement}
 use Rattle.cabinet.proofs.are_zeros.Tie as tie
@@ -27,10 +27,10 @@ loop-less : tie.Need-loop-smaller invariant-loop decreases-loop
 loop-less c = search rules
 
 loop-again : tie.Need-loop-preserved invariant-loop decreases-loop
-loop-again c = zeros-more c.before.before.before.args.s.now c.before.before.loop.seen c.before.before.loop.invariant c.before.loop-test.true
+loop-again c = zeros_more c.before.before.before.args.s.now c.before.before.loop.seen c.before.before.loop.invariant c.before.loop-test.true
 
 returns : tie.Need-returns invariant-loop decreases-loop
-returns c = zeros-all c.before.before.args.s.now c.before.loop.seen c.before.loop.invariant c.loop-test.false
+returns c = zeros_all c.before.before.args.s.now c.before.loop.seen c.before.loop.invariant c.loop-test.false
 
 pub are-zeros-spec : {M : Type 1} → statement M
 are-zeros-spec =

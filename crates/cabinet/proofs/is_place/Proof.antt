@@ -3,7 +3,7 @@
 use mathlib.Core.Path.{sym, ◌∙◌}
 use native.Mathlib.Omega.{arith}
 use borrow.Author.Tests.{not-true, not-false}
-use Rattle.cabinet.proofs.Decoding.{place-free, place-long, place-gap, place-dateless, place_other, place-number}
+use Rattle.cabinet.proofs.Decoding.{place_free, place_long, place_gap, place_dateless, place_other, place_number}
 use borrow.Author.Rules.{rules}
 use Rattle.cabinet.proofs.is_place.Statement.{statement}
 use Rattle.cabinet.proofs.is_place.Tie as tie
@@ -15,10 +15,10 @@ are-zeros-requires : tie.Need-are-zeros-requires
 are-zeros-requires c κs = search rules
 
 returns : tie.Need-returns
-returns c = c.are-zeros.ensures ∙ place-free c.before.before.before.before.args.place.now c.before.before.before.before.requires c.before.before.next-mark.ensures c.before.if1.true
+returns c = c.are-zeros.ensures ∙ place_free c.before.before.before.before.args.place.now c.before.before.before.before.requires c.before.before.next-mark.ensures c.before.if1.true
 
 returns-2 : tie.Need-returns-2
-returns-2 c = place-long c.before.before.before.before.args.place.now c.before.before.before.before.requires c.before.before.next-mark.ensures c.before.if1.false c.if2.true
+returns-2 c = place_long c.before.before.before.before.args.place.now c.before.before.before.before.requires c.before.before.next-mark.ensures c.before.if1.false c.if2.true
 
 part-are-zeros-start : tie.Need-slice-bounds-are-zeros-start
 part-are-zeros-start c = search rules
@@ -30,7 +30,7 @@ are-zeros-requires-2 : tie.Need-are-zeros-requires-2
 are-zeros-requires-2 c κs = search rules
 
 returns-3 : tie.Need-returns-3
-returns-3 c = place-gap c.before.before.before.before.before.before.before.args.place.now c.before.before.before.before.before.before.before.requires c.before.before.before.before.before.next-mark.ensures c.before.before.before.before.if1.false c.before.before.before.if2.false (sym c.before.are-zeros2.ensures ∙ not-true _ c.if3.true)
+returns-3 c = place_gap c.before.before.before.before.before.before.before.args.place.now c.before.before.before.before.before.before.before.requires c.before.before.before.before.before.next-mark.ensures c.before.before.before.before.if1.false c.before.before.before.if2.false (sym c.before.are-zeros2.ensures ∙ not-true _ c.if3.true)
 
 sub-is-tvp : tie.Need-overflow-sub-is-tvp
 sub-is-tvp c = search rules
@@ -45,7 +45,7 @@ is-tvp-requires : tie.Need-is-tvp-requires
 is-tvp-requires c κs = search rules
 
 returns-4 : tie.Need-returns-4
-returns-4 c = place-dateless c.before.before.before.before.before.before.before.before.before.before.args.place.now c.before.before.before.before.before.before.before.before.before.before.requires c.before.before.before.before.before.before.before.before.next-mark.ensures c.before.before.before.before.before.before.before.if1.false c.before.before.before.before.before.before.if2.false (sym c.before.is-tvp.ensures ∙ not-true _ c.if4.true)
+returns-4 c = place_dateless c.before.before.before.before.before.before.before.before.before.before.args.place.now c.before.before.before.before.before.before.before.before.before.before.requires c.before.before.before.before.before.before.before.before.next-mark.ensures c.before.before.before.before.before.before.before.if1.false c.before.before.before.before.before.before.if2.false (sym c.before.is-tvp.ensures ∙ not-true _ c.if4.true)
 
 sub-expiry-under : tie.Need-overflow-sub-expiry-under
 sub-expiry-under c = search rules
@@ -81,7 +81,7 @@ are-same-requires : tie.Need-are-same-requires
 are-same-requires c κs = search rules
 
 returns-6 : tie.Need-returns-6
-returns-6 c = c.are-same.ensures ∙ place-number c.before.before.before.before.before.before.before.before.before.before.before.before.before.before.before.before.before.before.before.args.place.now c.before.before.before.before.before.before.before.before.before.before.before.before.before.before.before.before.before.before.before.requires c.before.before.before.before.before.before.before.before.before.before.before.before.before.before.before.before.before.next-mark.ensures c.before.before.before.before.before.before.before.before.before.before.before.before.before.before.before.before.if1.false c.before.before.before.before.before.before.before.before.before.before.before.before.before.before.before.if2.false (sym c.before.before.before.before.before.before.before.before.before.before.before.before.before.are-zeros2.ensures ∙ not-false _ c.before.before.before.before.before.before.before.before.before.before.before.before.if3.false) (sym c.before.before.before.before.before.before.before.before.before.before.is-tvp.ensures ∙ not-false _ c.before.before.before.before.before.before.before.before.before.if4.false) c.before.before.before.before.before.before.before.expiry-under.ensures c.before.before.before.before.before.if5.false c.before.before.before.seconds-bytes.ensures
+returns-6 c = c.are-same.ensures ∙ place_number c.before.before.before.before.before.before.before.before.before.before.before.before.before.before.before.before.before.before.before.args.place.now c.before.before.before.before.before.before.before.before.before.before.before.before.before.before.before.before.before.before.before.requires c.before.before.before.before.before.before.before.before.before.before.before.before.before.before.before.before.before.next-mark.ensures c.before.before.before.before.before.before.before.before.before.before.before.before.before.before.before.before.if1.false c.before.before.before.before.before.before.before.before.before.before.before.before.before.before.before.if2.false (sym c.before.before.before.before.before.before.before.before.before.before.before.before.before.are-zeros2.ensures ∙ not-false _ c.before.before.before.before.before.before.before.before.before.before.before.before.if3.false) (sym c.before.before.before.before.before.before.before.before.before.before.is-tvp.ensures ∙ not-false _ c.before.before.before.before.before.before.before.before.before.if4.false) c.before.before.before.before.before.before.before.expiry-under.ensures c.before.before.before.before.before.if5.false c.before.before.before.seconds-bytes.ensures
 
 pub is-place-spec : {M : Type 1} → statement M
 is-place-spec =

@@ -1,6 +1,6 @@
 -- `cabinet::make_cabinet` meets its contract.
 -- Assumes nothing.
-use Rattle.cabinet.proofs.Calls.{make-short, make-done}
+use Rattle.cabinet.proofs.Calls.{make_short, make_done}
 use borrow.Author.Rules.{rules}
 use Rattle.cabinet.proofs.make_cabinet.Statement.{statement}
 use Rattle.cabinet.proofs.make_cabinet.Tie as tie
@@ -9,7 +9,7 @@ file-requires : tie.Need-file-requires
 file-requires c κs = search rules
 
 returns : tie.Need-returns
-returns c = make-short c.before.before.before.args.cabinet.now c.before.if1.true c.file.ensures
+returns c = make_short c.before.before.before.args.cabinet.now c.before.if1.true c.file.ensures
 
 sub-fill : tie.Need-overflow-sub-fill
 sub-fill c = search rules
@@ -30,7 +30,7 @@ same_length : tie.Need-same-length
 same_length c = search rules
 
 returns-2 : tie.Need-returns-2
-returns-2 c = make-done c.before.before.before.before.before.before.before.before.before.args.cabinet.now c.before.before.before.before.before.before.before.if1.false c.before.before.before.fill.ensures c.file2.ensures
+returns-2 c = make_done c.before.before.before.before.before.before.before.before.before.args.cabinet.now c.before.before.before.before.before.before.before.if1.false c.before.before.before.fill.ensures c.file2.ensures
 
 pub make-cabinet-spec : {M : Type 1} → statement M
 make-cabinet-spec =

@@ -2,7 +2,7 @@
 -- Assumes nothing.
 use Prim.Native.Nat.{◌-◌}
 use native.Mathlib.Omega.{arith}
-use Rattle.cabinet.proofs.Loops.{Tallied, tallied-none, tallied-more, next-after, tallied-all}
+use Rattle.cabinet.proofs.Loops.{Tallied, tallied_none, tallied_more, next_after, tallied_all}
 use Rattle.cabinet.proofs.occupied_in.Statement.{statement}
 use Rattle.cabinet.proofs.occupied_in.Tie as tie
 
@@ -16,7 +16,7 @@ occupied-from-requires : tie.Need-occupied-from-requires invariant-loop decrease
 occupied-from-requires c κs = (c.before.requires, omega arith)
 
 loop-holds : tie.Need-loop-init invariant-loop decreases-loop
-loop-holds c = tallied-none c.before.before.args.cabinet.now c.occupied-from.ensures
+loop-holds c = tallied_none c.before.before.args.cabinet.now c.occupied_from.ensures
 
 add-count : tie.Need-overflow-add-count invariant-loop decreases-loop
 add-count c = omega (arith, c.before.loop.invariant.few)
@@ -28,13 +28,13 @@ occupied-from-requires-2 : tie.Need-occupied-from-requires-2 invariant-loop decr
 occupied-from-requires-2 c κs = (c.before.before.before.before.requires, omega arith)
 
 loop-less : tie.Need-loop-smaller invariant-loop decreases-loop
-loop-less c = omega (arith, next-after c.before.before.before.before.before.args.cabinet.now c.occupied-from2.ensures)
+loop-less c = omega (arith, next_after c.before.before.before.before.before.args.cabinet.now c.occupied-from2.ensures)
 
 loop-again : tie.Need-loop-preserved invariant-loop decreases-loop
-loop-again c = tallied-more c.before.before.before.before.before.args.cabinet.now c.before.before.loop.invariant c.before.loop-test.true c.occupied-from2.ensures
+loop-again c = tallied_more c.before.before.before.before.before.args.cabinet.now c.before.before.loop.invariant c.before.loop-test.true c.occupied-from2.ensures
 
 returns : tie.Need-returns invariant-loop decreases-loop
-returns c = tallied-all c.before.loop.invariant c.loop-test.false
+returns c = tallied_all c.before.loop.invariant c.loop-test.false
 
 pub occupied-in-spec : {M : Type 1} → statement M
 occupied-in-spec =

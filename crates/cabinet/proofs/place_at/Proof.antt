@@ -1,7 +1,7 @@
 -- `cabinet::place_at` meets its contract.
 -- Assumes nothing.
 use native.Mathlib.Omega.{arith}
-use Rattle.cabinet.proofs.Bytes.{taken-part}
+use Rattle.cabinet.proofs.Bytes.{taken_part}
 use borrow.Author.Rules.{rules}
 use Rattle.cabinet.proofs.place_at.Statement.{statement}
 use Rattle.cabinet.proofs.place_at.Tie as tie
@@ -22,7 +22,7 @@ part-result-end : tie.Need-slice-bounds-result-end
 part-result-end c = omega (arith, c.requires.place, c.requires.long)
 
 returns : tie.Need-returns
-returns c = taken-part c.before.args.cabinet.now c.before.args.i
+returns c = taken_part c.before.args.cabinet.now c.before.args.i
 
 pub place-at-spec : {M : Type 1} → statement M
 place-at-spec =

@@ -1,7 +1,7 @@
 -- `cards::are_attributes` meets its contract: the last byte, and then the cards.
 -- Assumes nothing.
 use mathlib.Core.Path.{sym, ◌∙◌}
-use Rattle.cards.proofs.Cards.{no_bytes, open-end, ended}
+use Rattle.cards.proofs.Cards.{no_bytes, open_end, ended}
 use borrow.Author.Rules.{rules}
 use Rattle.cards.proofs.are_attributes.Statement.{statement}
 use Rattle.cards.proofs.are_attributes.Tie as tie
@@ -16,7 +16,7 @@ shared-slice-read-if2 : tie.Need-shared-slice-read-if2
 shared-slice-read-if2 c = search rules
 
 returns-2 : tie.Need-returns-2
-returns-2 c = sym (open-end _ c.before.before.if1.false c.if2.true)
+returns-2 c = sym (open_end _ c.before.before.if1.false c.if2.true)
 
 are-cards-requires : tie.Need-are-cards-requires
 are-cards-requires c κs = search rules

@@ -5,11 +5,11 @@ use mathlib.Core.Path.{◌≡◌, sym, ap₂, ◌∙◌}
 use mathlib.Core.Bool.{Bool, true}
 use lib.ListN.{length}
 use borrow.Author.Tests.{not-true, not-false}
-use Rattle.text.specs.Text.{isAlphanumeric}
+use Rattle.text.specs.Text.{is_alphanumeric}
 use Rattle.text.proofs.Loops.{rest_all}
-use Rattle.format.specs.Attributes.{appendixB, name_of, value_of, longestValue}
-use Rattle.cards.specs.Steps.{key_of, holdsAt}
-use Rattle.cards.proofs.Cards.{first_three, too_short, no_name, too_long, does-fit, fits_not}
+use Rattle.format.specs.Attributes.{appendix_b, name_of, value_of, longest_value}
+use Rattle.cards.specs.Steps.{key_of, holds_at}
+use Rattle.cards.proofs.Cards.{first_three, too_short, no_name, too_long, does_fit, fits_not}
 use borrow.Author.Rules.{rules}
 use Rattle.cards.proofs.card_key.Statement.{statement}
 use Rattle.cards.proofs.card_key.Tie as tie
@@ -61,20 +61,20 @@ does-hold-requires c κs = search rules
 
 -- what is known where the row is asked: a name, its key, a value that is not too long, and what its row says
 module _ (c : tie.After-does-hold) where
-  named : isAlphanumeric 3 (name_of c.before.before.before.before.before.before.before.before.before.before.before.before.args.card.now) ≡ true
+  named : is_alphanumeric 3 (name_of c.before.before.before.before.before.before.before.before.before.before.before.before.args.card.now) ≡ true
   named = sym c.before.before.before.before.before.before.before.before.is-alphanumeric.ensures ∙ not-false _ c.before.before.before.before.before.before.before.if2.false
 
-  its-key : c.before.key-of.result ≡ key_of (name_of c.before.before.before.before.before.before.before.before.before.before.before.before.args.card.now)
-  its-key = c.before.key-of.ensures ∙ first_three c.before.before.before.before.before.before.before.before.before.before.before.before.args.card.now
+  its_key : c.before.key-of.result ≡ key_of (name_of c.before.before.before.before.before.before.before.before.before.before.before.before.args.card.now)
+  its_key = c.before.key-of.ensures ∙ first_three c.before.before.before.before.before.before.before.before.before.before.before.before.args.card.now
 
-  short : length (value_of c.before.before.before.before.before.before.before.before.before.before.before.before.args.card.now) ≤ longestValue
+  short : length (value_of c.before.before.before.before.before.before.before.before.before.before.before.before.args.card.now) ≤ longest_value
   short = rw rest_all at c.before.before.before.before.before.if3.false
 
-  row-says : holdsAt appendixB (key_of (name_of c.before.before.before.before.before.before.before.before.before.before.before.before.args.card.now)) (value_of c.before.before.before.before.before.before.before.before.before.before.before.before.args.card.now) ≡ c.does-hold.result
-  row-says = sym (c.does-hold.ensures ∙ ap₂ {C = Bool} (λ k v. holdsAt appendixB k v) its-key (rest_all c.before.before.before.before.before.before.before.before.before.before.before.before.args.card.now 3))
+  row-says : holds_at appendix_b (key_of (name_of c.before.before.before.before.before.before.before.before.before.before.before.before.args.card.now)) (value_of c.before.before.before.before.before.before.before.before.before.before.before.before.args.card.now) ≡ c.does-hold.result
+  row-says = sym (c.does-hold.ensures ∙ ap₂ {C = Bool} (λ k v. holds_at appendix_b k v) its_key (rest_all c.before.before.before.before.before.before.before.before.before.before.before.before.args.card.now 3))
 
 returns-4 : tie.Need-returns-4
-returns-4 c = its-key c.before ∙ sym (does-fit _ (named c.before) (short c.before) (row-says c.before ∙ c.if4.true))
+returns-4 c = its_key c.before ∙ sym (does_fit _ (named c.before) (short c.before) (row-says c.before ∙ c.if4.true))
 
 returns-5 : tie.Need-returns-5
 returns-5 c = sym (fits_not _ (named c.before) (short c.before) (row-says c.before ∙ c.if4.false))

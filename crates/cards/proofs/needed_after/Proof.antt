@@ -4,41 +4,41 @@ use mathlib.Core.Path.{sym}
 use lib.Dec.{eqb}
 use borrow.Author.Tests.{eq-eqb, ne_eqb}
 use Rattle.text.specs.Text.{ascii}
-use Rattle.cards.specs.Steps.{key_of, neededAfter}
+use Rattle.cards.specs.Steps.{key_of, needed_after}
 use Rattle.cards.proofs.Needed.{either_way}
 use Rattle.cards.proofs.needed_after.Statement.{statement}
 use Rattle.cards.proofs.needed_after.Tie as tie
 
 returns : tie.Need-returns
-unfolding neededAfter
+unfolding needed_after
 returns c = rw (ne_eqb _ _ c.if1.true)
 
 returns-2 : tie.Need-returns-2
-unfolding neededAfter
+unfolding needed_after
 returns-2 c = rw (eq-eqb _ _ c.before.if1.false, c.if2.true)
 
 returns-3 : tie.Need-returns-3
-unfolding neededAfter
+unfolding needed_after
 returns-3 c = rw (eq-eqb _ _ c.before.before.if1.false, c.if3.true)
 
 returns-4 : tie.Need-returns-4
-unfolding neededAfter
+unfolding needed_after
 returns-4 c = rw (eq-eqb _ _ c.before.before.before.if1.false, c.if4.true)
 
 returns-5 : tie.Need-returns-5
-unfolding neededAfter
+unfolding needed_after
 returns-5 c = rw (eq-eqb _ _ c.before.before.before.before.if1.false, c.if5.true)
 
 returns-6 : tie.Need-returns-6
-unfolding neededAfter
+unfolding needed_after
 returns-6 c = rw (eq-eqb _ _ c.before.before.before.before.before.if1.false, c.if6.true)
 
 returns-7 : tie.Need-returns-7
-unfolding neededAfter
+unfolding needed_after
 returns-7 c = rw (eq-eqb _ _ c.before.before.before.before.before.before.if1.false, c.if7.true)
 
 returns-8 : tie.Need-returns-8
-unfolding neededAfter
+unfolding needed_after
 returns-8 c =
     rw (eq-eqb _ _ c.before.before.before.before.before.before.if1.false, ne_eqb _ _ c.before.before.before.before.before.if2.false, ne_eqb _ _ c.before.before.before.before.if3.false, ne_eqb _ _ c.before.before.before.if4.false, ne_eqb _ _ c.before.before.if5.false, ne_eqb _ _ c.before.if6.false, ne_eqb _ _ c.if7.false)
     (sym (either_way (eqb c.before.before.before.before.before.before.before.args.needed (key_of (ascii "SGC"))) 0))

@@ -4,8 +4,8 @@ use mathlib.Core.Path.{◌≡◌}
 use native.Mathlib.Omega.{arith}
 use lib.ListN.{length, length-take}
 use borrow.Author.Tests.{not-true, not-false}
-use Rattle.agreement.proofs.Request.{request-suited, request-places}
-use Rattle.confirm.proofs.Calls.{mac-tag, request-refused, z-wrong, mac-key-short, kek-short, request-tag-wrong, keys-written}
+use Rattle.agreement.proofs.Request.{request_suited, request_places}
+use Rattle.confirm.proofs.Calls.{mac_tag, request_refused, z_wrong, mac_key_short, kek_short, request_tag_wrong, keys_written}
 use borrow.Author.Rules.{rules}
 use Rattle.confirm.proofs.confirm_request.Statement.{statement}
 use Rattle.confirm.proofs.confirm_request.Tie as tie
@@ -17,30 +17,30 @@ refuse-requires : tie.Need-refuse-requires
 refuse-requires c κs = search rules
 
 returns : tie.Need-returns
-returns c = request-refused c.before.before.before.before.before.before.before.before.args.z.now c.before.before.before.before.before.before.before.before.args.request.now c.before.before.before.before.before.before.before.before.args.mac-key.now c.before.before.before.before.before.before.before.before.args.kek.now _ c.before.before.before.read-of.ensures _ c.before.if1.true c.refuse.ensures
+returns c = request_refused c.before.before.before.before.before.before.before.before.args.z.now c.before.before.before.before.before.before.before.before.args.request.now c.before.before.before.before.before.before.before.before.args.mac-key.now c.before.before.before.before.before.before.before.before.args.kek.now _ c.before.before.before.read-of.ensures _ c.before.if1.true c.refuse.ensures
 
 say-requires : tie.Need-say-requires
 say-requires c κs = search rules
 
 returns-2 : tie.Need-returns-2
-returns-2 c = z-wrong c.before.before.before.before.before.before.before.before.before.args.z.now c.before.before.before.before.before.before.before.before.before.args.request.now c.before.before.before.before.before.before.before.before.before.args.mac-key.now c.before.before.before.before.before.before.before.before.before.args.kek.now _ c.before.before.before.before.read-of.ensures c.before.before.if1.false _ c.before.if2.true c.say.ensures
+returns-2 c = z_wrong c.before.before.before.before.before.before.before.before.before.args.z.now c.before.before.before.before.before.before.before.before.before.args.request.now c.before.before.before.before.before.before.before.before.before.args.mac-key.now c.before.before.before.before.before.before.before.before.before.args.kek.now _ c.before.before.before.before.read-of.ensures c.before.before.if1.false _ c.before.if2.true c.say.ensures
 
 say-requires-2 : tie.Need-say-requires-2
 say-requires-2 c κs = search rules
 
 returns-3 : tie.Need-returns-3
-returns-3 c = mac-key-short c.before.before.before.before.before.before.before.before.before.before.args.z.now c.before.before.before.before.before.before.before.before.before.before.args.request.now c.before.before.before.before.before.before.before.before.before.before.args.mac-key.now c.before.before.before.before.before.before.before.before.before.before.args.kek.now _ c.before.before.before.before.before.read-of.ensures c.before.before.before.if1.false c.before.before.if2.false _ c.before.if3.true c.say2.ensures
+returns-3 c = mac_key_short c.before.before.before.before.before.before.before.before.before.before.args.z.now c.before.before.before.before.before.before.before.before.before.before.args.request.now c.before.before.before.before.before.before.before.before.before.before.args.mac-key.now c.before.before.before.before.before.before.before.before.before.before.args.kek.now _ c.before.before.before.before.before.read-of.ensures c.before.before.before.if1.false c.before.before.if2.false _ c.before.if3.true c.say2.ensures
 
 say-requires-3 : tie.Need-say-requires-3
 say-requires-3 c κs = search rules
 
 returns-4 : tie.Need-returns-4
-returns-4 c = kek-short c.before.before.before.before.before.before.before.before.before.before.before.args.z.now c.before.before.before.before.before.before.before.before.before.before.before.args.request.now c.before.before.before.before.before.before.before.before.before.before.before.args.mac-key.now c.before.before.before.before.before.before.before.before.before.before.before.args.kek.now _ c.before.before.before.before.before.before.read-of.ensures c.before.before.before.before.if1.false c.before.before.before.if2.false _ c.before.before.if3.false c.before.if4.true c.say3.ensures
+returns-4 c = kek_short c.before.before.before.before.before.before.before.before.before.before.before.args.z.now c.before.before.before.before.before.before.before.before.before.before.before.args.request.now c.before.before.before.before.before.before.before.before.before.before.before.args.mac-key.now c.before.before.before.before.before.before.before.before.before.before.before.args.kek.now _ c.before.before.before.before.before.before.read-of.ensures c.before.before.before.before.if1.false c.before.before.before.if2.false _ c.before.before.if3.false c.before.if4.true c.say3.ensures
 
 derived-requires : tie.Need-derived-requires
 derived-requires c κs =
     let request = c.before.before.before.before.before.before.before.before.before.before.before.before.before.before.args.request.now in
-    (request-places request _ c.before.before.before.before.before.before.before.before.before.read-of.ensures c.before.before.before.before.before.before.before.if1.false, request-suited request _ c.before.before.before.before.before.before.before.before.before.read-of.ensures c.before.before.before.before.before.before.before.if1.false)
+    (request_places request _ c.before.before.before.before.before.before.before.before.before.read-of.ensures c.before.before.before.before.before.before.before.if1.false, request_suited request _ c.before.before.before.before.before.before.before.before.before.read-of.ensures c.before.before.before.before.before.before.before.if1.false)
 
 array-share-prefix-keys : tie.Need-array-share-prefix-keys
 array-share-prefix-keys c = search rules
@@ -51,7 +51,7 @@ slice-aggregate-module-tag c = let l : length c.before.derived.result ≡ 48 = s
 module-tag-requires : tie.Need-module-tag-requires
 module-tag-requires c κs =
     let request = c.before.before.before.before.before.before.before.before.before.before.before.before.before.before.before.before.before.before.args.request.now in
-    (request-places request _ c.before.before.before.before.before.before.before.before.before.before.before.before.before.read-of.ensures c.before.before.before.before.before.before.before.before.before.before.before.if1.false, request-suited request _ c.before.before.before.before.before.before.before.before.before.before.before.before.before.read-of.ensures c.before.before.before.before.before.before.before.before.before.before.before.if1.false)
+    (request_places request _ c.before.before.before.before.before.before.before.before.before.before.before.before.before.read-of.ensures c.before.before.before.before.before.before.before.before.before.before.before.if1.false, request_suited request _ c.before.before.before.before.before.before.before.before.before.before.before.before.before.read-of.ensures c.before.before.before.before.before.before.before.before.before.before.before.if1.false)
 
 field-at-requires : tie.Need-field-at-requires
 field-at-requires c κs = search rules
@@ -61,13 +61,13 @@ slice-aggregate-is-tag c = search rules
 
 is-tag-requires : tie.Need-is-tag-requires
 is-tag-requires c κs =
-    (mac-tag c.before.before.before.before.before.before.before.before.before.before.before.before.before.before.before.before.before.before.before.before.before.before.before.args.request.now _ c.before.before.before.before.before.before.before.before.before.before.before.before.before.before.before.before.before.before.read-of.ensures c.before.before.before.before.before.before.before.before.before.before.before.before.before.before.before.before.if1.false c.before.field-at.ensures.holds, search rules)
+    (mac_tag c.before.before.before.before.before.before.before.before.before.before.before.before.before.before.before.before.before.before.before.before.before.before.before.args.request.now _ c.before.before.before.before.before.before.before.before.before.before.before.before.before.before.before.before.before.before.read-of.ensures c.before.before.before.before.before.before.before.before.before.before.before.before.before.before.before.before.if1.false c.before.field-at.ensures.holds, search rules)
 
 say-requires-4 : tie.Need-say-requires-4
 say-requires-4 c κs = search rules
 
 returns-5 : tie.Need-returns-5
-returns-5 c = request-tag-wrong c.before.before.before.before.before.before.before.before.before.before.before.before.before.before.before.before.before.before.before.before.before.before.before.before.before.before.args.z.now c.before.before.before.before.before.before.before.before.before.before.before.before.before.before.before.before.before.before.before.before.before.before.before.before.before.before.args.request.now c.before.before.before.before.before.before.before.before.before.before.before.before.before.before.before.before.before.before.before.before.before.before.before.before.before.before.args.mac-key.now c.before.before.before.before.before.before.before.before.before.before.before.before.before.before.before.before.before.before.before.before.before.before.before.before.before.before.args.kek.now _ c.before.before.before.before.before.before.before.before.before.before.before.before.before.before.before.before.before.before.before.before.before.read-of.ensures c.before.before.before.before.before.before.before.before.before.before.before.before.before.before.before.before.before.before.before.if1.false c.before.before.before.before.before.before.before.before.before.before.before.before.before.before.before.before.before.before.if2.false c.before.before.before.before.before.before.before.before.before.before.before.before.before.before.before.before.before.if3.false c.before.before.before.before.before.before.before.before.before.before.before.before.before.before.before.before.if4.false c.before.before.before.before.before.before.before.before.before.before.before.derived.ensures c.before.before.before.before.before.before.before.module-tag.ensures c.before.before.before.before.field-at.ensures.holds c.before.before.is-tag.ensures _ (not-true _ c.before.if5.true) c.say4.ensures
+returns-5 c = request_tag_wrong c.before.before.before.before.before.before.before.before.before.before.before.before.before.before.before.before.before.before.before.before.before.before.before.before.before.before.args.z.now c.before.before.before.before.before.before.before.before.before.before.before.before.before.before.before.before.before.before.before.before.before.before.before.before.before.before.args.request.now c.before.before.before.before.before.before.before.before.before.before.before.before.before.before.before.before.before.before.before.before.before.before.before.before.before.before.args.mac-key.now c.before.before.before.before.before.before.before.before.before.before.before.before.before.before.before.before.before.before.before.before.before.before.before.before.before.before.args.kek.now _ c.before.before.before.before.before.before.before.before.before.before.before.before.before.before.before.before.before.before.before.before.before.read-of.ensures c.before.before.before.before.before.before.before.before.before.before.before.before.before.before.before.before.before.before.before.if1.false c.before.before.before.before.before.before.before.before.before.before.before.before.before.before.before.before.before.before.if2.false c.before.before.before.before.before.before.before.before.before.before.before.before.before.before.before.before.before.if3.false c.before.before.before.before.before.before.before.before.before.before.before.before.before.before.before.before.if4.false c.before.before.before.before.before.before.before.before.before.before.before.derived.ensures c.before.before.before.before.before.before.before.module-tag.ensures c.before.before.before.before.field-at.ensures.holds c.before.before.is-tag.ensures _ (not-true _ c.before.if5.true) c.say4.ensures
 
 array-share-prefix-keys-2 : tie.Need-array-share-prefix-keys-2
 array-share-prefix-keys-2 c = search rules
@@ -100,7 +100,7 @@ same-length-2 : tie.Need-same-length-2
 same-length-2 c = search rules
 
 returns-6 : tie.Need-returns-6
-returns-6 c = keys-written c.before.before.before.before.before.before.before.before.before.before.before.before.before.before.before.before.before.before.before.before.before.before.before.before.before.before.before.before.before.before.before.before.before.before.before.before.before.args.z.now c.before.before.before.before.before.before.before.before.before.before.before.before.before.before.before.before.before.before.before.before.before.before.before.before.before.before.before.before.before.before.before.before.before.before.before.before.before.args.request.now c.before.before.before.before.before.before.before.before.before.before.before.before.before.before.before.before.before.before.before.before.before.before.before.before.before.before.before.before.before.before.before.before.before.before.before.before.before.args.mac-key.now c.before.before.before.before.before.before.before.before.before.before.before.before.before.before.before.before.before.before.before.before.before.before.before.before.before.before.before.before.before.before.before.before.before.before.before.before.before.args.kek.now _ c.before.before.before.before.before.before.before.before.before.before.before.before.before.before.before.before.before.before.before.before.before.before.before.before.before.before.before.before.before.before.before.before.read-of.ensures c.before.before.before.before.before.before.before.before.before.before.before.before.before.before.before.before.before.before.before.before.before.before.before.before.before.before.before.before.before.before.if1.false c.before.before.before.before.before.before.before.before.before.before.before.before.before.before.before.before.before.before.before.before.before.before.before.before.before.before.before.before.before.if2.false c.before.before.before.before.before.before.before.before.before.before.before.before.before.before.before.before.before.before.before.before.before.before.before.before.before.before.before.before.if3.false c.before.before.before.before.before.before.before.before.before.before.before.before.before.before.before.before.before.before.before.before.before.before.before.before.before.before.before.if4.false c.before.before.before.before.before.before.before.before.before.before.before.before.before.before.before.before.before.before.before.before.before.before.derived.ensures c.before.before.before.before.before.before.before.before.before.before.before.before.before.before.before.before.before.before.module-tag.ensures c.before.before.before.before.before.before.before.before.before.before.before.before.before.before.before.field-at.ensures.holds c.before.before.before.before.before.before.before.before.before.before.before.before.before.is-tag.ensures _ (not-false _ c.before.before.before.before.before.before.before.before.before.before.before.before.if5.false) c.before.before.before.before.before.before.before.before.before.put.ensures c.before.before.before.put2.ensures c.say5.ensures
+returns-6 c = keys_written c.before.before.before.before.before.before.before.before.before.before.before.before.before.before.before.before.before.before.before.before.before.before.before.before.before.before.before.before.before.before.before.before.before.before.before.before.before.args.z.now c.before.before.before.before.before.before.before.before.before.before.before.before.before.before.before.before.before.before.before.before.before.before.before.before.before.before.before.before.before.before.before.before.before.before.before.before.before.args.request.now c.before.before.before.before.before.before.before.before.before.before.before.before.before.before.before.before.before.before.before.before.before.before.before.before.before.before.before.before.before.before.before.before.before.before.before.before.before.args.mac-key.now c.before.before.before.before.before.before.before.before.before.before.before.before.before.before.before.before.before.before.before.before.before.before.before.before.before.before.before.before.before.before.before.before.before.before.before.before.before.args.kek.now _ c.before.before.before.before.before.before.before.before.before.before.before.before.before.before.before.before.before.before.before.before.before.before.before.before.before.before.before.before.before.before.before.before.read-of.ensures c.before.before.before.before.before.before.before.before.before.before.before.before.before.before.before.before.before.before.before.before.before.before.before.before.before.before.before.before.before.before.if1.false c.before.before.before.before.before.before.before.before.before.before.before.before.before.before.before.before.before.before.before.before.before.before.before.before.before.before.before.before.before.if2.false c.before.before.before.before.before.before.before.before.before.before.before.before.before.before.before.before.before.before.before.before.before.before.before.before.before.before.before.before.if3.false c.before.before.before.before.before.before.before.before.before.before.before.before.before.before.before.before.before.before.before.before.before.before.before.before.before.before.before.if4.false c.before.before.before.before.before.before.before.before.before.before.before.before.before.before.before.before.before.before.before.before.before.before.derived.ensures c.before.before.before.before.before.before.before.before.before.before.before.before.before.before.before.before.before.before.module-tag.ensures c.before.before.before.before.before.before.before.before.before.before.before.before.before.before.before.field-at.ensures.holds c.before.before.before.before.before.before.before.before.before.before.before.before.before.is-tag.ensures _ (not-false _ c.before.before.before.before.before.before.before.before.before.before.before.before.if5.false) c.before.before.before.before.before.before.before.before.before.put.ensures c.before.before.before.put2.ensures c.say5.ensures
 
 pub confirm-request-spec : {M : Type 1} → statement M
 confirm-request-spec =

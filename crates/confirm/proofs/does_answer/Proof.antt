@@ -2,7 +2,7 @@
 -- Assumes nothing.
 use borrow.Author.Tests.{not-true, not-false}
 use Rattle.places.specs.Places.{field_at}
-use Rattle.confirm.proofs.Records.{first-apart, second-apart, all_alike}
+use Rattle.confirm.proofs.Records.{first_apart, second_apart, all_alike}
 use borrow.Author.Rules.{rules}
 use Rattle.confirm.proofs.does_answer.Statement.{statement}
 use Rattle.confirm.proofs.does_answer.Tie as tie
@@ -19,7 +19,7 @@ are-same-requires c κs = search rules
 returns : tie.Need-returns
 returns c =
     let a = c.before.before.before.before.before.before.args in
-    first-apart (field_at a.request.now a.starts.now a.lens.now) (field_at a.response.now a.its-starts.now a.its-lens.now)
+    first_apart (field_at a.request.now a.starts.now a.lens.now) (field_at a.response.now a.its-starts.now a.its-lens.now)
     c.before.before.before.field-at.ensures.holds c.before.before.field-at2.ensures.holds c.before.are-same.ensures (not-true _ c.if1.true)
 
 field-at-requires-3 : tie.Need-field-at-requires-3
@@ -34,7 +34,7 @@ are-same-requires-2 c κs = search rules
 returns-2 : tie.Need-returns-2
 returns-2 c =
     let a = c.before.before.before.before.before.before.before.before.before.before.args in
-    second-apart (field_at a.request.now a.starts.now a.lens.now) (field_at a.response.now a.its-starts.now a.its-lens.now)
+    second_apart (field_at a.request.now a.starts.now a.lens.now) (field_at a.response.now a.its-starts.now a.its-lens.now)
     c.before.before.before.before.before.before.before.field-at.ensures.holds c.before.before.before.before.before.before.field-at2.ensures.holds c.before.before.before.before.before.are-same.ensures (not-false _ c.before.before.before.before.if1.false)
     c.before.before.before.field-at3.ensures.holds c.before.before.field-at4.ensures.holds c.before.are-same2.ensures (not-true _ c.if2.true)
 

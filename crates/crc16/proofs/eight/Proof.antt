@@ -2,7 +2,7 @@
 -- Assumes nothing.
 use borrow.Author.Rules.{rules}
 use mathlib.Core.Path.{ap, ◌∙◌}
-use Rattle.crc16.specs.Crc.{bitStep, bitSteps}
+use Rattle.crc16.specs.Crc.{bit_step, bit_steps}
 use Rattle.crc16.proofs.eight.Statement.{statement}
 use Rattle.crc16.proofs.eight.Tie as tie
 
@@ -31,16 +31,16 @@ bit-requires-8 : tie.Need-bit-requires-8
 bit-requires-8 c κs = search rules
 
 returns : tie.Need-returns
-unfolding bitSteps
+unfolding bit_steps
 returns c =
     c.bit8.ensures
-    ∙ ap bitStep (c.before.bit7.ensures
-    ∙ ap bitStep (c.before.before.bit6.ensures
-    ∙ ap bitStep (c.before.before.before.bit5.ensures
-    ∙ ap bitStep (c.before.before.before.before.bit4.ensures
-    ∙ ap bitStep (c.before.before.before.before.before.bit3.ensures
-    ∙ ap bitStep (c.before.before.before.before.before.before.bit2.ensures
-    ∙ ap bitStep c.before.before.before.before.before.before.before.bit.ensures))))))
+    ∙ ap bit_step (c.before.bit7.ensures
+    ∙ ap bit_step (c.before.before.bit6.ensures
+    ∙ ap bit_step (c.before.before.before.bit5.ensures
+    ∙ ap bit_step (c.before.before.before.before.bit4.ensures
+    ∙ ap bit_step (c.before.before.before.before.before.bit3.ensures
+    ∙ ap bit_step (c.before.before.before.before.before.before.bit2.ensures
+    ∙ ap bit_step c.before.before.before.before.before.before.before.bit.ensures))))))
 
 pub eight-spec : {M : Type 1} → statement M
 eight-spec =

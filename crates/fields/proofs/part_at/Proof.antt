@@ -21,7 +21,7 @@ part-result-end : tie.Need-slice-bounds-result-end
 part-result-end c = search rules
 
 returns : tie.Need-returns
-returns c = let a = c.before.before.args in let e : a.place.start + a.place.len - a.place.start ≡ a.place.len = omega arith in record { its-part = record { stands = refl; holds = ap (λ (n : ℕ). take n (drop a.place.start a.s.now)) e }; its-no = refl; its-field = refl }
+returns c = let a = c.before.before.args in let e : a.place.start + a.place.len - a.place.start ≡ a.place.len = omega arith in record { its_part = record { stands = refl; holds = ap (λ (n : ℕ). take n (drop a.place.start a.s.now)) e }; its_no = refl; its_field = refl }
 
 pub part-at-spec : {M : Type 1} → statement M
 part-at-spec = tie.close (tie.spec add-end sub-result part-result-start part-result-end returns)

@@ -3,15 +3,15 @@
 use Prim.Native.Nat.{◌-◌}
 use mathlib.Core.Path.{◌≡◌, sym, ◌∙◌}
 use lib.ListN.{length}
-use Rattle.format.specs.Files.{lineFeed}
-use Rattle.frame.proofs.Parts.{next_here, next-on, next-end}
-use Rattle.files.specs.Walk.{lineEnd}
+use Rattle.format.specs.Files.{line_feed}
+use Rattle.frame.proofs.Parts.{next_here, next_on, next_end}
+use Rattle.files.specs.Walk.{line_end}
 use borrow.Author.Rules.{rules}
 use Rattle.files.proofs.line_end.Statement.{statement}
 use Rattle.files.proofs.line_end.Tie as tie
 
 abbrev invariant-loop : tie.invariant-loop
-invariant-loop file place i₀ i = lineEnd file i ≡ lineEnd file place
+invariant-loop file place i₀ i = line_end file i ≡ line_end file place
 
 abbrev decreases-loop : tie.decreases-loop
 decreases-loop file place i₀ i = length file - i
@@ -29,10 +29,10 @@ loop-less : tie.Need-loop-smaller invariant-loop decreases-loop
 loop-less c = search rules
 
 loop-again : tie.Need-loop-preserved invariant-loop decreases-loop
-loop-again c = next-on _ _ _ c.before.before.if1.false c.if2.false ∙ c.before.before.before.loop.invariant
+loop-again c = next_on _ _ _ c.before.before.if1.false c.if2.false ∙ c.before.before.before.loop.invariant
 
 returns : tie.Need-returns invariant-loop decreases-loop
-returns c = sym (next-end lineFeed c.before.before.args.file.now c.before.loop.i c.if1.true) ∙ c.before.loop.invariant
+returns c = sym (next_end line_feed c.before.before.args.file.now c.before.loop.i c.if1.true) ∙ c.before.loop.invariant
 
 returns-2 : tie.Need-returns-2 invariant-loop decreases-loop
 returns-2 c = sym (next_here _ _ _ c.before.before.if1.false c.if2.true) ∙ c.before.before.before.loop.invariant

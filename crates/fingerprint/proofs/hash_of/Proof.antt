@@ -1,8 +1,8 @@
 -- `fingerprint::hash_of` meets its contract.
 -- Assumes nothing.
 use mathlib.Core.Path.{◌∙◌}
-use Rattle.hashing.specs.State.{addedAll}
-use Rattle.fingerprint.proofs.Prints.{hashed-pieces}
+use Rattle.hashing.specs.State.{added_all}
+use Rattle.fingerprint.proofs.Prints.{hashed_pieces}
 use borrow.Author.Rules.{rules}
 use Rattle.fingerprint.proofs.hash_of.Statement.{statement}
 use Rattle.fingerprint.proofs.hash_of.Tie as tie
@@ -35,8 +35,8 @@ end-requires : tie.Need-end-requires
 end-requires c κs = search rules
 
 returns : tie.Need-returns
-unfolding addedAll
-returns c = c.end.ensures ∙ rw (c.before.add3.ensures, c.before.before.before.add2.ensures, c.before.before.before.before.add.ensures, c.before.before.before.before.before.before.begin.ensures, c.before.before.before.before.before.front_of.ensures, c.before.before.before.before.before.before.before.field-at2.ensures.holds, c.before.before.before.before.before.before.before.before.field-at.ensures.holds) (hashed-pieces _ _)
+unfolding added_all
+returns c = c.end.ensures ∙ rw (c.before.add3.ensures, c.before.before.before.add2.ensures, c.before.before.before.before.add.ensures, c.before.before.before.before.before.before.begin.ensures, c.before.before.before.before.before.front_of.ensures, c.before.before.before.before.before.before.before.field-at2.ensures.holds, c.before.before.before.before.before.before.before.before.field-at.ensures.holds) (hashed_pieces _ _)
 
 pub hash-of-spec : {M : Type 1} → statement M
 hash-of-spec =

@@ -6,7 +6,7 @@ use mathlib.Core.List.{List}
 use native.Mathlib.Omega.{arith}
 use lib.ListN.{length, take, length-take}
 use Rattle.text.specs.Base16.{base16}
-use Rattle.fingerprint.proofs.Prints.{half-print, front-written}
+use Rattle.fingerprint.proofs.Prints.{half_print, front_written}
 use borrow.Author.Rules.{rules}
 use Rattle.fingerprint.proofs.right_print.Statement.{statement}
 use Rattle.fingerprint.proofs.right_print.Tie as tie
@@ -25,7 +25,7 @@ slice-aggregate-put-hex c = search rules
 
 -- half of what stands there, once the hash is made
 eight : (c : tie.After-hash-of) → length c.before.field_in.result.now / 2 ≡ 8
-eight c = half-print _ c.before.field_in.ensures.holds c.before.before.field-at.ensures.holds c.before.before.before.before.requires
+eight c = half_print _ c.before.field_in.ensures.holds c.before.before.field-at.ensures.holds c.before.before.before.before.requires
 
 array-share-prefix-hash : tie.Need-array-share-prefix-hash
 array-share-prefix-hash c = let l : length c.before.hash-of.result ≡ 48 = search rules in omega (arith, l, eight c.before)
@@ -40,7 +40,7 @@ returns : tie.Need-returns
 returns c =
     let h = c.before.before.before.before.hash-of.result in
     let l : length h ≡ 48 = search rules in
-    front-written h (eight c.before.before.before.before) l c.before.put-hex.ensures
+    front_written h (eight c.before.before.before.before) l c.before.put-hex.ensures
     ∙ ap (λ (x : List ℕ). base16 (take 8 x)) c.before.before.before.before.hash-of.ensures
 
 pub right-print-spec : {M : Type 1} → statement M

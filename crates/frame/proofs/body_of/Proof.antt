@@ -1,7 +1,7 @@
 -- `frame::body_of` meets its contract.
 -- Assumes nothing.
 use mathlib.Core.Path.{refl}
-use Rattle.frame.proofs.Check.{body-part}
+use Rattle.frame.proofs.Check.{body_part}
 use borrow.Author.Rules.{rules}
 use Rattle.frame.proofs.body_of.Statement.{statement}
 use Rattle.frame.proofs.body_of.Tie as tie
@@ -19,7 +19,7 @@ part-result-end : tie.Need-slice-bounds-result-end
 part-result-end c = search rules
 
 returns : tie.Need-returns
-returns c = record { stands = refl; holds = body-part c.before.before.before.args.s.now _ c.before.body-length.ensures }
+returns c = record { stands = refl; holds = body_part c.before.before.before.args.s.now _ c.before.body-length.ensures }
 
 pub body-of-spec : {M : Type 1} → statement M
 body-of-spec =

@@ -4,18 +4,18 @@ use mathlib.Core.Path.{◌≡◌, sym, ap, ◌∙◌}
 use mathlib.Core.Bool.{Bool, cond}
 use borrow.Author.Tests.{not-true, not-false}
 use Rattle.text.specs.Text.{same}
-use Rattle.text.specs.Base16.{checkText}
-use Rattle.format.specs.Read.{checkNo}
-use Rattle.frame.proofs.Check.{check-form, check-mark, check-then}
+use Rattle.text.specs.Base16.{check_text}
+use Rattle.format.specs.Read.{check_no}
+use Rattle.frame.proofs.Check.{check_form, check_mark, check_then}
 use borrow.Author.Rules.{rules}
 use Rattle.frame.proofs.check_no.Statement.{statement}
 use Rattle.frame.proofs.check_no.Tie as tie
 
 -- past the tests of the form: the comparison decides
-formed : (c : tie.After-are-same) → checkNo c.before.before.before.before.before.before.before.before.before.before.before.args.mark c.before.before.before.before.before.before.before.before.before.before.before.args.s.now ≡ cond c.are-same.result 0 4
+formed : (c : tie.After-are-same) → check_no c.before.before.before.before.before.before.before.before.before.before.before.args.mark c.before.before.before.before.before.before.before.before.before.before.before.args.s.now ≡ cond c.are-same.result 0 4
 formed c =
-    check-then _ _ c.before.before.before.before.before.before.before.before.before.check-of.ensures (sym c.before.before.before.before.before.before.before.before.is-hex.ensures ∙ not-false _ c.before.before.before.before.before.before.before.if1.false) c.before.before.before.before.before.before.body_of.ensures.holds (sym c.before.before.before.before.before.ends-in.ensures ∙ not-false _ c.before.before.before.before.if2.false)
-    ∙ ap (λ (x : Bool). cond x 0 4) (ap (same c.before.before.before.before.before.before.before.before.before.check-of.result.now) (sym (c.before.before.check-text.ensures ∙ ap checkText c.before.before.before.crc-of.ensures)) ∙ sym c.are-same.ensures)
+    check_then _ _ c.before.before.before.before.before.before.before.before.before.check_of.ensures (sym c.before.before.before.before.before.before.before.before.is-hex.ensures ∙ not-false _ c.before.before.before.before.before.before.before.if1.false) c.before.before.before.before.before.before.body_of.ensures.holds (sym c.before.before.before.before.before.ends-in.ensures ∙ not-false _ c.before.before.before.before.if2.false)
+    ∙ ap (λ (x : Bool). cond x 0 4) (ap (same c.before.before.before.before.before.before.before.before.before.check_of.result.now) (sym (c.before.before.check-text.ensures ∙ ap check_text c.before.before.before.crc-of.ensures)) ∙ sym c.are-same.ensures)
 
 check-of-requires : tie.Need-check-of-requires
 check-of-requires c κs = search rules
@@ -24,7 +24,7 @@ is-hex-requires : tie.Need-is-hex-requires
 is-hex-requires c κs = search rules
 
 returns : tie.Need-returns
-returns c = sym (check-form _ _ c.before.before.check-of.ensures (sym c.before.is-hex.ensures ∙ not-true _ c.if1.true))
+returns c = sym (check_form _ _ c.before.before.check_of.ensures (sym c.before.is-hex.ensures ∙ not-true _ c.if1.true))
 
 body-of-requires : tie.Need-body-of-requires
 body-of-requires c κs = search rules
@@ -33,7 +33,7 @@ ends-in-requires : tie.Need-ends-in-requires
 ends-in-requires c κs = search rules
 
 returns-2 : tie.Need-returns-2
-returns-2 c = sym (check-mark _ _ c.before.before.before.before.before.check-of.ensures (sym c.before.before.before.before.is-hex.ensures ∙ not-false _ c.before.before.before.if1.false) c.before.before.body_of.ensures.holds (sym c.before.ends-in.ensures ∙ not-true _ c.if2.true))
+returns-2 c = sym (check_mark _ _ c.before.before.before.before.before.check_of.ensures (sym c.before.before.before.before.is-hex.ensures ∙ not-false _ c.before.before.before.if1.false) c.before.before.body_of.ensures.holds (sym c.before.ends-in.ensures ∙ not-true _ c.if2.true))
 
 crc-of-requires : tie.Need-crc-of-requires
 crc-of-requires c κs = search rules

@@ -1,6 +1,6 @@
 -- `frame::check_of` meets its contract.
 -- Assumes nothing.
-use Rattle.frame.proofs.Check.{check-part}
+use Rattle.frame.proofs.Check.{check_part}
 use borrow.Author.Rules.{rules}
 use Rattle.frame.proofs.check_of.Statement.{statement}
 use Rattle.frame.proofs.check_of.Tie as tie
@@ -18,7 +18,7 @@ part-result-end : tie.Need-slice-bounds-result-end
 part-result-end c = search rules
 
 returns : tie.Need-returns
-returns c = check-part c.before.before.before.args.s.now _ c.before.body-length.ensures
+returns c = check_part c.before.before.before.args.s.now _ c.before.body-length.ensures
 
 pub check-of-spec : {M : Type 1} → statement M
 check-of-spec =

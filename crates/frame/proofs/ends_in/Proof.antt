@@ -1,12 +1,12 @@
 -- `frame::ends_in` meets its contract.
 -- Assumes nothing.
-use Rattle.frame.proofs.Check.{ends-none, ends_some}
+use Rattle.frame.proofs.Check.{ends_none, ends_some}
 use borrow.Author.Rules.{rules}
 use Rattle.frame.proofs.ends_in.Statement.{statement}
 use Rattle.frame.proofs.ends_in.Tie as tie
 
 returns : tie.Need-returns
-returns c = ends-none c.before.args.mark c.before.args.s.now c.if1.true
+returns c = ends_none c.before.args.mark c.before.args.s.now c.if1.true
 
 sub_at : tie.Need-overflow-sub-at
 sub_at c = search rules

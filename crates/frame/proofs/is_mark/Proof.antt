@@ -3,15 +3,15 @@
 use mathlib.Core.Path.{sym, ◌∙◌}
 use mathlib.Core.Bool.{or-false}
 use borrow.Author.Tests.{eq-eqb, ne_eqb}
-use Rattle.text.proofs.Tests.{or-stop, or-on}
+use Rattle.text.proofs.Tests.{or_stop, or_on}
 use Rattle.frame.proofs.is_mark.Statement.{statement}
 use Rattle.frame.proofs.is_mark.Tie as tie
 
 returns : tie.Need-returns
-returns c = sym (or-stop _ _ (eq-eqb _ _ c.if1.true))
+returns c = sym (or_stop _ _ (eq-eqb _ _ c.if1.true))
 
 returns-2 : tie.Need-returns-2
-returns-2 c = sym (or-on _ _ (ne_eqb _ _ c.if1.false) ∙ or-false _)
+returns-2 c = sym (or_on _ _ (ne_eqb _ _ c.if1.false) ∙ or-false _)
 
 pub is-mark-spec : {M : Type 1} → statement M
 is-mark-spec = tie.close (tie.spec returns returns-2)

@@ -3,14 +3,14 @@
 use Prim.Native.Nat.{◌-◌}
 use mathlib.Core.Path.{◌≡◌, refl, sym, ◌∙◌}
 use lib.ListN.{length}
-use Rattle.frame.specs.Frame.{nextMark}
-use Rattle.frame.proofs.Parts.{next_here, next-on, next-end}
+use Rattle.frame.specs.Frame.{next_mark}
+use Rattle.frame.proofs.Parts.{next_here, next_on, next_end}
 use borrow.Author.Rules.{rules}
 use Rattle.frame.proofs.next_mark.Statement.{statement}
 use Rattle.frame.proofs.next_mark.Tie as tie
 
 abbrev invariant-loop : tie.invariant-loop
-invariant-loop mark s from i₀ i = nextMark mark s i ≡ nextMark mark s from
+invariant-loop mark s from i₀ i = next_mark mark s i ≡ next_mark mark s from
 
 abbrev decreases-loop : tie.decreases-loop
 decreases-loop mark s from i₀ i = length s - i
@@ -31,10 +31,10 @@ loop-less : tie.Need-loop-smaller invariant-loop decreases-loop
 loop-less c = search rules
 
 loop-again : tie.Need-loop-preserved invariant-loop decreases-loop
-loop-again c = next-on _ _ _ c.before.before.loop-test.true c.if1.false ∙ c.before.before.before.loop.invariant
+loop-again c = next_on _ _ _ c.before.before.loop-test.true c.if1.false ∙ c.before.before.before.loop.invariant
 
 returns-2 : tie.Need-returns-2 invariant-loop decreases-loop
-returns-2 c = sym (next-end _ _ _ c.loop-test.false) ∙ c.before.loop.invariant
+returns-2 c = sym (next_end _ _ _ c.loop-test.false) ∙ c.before.loop.invariant
 
 pub next-mark-spec : {M : Type 1} → statement M
 next-mark-spec =

@@ -4,8 +4,8 @@ use Prim.Native.Nat.{◌-◌, ◌≤◌}
 use mathlib.Core.Path.{ap, ◌∙◌}
 use native.Mathlib.Omega.{arith}
 use lib.ListN.{length}
-use Rattle.frame.specs.Frame.{partStart}
-use Rattle.frame.proofs.Parts.{Walk, walk_start, walk-on, walk-last, next-from, next-within}
+use Rattle.frame.specs.Frame.{part_start}
+use Rattle.frame.proofs.Parts.{Walk, walk_start, walk_on, walk_last, next_from, next_within}
 use borrow.Author.Rules.{rules}
 use Rattle.frame.proofs.part_start.Statement.{statement}
 use Rattle.frame.proofs.part_start.Tie as tie
@@ -20,25 +20,25 @@ loop-holds : tie.Need-loop-init invariant-loop decreases-loop
 loop-holds c = (walk_start _ _, omega arith)
 
 returns : tie.Need-returns invariant-loop decreases-loop
-returns c = c.before.before.loop.invariant.0.start ∙ ap (partStart _ _) c.if1.true
+returns c = c.before.before.loop.invariant.0.start ∙ ap (part_start _ _) c.if1.true
 
 next-mark-requires : tie.Need-next-mark-requires invariant-loop decreases-loop
 next-mark-requires c κs = search rules
 
 add-i : tie.Need-overflow-add-i invariant-loop decreases-loop
-add-i c = let a = c.before.before.before.before.before.args in let l = c.before.before.before.loop in omega (arith, c.next-mark.ensures, next-within a.mark a.s.now l.i (omega arith))
+add-i c = let a = c.before.before.before.before.before.args in let l = c.before.before.before.loop in omega (arith, c.next-mark.ensures, next_within a.mark a.s.now l.i (omega arith))
 
 add-k : tie.Need-overflow-add-k invariant-loop decreases-loop
 add-k c = omega (arith, c.before.before.before.loop.invariant.0.few)
 
 loop-less : tie.Need-loop-smaller invariant-loop decreases-loop
-loop-less c = let a = c.before.before.before.before.before.args in let l = c.before.before.before.loop in omega (arith, c.next-mark.ensures, next-from a.mark a.s.now l.i)
+loop-less c = let a = c.before.before.before.before.before.args in let l = c.before.before.before.loop in omega (arith, c.next-mark.ensures, next_from a.mark a.s.now l.i)
 
 loop-again : tie.Need-loop-preserved invariant-loop decreases-loop
-loop-again c = let l = c.before.before.before.loop in (walk-on _ _ _ _ l.invariant.0 c.before.before.loop-test.true _ c.next-mark.ensures, omega (arith, c.before.if1.false, l.invariant.1))
+loop-again c = let l = c.before.before.before.loop in (walk_on _ _ _ _ l.invariant.0 c.before.before.loop-test.true _ c.next-mark.ensures, omega (arith, c.before.if1.false, l.invariant.1))
 
 returns-2 : tie.Need-returns-2 invariant-loop decreases-loop
-returns-2 c = let l = c.before.loop in walk-last _ _ _ _ l.invariant.0 c.loop-test.false _ l.invariant.1
+returns-2 c = let l = c.before.loop in walk_last _ _ _ _ l.invariant.0 c.loop-test.false _ l.invariant.1
 
 pub part-start-spec : {M : Type 1} → statement M
 part-start-spec =

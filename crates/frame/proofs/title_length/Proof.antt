@@ -5,7 +5,7 @@ use mathlib.Core.Path.{◌≡◌, sym, ◌∙◌}
 use native.Mathlib.Omega.{arith}
 use lib.ListN.{length, drop}
 use Rattle.format.specs.Read.{title}
-use Rattle.frame.proofs.Title.{title-here, title-on, title-end}
+use Rattle.frame.proofs.Title.{title_here, title_on, title_end}
 use borrow.Author.Rules.{rules}
 use Rattle.frame.proofs.title_length.Statement.{statement}
 use Rattle.frame.proofs.title_length.Tie as tie
@@ -26,7 +26,7 @@ is-mark-requires : tie.Need-is-mark-requires invariant-loop decreases-loop
 is-mark-requires c κs = search rules
 
 returns : tie.Need-returns invariant-loop decreases-loop
-returns c = omega (arith, title-here c.before.before.before.before.before.before.args.s.now c.before.before.before.before.loop.i c.before.before.before.loop-test.true (sym c.before.is-mark.ensures ∙ c.if1.true), c.before.before.before.before.loop.invariant)
+returns c = omega (arith, title_here c.before.before.before.before.before.before.args.s.now c.before.before.before.before.loop.i c.before.before.before.loop-test.true (sym c.before.is-mark.ensures ∙ c.if1.true), c.before.before.before.before.loop.invariant)
 
 add-i : tie.Need-overflow-add-i invariant-loop decreases-loop
 add-i c = search rules
@@ -35,10 +35,10 @@ loop-less : tie.Need-loop-smaller invariant-loop decreases-loop
 loop-less c = search rules
 
 loop-again : tie.Need-loop-preserved invariant-loop decreases-loop
-loop-again c = omega (arith, title-on c.before.before.before.before.before.before.args.s.now c.before.before.before.before.loop.i c.before.before.before.loop-test.true (sym c.before.is-mark.ensures ∙ c.if1.false), c.before.before.before.before.loop.invariant)
+loop-again c = omega (arith, title_on c.before.before.before.before.before.before.args.s.now c.before.before.before.before.loop.i c.before.before.before.loop-test.true (sym c.before.is-mark.ensures ∙ c.if1.false), c.before.before.before.before.loop.invariant)
 
 returns-2 : tie.Need-returns-2 invariant-loop decreases-loop
-returns-2 c = omega (arith, title-end c.before.before.before.args.s.now c.before.loop.i c.loop-test.false, c.before.loop.invariant)
+returns-2 c = omega (arith, title_end c.before.before.before.args.s.now c.before.loop.i c.loop-test.false, c.before.loop.invariant)
 
 pub title-length-spec : {M : Type 1} → statement M
 title-length-spec =

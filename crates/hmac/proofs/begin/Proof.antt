@@ -1,6 +1,6 @@
 -- `hmac::begin` meets its contract.
 -- Assumes nothing.
-use Rattle.hmac.specs.State.{hmacBegun}
+use Rattle.hmac.specs.State.{hmac_begun}
 use borrow.Author.Rules.{rules}
 use Rattle.hmac.proofs.begin.Statement.{statement}
 use Rattle.hmac.proofs.begin.Tie as tie
@@ -9,7 +9,7 @@ keyed-requires : tie.Need-keyed-requires
 keyed-requires c κs = search rules
 
 returns : tie.Need-returns
-unfolding hmacBegun
+unfolding hmac_begun
 returns c = c.keyed.ensures
 
 pub begin-spec : {M : Type 1} → statement M

@@ -4,7 +4,7 @@ use mathlib.Core.Path.{◌≡◌, ap, ap₂, ◌∙◌}
 use native.Mathlib.Omega.{arith}
 use lib.ListN.{length, length-take}
 use Rattle.sha384.specs.State.{added, ended}
-use Rattle.hmac.proofs.Tags.{tag-ended}
+use Rattle.hmac.proofs.Tags.{tag_ended}
 use borrow.Author.Rules.{rules}
 use Rattle.hmac.proofs.end.Statement.{statement}
 use Rattle.hmac.proofs.end.Tie as tie
@@ -39,7 +39,7 @@ put-requires c κs = search rules
 returns : tie.Need-returns
 returns c =
     let mac = c.before.before.before.before.end2.ensures ∙ ap ended (c.before.before.before.before.before.add.ensures ∙ ap₂ added c.before.before.before.before.before.before.before.keyed.ensures c.before.before.before.before.before.before.before.before.end.ensures) in
-    tag-ended c.before.before.before.before.before.before.before.before.before.before.args.key.now c.before.before.before.before.before.before.before.before.before.before.args.given (search rules) mac c.before.put.ensures
+    tag_ended c.before.before.before.before.before.before.before.before.before.before.args.key.now c.before.before.before.before.before.before.before.before.before.before.args.given (search rules) mac c.before.put.ensures
 
 pub end-spec : {M : Type 1} → statement M
 end-spec =

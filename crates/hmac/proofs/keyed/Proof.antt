@@ -3,7 +3,7 @@
 use Prim.Native.Nat.{◌-◌}
 use mathlib.Core.Path.{ap₂, ◌∙◌}
 use Rattle.sha384.specs.State.{added}
-use Rattle.hmac.proofs.Keys.{Mixing, mixing-none, mixing-more, mixing-all}
+use Rattle.hmac.proofs.Keys.{Mixing, mixing_none, mixing_more, mixing_all}
 use borrow.Author.Rules.{rules}
 use Rattle.hmac.proofs.keyed.Statement.{statement}
 use Rattle.hmac.proofs.keyed.Tie as tie
@@ -18,7 +18,7 @@ key-block-requires : tie.Need-key-block-requires invariant-loop decreases-loop
 key-block-requires c κs = search rules
 
 loop-holds : tie.Need-loop-init invariant-loop decreases-loop
-loop-holds c = mixing-none (search rules)
+loop-holds c = mixing_none (search rules)
 
 array-read-block : tie.Need-array-read-block invariant-loop decreases-loop
 array-read-block c = search rules
@@ -33,7 +33,7 @@ loop-less : tie.Need-loop-smaller invariant-loop decreases-loop
 loop-less c = search rules
 
 loop-again : tie.Need-loop-preserved invariant-loop decreases-loop
-loop-again c = mixing-more c.before.loop.invariant c.loop-test.true
+loop-again c = mixing_more c.before.loop.invariant c.loop-test.true
 
 begin-requires : tie.Need-begin-requires invariant-loop decreases-loop
 begin-requires c κs = search rules
@@ -46,7 +46,7 @@ add-requires c κs = search rules
 
 returns : tie.Need-returns invariant-loop decreases-loop
 returns c =
-    let mix = mixing-all c.before.before.before.before.loop.invariant c.before.before.before.before.before.before.before.args.key.now c.before.before.before.before.before.key-block.ensures c.before.before.before.loop-test.false in
+    let mix = mixing_all c.before.before.before.before.loop.invariant c.before.before.before.before.before.before.before.args.key.now c.before.before.before.before.before.key-block.ensures c.before.before.before.loop-test.false in
     c.add.ensures ∙ ap₂ added c.before.before.begin.ensures mix
 
 pub keyed-spec : {M : Type 1} → statement M

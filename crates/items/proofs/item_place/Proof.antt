@@ -2,7 +2,7 @@
 -- Assumes nothing.
 use Prim.Native.Nat.{◌-◌}
 use native.Mathlib.Omega.{arith}
-use Rattle.items.proofs.Walk.{Passed, placed-none, no_text, number-zero, walked_none, no_length, no_bytes, walked_more, walked-there, bytes-behind, too_few, found}
+use Rattle.items.proofs.Walk.{Passed, placed_none, no_text, number_zero, walked_none, no_length, no_bytes, walked_more, walked_there, bytes_behind, too_few, found}
 use borrow.Author.Rules.{rules}
 use Rattle.items.proofs.item_place.Statement.{statement}
 use Rattle.items.proofs.item_place.Tie as tie
@@ -17,13 +17,13 @@ missing-requires : tie.Need-missing-requires invariant-loop decreases-loop
 missing-requires c κs = search rules
 
 returns : tie.Need-returns invariant-loop decreases-loop
-returns c = placed-none _ c.missing.ensures (no_text _ _ c.before.if1.true)
+returns c = placed_none _ c.missing.ensures (no_text _ _ c.before.if1.true)
 
 missing-requires-2 : tie.Need-missing-requires-2 invariant-loop decreases-loop
 missing-requires-2 c κs = search rules
 
 returns-2 : tie.Need-returns-2 invariant-loop decreases-loop
-returns-2 c = placed-none _ c.missing2.ensures (number-zero _ _ c.before.if2.true)
+returns-2 c = placed_none _ c.missing2.ensures (number_zero _ _ c.before.if2.true)
 
 shared-slice-read-n : tie.Need-shared-slice-read-n invariant-loop decreases-loop
 shared-slice-read-n c = omega (arith, c.before.before.if1.false)
@@ -38,7 +38,7 @@ missing-requires-3 : tie.Need-missing-requires-3 invariant-loop decreases-loop
 missing-requires-3 c κs = search rules
 
 returns-3 : tie.Need-returns-3 invariant-loop decreases-loop
-returns-3 c = placed-none _ c.missing3.ensures (no_length c.before.before.before.loop.invariant c.before.before.loop-test.true c.before.if3.true)
+returns-3 c = placed_none _ c.missing3.ensures (no_length c.before.before.before.loop.invariant c.before.before.loop-test.true c.before.if3.true)
 
 shared-slice-read-len : tie.Need-shared-slice-read-len invariant-loop decreases-loop
 shared-slice-read-len c = search rules
@@ -56,7 +56,7 @@ missing-requires-4 : tie.Need-missing-requires-4 invariant-loop decreases-loop
 missing-requires-4 c κs = search rules
 
 returns-4 : tie.Need-returns-4 invariant-loop decreases-loop
-returns-4 c = placed-none _ c.missing4.ensures (no_bytes c.before.before.before.before.before.loop.invariant c.before.before.before.before.loop-test.true c.before.before.before.if3.false c.before.if4.true)
+returns-4 c = placed_none _ c.missing4.ensures (no_bytes c.before.before.before.before.before.loop.invariant c.before.before.before.before.loop-test.true c.before.before.before.if3.false c.before.if4.true)
 
 add-i : tie.Need-overflow-add-i invariant-loop decreases-loop
 add-i c = omega (arith, c.before.before.before.before.before.shared-slice-known2.given 0)
@@ -68,7 +68,7 @@ loop-less : tie.Need-loop-smaller invariant-loop decreases-loop
 loop-less c = search rules
 
 loop-again : tie.Need-loop-preserved invariant-loop decreases-loop
-loop-again c = walked-there c.before.before.before.before.before.loop.invariant c.before.before.before.before.loop-test.true c.before.before.before.if3.false c.before.if4.false c.if5.true
+loop-again c = walked_there c.before.before.before.before.before.loop.invariant c.before.before.before.before.loop-test.true c.before.before.before.if3.false c.before.if4.false c.if5.true
 
 loop-less-2 : tie.Need-loop-smaller-2 invariant-loop decreases-loop
 loop-less-2 c = search rules
@@ -80,13 +80,13 @@ missing-requires-5 : tie.Need-missing-requires-5 invariant-loop decreases-loop
 missing-requires-5 c κs = search rules
 
 returns-5 : tie.Need-returns-5 invariant-loop decreases-loop
-returns-5 c = placed-none _ c.missing5.ensures (bytes-behind c.before.before.before.loop.invariant c.before.before.loop-test.false c.before.if6.true)
+returns-5 c = placed_none _ c.missing5.ensures (bytes_behind c.before.before.before.loop.invariant c.before.before.loop-test.false c.before.if6.true)
 
 missing-requires-6 : tie.Need-missing-requires-6 invariant-loop decreases-loop
 missing-requires-6 c κs = search rules
 
 returns-6 : tie.Need-returns-6 invariant-loop decreases-loop
-returns-6 c = placed-none _ c.missing6.ensures (too_few c.before.before.before.before.loop.invariant c.before.before.before.loop-test.false c.before.before.if6.false c.before.if7.true)
+returns-6 c = placed_none _ c.missing6.ensures (too_few c.before.before.before.before.loop.invariant c.before.before.before.loop-test.false c.before.before.if6.false c.before.if7.true)
 
 add_start : tie.Need-overflow-add-start invariant-loop decreases-loop
 add_start c = omega (arith, c.before.before.before.loop.invariant.end (search rules))

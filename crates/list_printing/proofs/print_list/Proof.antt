@@ -4,7 +4,7 @@ use mathlib.Core.Path.{ap}
 use native.Mathlib.Nat.{sub-zero}
 use native.Mathlib.Omega.{arith}
 use Rattle.put.specs.declared.Written.{Written}
-use Rattle.list_text.proofs.Whole.{list-said, list_inside, list-front}
+use Rattle.list_text.proofs.Whole.{list-said, list_inside, list_front}
 use borrow.Author.Rules.{rules}
 use Rattle.list_printing.proofs.print_list.Statement.{statement}
 use Rattle.list_printing.proofs.print_list.Tie as tie
@@ -28,7 +28,7 @@ part-hand-over-end : tie.Need-slice-bounds-hand-over-end
 part-hand-over-end c = list_inside _ (omega (arith, c.before.before.before.before.room.ensures)) c.before.before.write-list.ensures
 
 hand-over-requires : tie.Need-hand-over-requires
-hand-over-requires c κs = rw sub-zero (list-front _ (omega (arith, c.before.before.before.before.before.room.ensures)) c.before.before.before.write-list.ensures)
+hand-over-requires c κs = rw sub-zero (list_front _ (omega (arith, c.before.before.before.before.before.room.ensures)) c.before.before.before.write-list.ensures)
 
 returns : tie.Need-returns
 returns c = ap (λ (x : Written). x.len) (list-said _ (omega (arith, c.before.before.before.before.before.before.room.ensures)) c.before.before.before.before.write-list.ensures)

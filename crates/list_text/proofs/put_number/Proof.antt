@@ -3,8 +3,8 @@
 use mathlib.Core.Path.{ap}
 use native.Mathlib.Omega.{arith}
 use lib.ListN.{length}
-use Rattle.put.proofs.Pieces.{put_of, put_as, put-length, put_then}
-use Rattle.list_text.proofs.Decimal.{decimal-part, before-length}
+use Rattle.put.proofs.Pieces.{put_of, put_as, put_length, put_then}
+use Rattle.list_text.proofs.Decimal.{decimal_part, before_length}
 use borrow.Author.Rules.{rules}
 use Rattle.list_text.proofs.put_number.Statement.{statement}
 use Rattle.list_text.proofs.put_number.Tie as tie
@@ -33,11 +33,11 @@ same_length c = search rules
 returns : tie.Need-returns
 returns c =
     let start = c.before.before.before.before.before.before.before.before.before.before.before.before.before in
-    let long = before-length start.args.mark start.args.n in
+    let long = before_length start.args.mark start.args.n in
     let d = c.before.before.before.before.before.before.before.before.before.before.decimal in
-    let e = decimal-part d.new.1.0 start.args.n d.result start.ranges.n.fits d.ensures.1.0 d.ensures.1.1 in
+    let e = decimal_part d.new.1.0 start.args.n d.result start.ranges.n.fits d.ensures.1.0 d.ensures.1.1 in
     let first = put_as e (put_of (omega (arith, ap length e, long, start.requires)) c.before.before.before.before.before.before.put.ensures) in
-    put_then first (put_of (omega (arith, first.next, put-length first, long, start.requires)) c.before.before.put_byte.ensures)
+    put_then first (put_of (omega (arith, first.next, put_length first, long, start.requires)) c.before.before.put_byte.ensures)
 
 pub put-number-spec : {M : Type 1} → statement M
 put-number-spec =

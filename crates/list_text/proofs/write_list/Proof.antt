@@ -2,7 +2,7 @@
 -- Assumes nothing.
 use native.Mathlib.Omega.{arith}
 use Rattle.put.proofs.Pieces.{put_of, put_as}
-use Rattle.list_text.proofs.Whole.{says-too-big, list-none, list_written}
+use Rattle.list_text.proofs.Whole.{says_too_big, list_none, list_written}
 use borrow.Author.Rules.{rules}
 use Rattle.list_text.proofs.write_list.Statement.{statement}
 use Rattle.list_text.proofs.write_list.Tie as tie
@@ -11,7 +11,7 @@ refuse-requires : tie.Need-refuse-requires
 refuse-requires c κs = search rules
 
 returns : tie.Need-returns
-returns c = list-none _ _ c.before.if1.true _ c.refuse.ensures
+returns c = list_none _ _ c.before.if1.true _ c.refuse.ensures
 
 slice-aggregate-put : tie.Need-slice-aggregate-put
 slice-aggregate-put c = search rules
@@ -25,7 +25,7 @@ same_length c = search rules
 returns-2 : tie.Need-returns-2
 returns-2 c =
     let room = c.before.before.before.before.before.before.if1.false in
-    list_written _ room (put_as (says-too-big _ c.before.before.before.before.before.if2.true) (put_of (omega (arith, room)) c.before.before.put.ensures))
+    list_written _ room (put_as (says_too_big _ c.before.before.before.before.before.if2.true) (put_of (omega (arith, room)) c.before.before.put.ensures))
 
 put-list-requires : tie.Need-put-list-requires
 put-list-requires c κs = search rules

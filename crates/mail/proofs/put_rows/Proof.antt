@@ -3,7 +3,7 @@
 use Prim.Native.Nat.{◌-◌}
 use native.Mathlib.Omega.{arith}
 use lib.ListN.{length, drop}
-use Rattle.put.proofs.Pieces.{put-length}
+use Rattle.put.proofs.Pieces.{put_length}
 use Rattle.put.proofs.Underway.{Underway, begin, finish}
 use Rattle.mail.proofs.Writing.{rows_of, row_inside, row_put, rows_none}
 use borrow.Author.Rules.{rules}
@@ -50,7 +50,7 @@ loop-again : tie.Need-loop-preserved invariant-loop decreases-loop
 loop-again c = row_put _ _ _ c.before.before.before.before.before.before.before.before.before.before.loop-test.true c.before.before.before.before.before.before.before.before.before.row-length.ensures c.before.before.before.before.before.before.before.before.before.before.before.loop.invariant c.before.before.before.before.before.before.put.ensures c.before.before.put_byte.ensures
 
 same_length : tie.Need-same-length invariant-loop decreases-loop
-same_length c = put-length c.before.loop.invariant.put
+same_length c = put_length c.before.loop.invariant.put
 
 returns : tie.Need-returns invariant-loop decreases-loop
 returns c = finish c.before.loop.invariant (rows_none _ _ c.loop-test.false)

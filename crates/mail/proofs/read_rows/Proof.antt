@@ -1,7 +1,7 @@
 -- `mail::read_rows` meets its contract.
 -- Assumes nothing.
 use native.Mathlib.Omega.{arith}
-use Rattle.mail.proofs.Reading.{too_long, rows-given}
+use Rattle.mail.proofs.Reading.{too_long_found, rows_given}
 use borrow.Author.Rules.{rules}
 use Rattle.mail.proofs.read_rows.Statement.{statement}
 use Rattle.mail.proofs.read_rows.Tie as tie
@@ -16,7 +16,7 @@ refuse-requires : tie.Need-refuse-requires
 refuse-requires c κs = search rules
 
 returns : tie.Need-returns
-returns c = too_long c.before.before.before.before.before.before.before.before.args.rectype.now _ _ (omega (arith, c.before.before.before.«unfold».ensures.over c.before.if1.true)) _ c.refuse.ensures
+returns c = too_long_found c.before.before.before.before.before.before.before.before.args.rectype.now _ _ (omega (arith, c.before.before.before.«unfold».ensures.over c.before.if1.true)) _ c.refuse.ensures
 
 sub-give : tie.Need-overflow-sub-give
 sub-give c = search rules
@@ -34,7 +34,7 @@ same_length : tie.Need-same-length
 same_length c = search rules
 
 returns-2 : tie.Need-returns-2
-returns-2 c = rows-given c.before.before.before.before.before.before.before.before.before.before.before.before.before.args.rectype.now _ _ (c.before.before.before.before.before.before.before.before.«unfold».ensures.fits c.before.before.before.before.before.before.if1.false) c.before.before.give.ensures
+returns-2 c = rows_given c.before.before.before.before.before.before.before.before.before.before.before.before.before.args.rectype.now _ _ (c.before.before.before.before.before.before.before.before.«unfold».ensures.fits c.before.before.before.before.before.before.if1.false) c.before.before.give.ensures
 
 pub read-rows-spec : {M : Type 1} → statement M
 read-rows-spec =

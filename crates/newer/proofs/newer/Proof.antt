@@ -1,7 +1,7 @@
 -- `newer::newer` meets its contract.
 -- Assumes nothing.
 use mathlib.Core.Path.{refl}
-use Rattle.newer.proofs.Choosing.{chosen_none, chosen-second, chosen-first}
+use Rattle.newer.proofs.Choosing.{chosen_none, chosen_second, chosen_first}
 use borrow.Author.Rules.{rules}
 use Rattle.newer.proofs.newer.Statement.{statement}
 use Rattle.newer.proofs.newer.Tie as tie
@@ -22,10 +22,10 @@ returns : tie.Need-returns
 returns c = chosen_none _ _ c.before.before.before.newer-of.ensures c.before.if1.true (record { stands = refl; holds = refl })
 
 returns-2 : tie.Need-returns-2
-returns-2 c = chosen-second _ c.before.before.before.before.newer-of.ensures c.before.before.if1.false c.if2.true refl
+returns-2 c = chosen_second _ c.before.before.before.before.newer-of.ensures c.before.before.if1.false c.if2.true refl
 
 returns-3 : tie.Need-returns-3
-returns-3 c = chosen-first _ c.before.before.before.before.newer-of.ensures c.before.before.if1.false c.if2.false refl
+returns-3 c = chosen_first _ c.before.before.before.before.newer-of.ensures c.before.before.if1.false c.if2.false refl
 
 pub newer-spec : {M : Type 1} → statement M
 newer-spec =

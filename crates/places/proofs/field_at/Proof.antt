@@ -1,6 +1,6 @@
 -- `places::field_at` meets its contract.
 -- Assumes nothing.
-use Rattle.places.proofs.Stands.{field-none, field_next}
+use Rattle.places.proofs.Stands.{field_none, field_next}
 use borrow.Author.Rules.{rules}
 use Rattle.places.proofs.field_at.Statement.{statement}
 use Rattle.places.proofs.field_at.Tie as tie
@@ -9,7 +9,7 @@ none-of-requires : tie.Need-none-of-requires
 none-of-requires c κs = search rules
 
 returns : tie.Need-returns
-returns c = field-none _ _ _ c.before.if1.true c.none_of.ensures
+returns c = field_none _ _ _ c.before.if1.true c.none_of.ensures
 
 sub-part-at : tie.Need-overflow-sub-part-at
 sub-part-at c = search rules

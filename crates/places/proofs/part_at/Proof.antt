@@ -2,7 +2,7 @@
 -- Assumes nothing.
 use mathlib.Core.Path.{refl}
 use native.Mathlib.Omega.{arith}
-use Rattle.places.proofs.Stands.{at-past, at-outside, at_there}
+use Rattle.places.proofs.Stands.{at_past, at_outside, at_there}
 use borrow.Author.Rules.{rules}
 use Rattle.places.proofs.part_at.Statement.{statement}
 use Rattle.places.proofs.part_at.Tie as tie
@@ -11,7 +11,7 @@ none-of-requires : tie.Need-none-of-requires
 none-of-requires c κs = search rules
 
 returns : tie.Need-returns
-returns c = at-past _ _ _ c.before.if1.true c.none_of.ensures
+returns c = at_past _ _ _ c.before.if1.true c.none_of.ensures
 
 mul-start : tie.Need-overflow-mul-start
 mul-start c = search rules
@@ -29,7 +29,7 @@ none-of-requires-2 : tie.Need-none-of-requires-2
 none-of-requires-2 c κs = search rules
 
 returns-2 : tie.Need-returns-2
-returns-2 c = at-outside _ _ c.before.before.before.before.before.before.args.j (omega (arith, c.before.if2.true)) c.none-of2.ensures
+returns-2 c = at_outside _ _ c.before.before.before.before.before.before.args.j (omega (arith, c.before.if2.true)) c.none-of2.ensures
 
 sub-if3 : tie.Need-overflow-sub-if3
 sub-if3 c = search rules
@@ -38,7 +38,7 @@ none-of-requires-3 : tie.Need-none-of-requires-3
 none-of-requires-3 c κs = search rules
 
 returns-3 : tie.Need-returns-3
-returns-3 c = at-outside _ _ c.before.before.before.before.before.before.before.args.j (omega (arith, c.before.if3.true, c.before.before.if2.false)) c.none-of3.ensures
+returns-3 c = at_outside _ _ c.before.before.before.before.before.before.before.args.j (omega (arith, c.before.if3.true, c.before.before.if2.false)) c.none-of3.ensures
 
 add-end : tie.Need-overflow-add-end
 add-end c = search rules

@@ -4,9 +4,9 @@ use Rattle.promises.proofs.Total.{total}
 use Rattle.promises.proofs.Determined.{determined}
 use Rattle.promises.proofs.Interface.{interface}
 use Rattle.promises.proofs.Refusals.{refusals}
-use Rattle.promises.proofs.FieldNumbers.{field-numbers}
+use Rattle.promises.proofs.FieldNumbers.{field_numbers}
 use Rattle.promises.proofs.Check.{check}
-use Rattle.promises.proofs.TextTypes.{text-types}
+use Rattle.promises.proofs.TextTypes.{text_types}
 use Rattle.promises.proofs.Conversion.{conversion}
 use Rattle.promises.proofs.Calendar.{calendar}
 use Rattle.promises.proofs.Reading.{reading}
@@ -17,25 +17,25 @@ use Rattle.promises.proofs.Rebuilding.{rebuilding}
 use Rattle.promises.proofs.Agreement.{agreement}
 use Rattle.promises.proofs.Files.{files}
 use Rattle.promises.proofs.Trailed.{manufacturers}
-use Rattle.promises.proofs.Mail.{by-mail}
+use Rattle.promises.proofs.Mail.{by_mail}
 use Rattle.promises.proofs.Cabinet.{cabinet}
 use Rattle.promises.proofs.Dates.{dates}
 use Rattle.promises.proofs.Listing.{listing}
 use Rattle.promises.proofs.Demand3.{demand3}
-use Rattle.promises.proofs.FlippedBits.{flipped-bits, flips-pass}
+use Rattle.promises.proofs.FlippedBits.{flipped_bits, flips_pass}
 use Rattle.promises.proofs.Newer.{newest}
 use Rattle.promises.proofs.Hash.{hash}
 use Rattle.promises.proofs.Fingerprint.{fingerprints}
 use Rattle.promises.proofs.Confirmation.{confirmations}
 use Rattle.promises.proofs.Witnesses.{witnesses}
 use Rattle.promises.proofs.Forms.{forms}
-use Rattle.promises.proofs.Starred.{all-starred}
-use Rattle.promises.proofs.Fixed.{all-fixed}
+use Rattle.promises.proofs.Starred.{all_starred}
+use Rattle.promises.proofs.Fixed.{all_fixed}
 use Rattle.promises.proofs.promised.Statement.{statement}
 use Rattle.promises.proofs.promised.Tie as tie
 
 returns : tie.Need-returns
-returns c = (total, determined, interface, refusals, field-numbers, check, text-types, conversion, calendar, reading, rulings, attributes, building, rebuilding, agreement, files, manufacturers, by-mail, cabinet, dates, listing, demand3, flipped-bits, flips-pass, newest, hash, fingerprints, confirmations, witnesses, forms, all-starred, all-fixed)
+returns c = (total, determined, interface, refusals, field_numbers, check, text_types, conversion, calendar, reading, rulings, attributes, building, rebuilding, agreement, files, manufacturers, by_mail, cabinet, dates, listing, demand3, flipped_bits, flips_pass, newest, hash, fingerprints, confirmations, witnesses, forms, all_starred, all_fixed)
 
 pub promised-spec : {M : Type 1} → statement M
 promised-spec = tie.close (tie.spec returns)

@@ -3,7 +3,7 @@
 use Prim.Native.Nat.{◌-◌}
 use native.Mathlib.Omega.{arith}
 use lib.ListN.{length}
-use Rattle.put.proofs.Copying.{Copy, copy-none, copy-length, copy_more, copy-all, copy-not}
+use Rattle.put.proofs.Copying.{Copy, copy_none, copy_length, copy_more, copy_all, copy_not}
 use borrow.Author.Rules.{rules}
 use Rattle.put.proofs.put.Statement.{statement}
 use Rattle.put.proofs.put.Tie as tie
@@ -15,16 +15,16 @@ abbrev decreases-loop : tie.decreases-loop
 decreases-loop out₀ at piece i₀ out i = length piece - i
 
 returns : tie.Need-returns invariant-loop decreases-loop
-returns c = copy-not (omega arith)
+returns c = copy_not (omega arith)
 
 sub-if2 : tie.Need-overflow-sub-if2 invariant-loop decreases-loop
 sub-if2 c = search rules
 
 returns-2 : tie.Need-returns-2 invariant-loop decreases-loop
-returns-2 c = copy-not (omega arith)
+returns-2 c = copy_not (omega arith)
 
 loop-holds : tie.Need-loop-init invariant-loop decreases-loop
-loop-holds c = copy-none (omega arith)
+loop-holds c = copy_none (omega arith)
 
 shared-slice-read-out : tie.Need-shared-slice-read-out invariant-loop decreases-loop
 shared-slice-read-out c = search rules
@@ -33,7 +33,7 @@ add-out : tie.Need-overflow-add-out invariant-loop decreases-loop
 add-out c = search rules
 
 slice-write-out : tie.Need-slice-write-out invariant-loop decreases-loop
-slice-write-out c = omega (arith, copy-length c.before.before.loop.invariant)
+slice-write-out c = omega (arith, copy_length c.before.before.loop.invariant)
 
 add-i : tie.Need-overflow-add-i invariant-loop decreases-loop
 add-i c = search rules
@@ -48,10 +48,10 @@ add-result : tie.Need-overflow-add-result invariant-loop decreases-loop
 add-result c = search rules
 
 same_length : tie.Need-same-length invariant-loop decreases-loop
-same_length c = copy-length c.before.loop.invariant
+same_length c = copy_length c.before.loop.invariant
 
 returns-3 : tie.Need-returns-3 invariant-loop decreases-loop
-returns-3 c = copy-all c.before.loop.invariant c.loop-test.false
+returns-3 c = copy_all c.before.loop.invariant c.loop-test.false
 
 pub put_spec : {M : Type 1} → statement M
 put_spec =

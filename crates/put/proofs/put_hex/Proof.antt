@@ -5,10 +5,10 @@ use mathlib.Core.List.{[], ◌∷◌}
 use native.Mathlib.Omega.{arith}
 use lib.ListN.{length, drop}
 use Rattle.text.specs.Base16.{base16}
-use Rattle.put.proofs.Copying.{copy-not}
-use Rattle.put.proofs.Pieces.{put_of, puts_of, put-length}
+use Rattle.put.proofs.Copying.{copy_not}
+use Rattle.put.proofs.Pieces.{put_of, puts_of, put_length}
 use Rattle.put.proofs.Underway.{Underway, begin, has_room, go_on, finish}
-use Rattle.put.proofs.Hex.{length-base16, hex-next, hex-end}
+use Rattle.put.proofs.Hex.{length_base16, hex_next, hex_end}
 use borrow.Author.Rules.{rules}
 use Rattle.put.proofs.put_hex.Statement.{statement}
 use Rattle.put.proofs.put_hex.Tie as tie
@@ -20,16 +20,16 @@ abbrev decreases-loop : tie.decreases-loop
 decreases-loop out₀ at bytes next₀ i₀ out next i = length bytes - i
 
 returns : tie.Need-returns invariant-loop decreases-loop
-returns c = copy-not (omega (arith, length-base16 c.before.before.before.args.bytes.now))
+returns c = copy_not (omega (arith, length_base16 c.before.before.before.args.bytes.now))
 
 sub-if2 : tie.Need-overflow-sub-if2 invariant-loop decreases-loop
 sub-if2 c = search rules
 
 returns-2 : tie.Need-returns-2 invariant-loop decreases-loop
-returns-2 c = copy-not (omega (arith, length-base16 c.before.before.before.before.args.bytes.now))
+returns-2 c = copy_not (omega (arith, length_base16 c.before.before.before.before.args.bytes.now))
 
 loop-holds : tie.Need-loop-init invariant-loop decreases-loop
-loop-holds c = begin (omega (arith, length-base16 c.before.before.before.before.args.bytes.now))
+loop-holds c = begin (omega (arith, length_base16 c.before.before.before.before.args.bytes.now))
 
 shared-slice-read-hex-digit : tie.Need-shared-slice-read-hex-digit invariant-loop decreases-loop
 shared-slice-read-hex-digit c = search rules
@@ -61,15 +61,15 @@ loop-again c =
     let i = c.before.before.before.before.before.before.before.before.before.before.loop.i in
     let u = c.before.before.before.before.before.before.before.before.before.before.loop.invariant in
     let pair = c.before.before.before.before.before.before.before.hex-digit.result ∷ c.before.before.before.before.before.hex-digit2.result ∷ [] in
-    let e = hex-next bytes i c.before.before.before.before.before.before.before.before.before.loop-test.true c.before.before.before.before.before.before.before.hex-digit.ensures c.before.before.before.before.before.hex-digit2.ensures in
+    let e = hex_next bytes i c.before.before.before.before.before.before.before.before.before.loop-test.true c.before.before.before.before.before.before.before.hex-digit.ensures c.before.before.before.before.before.hex-digit2.ensures in
     let rest = base16 (drop (i + 1) bytes) in
     go_on u pair rest e (put_of (has_room u pair rest e) c.before.before.put.ensures)
 
 same_length : tie.Need-same-length invariant-loop decreases-loop
-same_length c = put-length c.before.loop.invariant.put
+same_length c = put_length c.before.loop.invariant.put
 
 returns-3 : tie.Need-returns-3 invariant-loop decreases-loop
-returns-3 c = puts_of (finish c.before.loop.invariant (hex-end _ _ c.loop-test.false))
+returns-3 c = puts_of (finish c.before.loop.invariant (hex_end _ _ c.loop-test.false))
 
 pub put-hex-spec : {M : Type 1} → statement M
 put-hex-spec =

@@ -3,7 +3,7 @@
 use Rattle.std.proofs.Common.{ap, ◌∙◌, rules}
 use Rattle.sha384.specs.declared.Sha384.{Sha384}
 use Rattle.sha384.specs.State.{added, ended}
-use Rattle.sha384.proofs.Pieces.{ended-once}
+use Rattle.sha384.proofs.Pieces.{ended_once}
 use Rattle.sha384.proofs.sha384_of.Statement.{statement}
 use Rattle.sha384.proofs.sha384_of.Tie as tie
 
@@ -17,7 +17,7 @@ end-requires : tie.Need-end-requires
 end-requires c κs = search rules
 
 returns : tie.Need-returns
-returns c = c.end.ensures ∙ ap ended (c.before.add.ensures ∙ ap (λ (s : Sha384). added s c.before.before.before.before.args.bytes.now) c.before.before.begin.ensures) ∙ ended-once c.before.before.before.before.args.bytes.now
+returns c = c.end.ensures ∙ ap ended (c.before.add.ensures ∙ ap (λ (s : Sha384). added s c.before.before.before.before.args.bytes.now) c.before.before.begin.ensures) ∙ ended_once c.before.before.before.before.args.bytes.now
 
 pub sha384-of-spec : {M : Type 1} → statement M
 sha384-of-spec = tie.close (tie.spec begin-requires add-requires end-requires returns)

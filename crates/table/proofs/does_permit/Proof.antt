@@ -2,7 +2,7 @@
 -- Assumes nothing.
 use mathlib.Core.Path.{sym, ◌∙◌}
 use native.Mathlib.Omega.{arith}
-use Rattle.table.proofs.Codes.{SMMAN-codes, SMID-codes, KMCID-codes, no-permit}
+use Rattle.table.proofs.Codes.{SMMAN-codes, SMID-codes, KMCID-codes, no_permit}
 use borrow.Author.Rules.{rules}
 use Rattle.table.proofs.does_permit.Statement.{statement}
 use Rattle.table.proofs.does_permit.Tie as tie
@@ -26,7 +26,7 @@ returns-3 : tie.Need-returns-3
 returns-3 c = rw c.before.if3.true (c.is-either3.ensures ∙ KMCID-codes _)
 
 returns-4 : tie.Need-returns-4
-returns-4 c = sym (no-permit _ _ (omega (arith, c.before.before.if1.false, c.before.if2.false, c.if3.false)))
+returns-4 c = sym (no_permit _ _ (omega (arith, c.before.before.if1.false, c.before.if2.false, c.if3.false)))
 
 pub does-permit-spec : {M : Type 1} → statement M
 does-permit-spec =

@@ -5,7 +5,7 @@ use mathlib.Core.List.{flatten}
 use native.Mathlib.Omega.{arith}
 use Rattle.table.specs.Table.{count_of}
 use Rattle.table.proofs.Codes.{code_of}
-use Rattle.table.proofs.Arrays.{row-there, type-within, type-here, type-past}
+use Rattle.table.proofs.Arrays.{row_there, type_within, type_here, type_past}
 use borrow.Author.Rules.{rules}
 use Rattle.table.proofs.type_of.Statement.{statement}
 use Rattle.table.proofs.type_of.Tie as tie
@@ -18,23 +18,23 @@ count-of-requires : tie.Need-count-of-requires
 count-of-requires c κs = search rules
 
 returns : tie.Need-returns
-returns c = type-past c.before.before.args.row c.before.before.args.j (omega (arith, c.before.count-of.ensures, c.if1.true))
+returns c = type_past c.before.before.args.row c.before.before.args.j (omega (arith, c.before.count-of.ensures, c.if1.true))
 
 mul_at : tie.Need-overflow-mul-at
-mul_at c = omega (arith, row-there c.before.before.args.row c.before.before.args.j (there c))
+mul_at c = omega (arith, row_there c.before.before.args.row c.before.before.args.j (there c))
 
 array-read-at : tie.Need-array-read-at
-array-read-at c = row-there c.before.before.args.row c.before.before.args.j (there c)
+array-read-at c = row_there c.before.before.args.row c.before.before.args.j (there c)
 
 add_at : tie.Need-overflow-add-at
-add_at c = omega (arith, type-within c.before.before.args.row c.before.before.args.j (there c))
+add_at c = omega (arith, type_within c.before.before.args.row c.before.before.args.j (there c))
 
 array-read-result : tie.Need-array-read-result
-array-read-result c = type-within c.before.before.args.row c.before.before.args.j (there c)
+array-read-result c = type_within c.before.before.args.row c.before.before.args.j (there c)
 
 returns-2 : tie.Need-returns-2
 unfolding flatten code_of
-returns-2 c = type-here c.before.before.args.row c.before.before.args.j (there c)
+returns-2 c = type_here c.before.before.args.row c.before.before.args.j (there c)
 
 pub type-of-spec : {M : Type 1} → statement M
 type-of-spec =

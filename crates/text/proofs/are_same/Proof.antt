@@ -7,7 +7,7 @@ use lib.ListN.{length, drop}
 use lib.Dec.{eqb}
 use borrow.Author.Tests.{eq-eqb, ne_eqb}
 use Rattle.text.specs.Text.{same}
-use Rattle.text.proofs.Loops.{same-pairwise, apart, pairwise-stop, pairwise-on, pairwise-end}
+use Rattle.text.proofs.Loops.{same_pairwise, apart, pairwise_stop, pairwise_on, pairwise_end}
 use borrow.Author.Rules.{rules}
 use Rattle.text.proofs.are_same.Statement.{statement}
 use Rattle.text.proofs.are_same.Tie as tie
@@ -19,7 +19,7 @@ abbrev decreases-loop : tie.decreases-loop
 decreases-loop a b i₀ i = length a - i
 
 returns : tie.Need-returns invariant-loop decreases-loop
-returns c = sym (apart eqb same same-pairwise c.before.args.a.now c.before.args.b.now c.if1.true)
+returns c = sym (apart eqb same same_pairwise c.before.args.a.now c.before.args.b.now c.if1.true)
 
 loop-holds : tie.Need-loop-init invariant-loop decreases-loop
 loop-holds c = refl
@@ -31,7 +31,7 @@ shared-slice-read-if2-2 : tie.Need-shared-slice-read-if2-2 invariant-loop decrea
 shared-slice-read-if2-2 c = search rules
 
 returns-2 : tie.Need-returns-2 invariant-loop decreases-loop
-returns-2 c = sym (pairwise-stop eqb same same-pairwise _ _ _ c.before.before.before.loop-test.true (omega arith) (ne_eqb _ _ c.if2.true)) ∙ c.before.before.before.before.loop.invariant
+returns-2 c = sym (pairwise_stop eqb same same_pairwise _ _ _ c.before.before.before.loop-test.true (omega arith) (ne_eqb _ _ c.if2.true)) ∙ c.before.before.before.before.loop.invariant
 
 add-i : tie.Need-overflow-add-i invariant-loop decreases-loop
 add-i c = search rules
@@ -40,10 +40,10 @@ loop-less : tie.Need-loop-smaller invariant-loop decreases-loop
 loop-less c = search rules
 
 loop-again : tie.Need-loop-preserved invariant-loop decreases-loop
-loop-again c = pairwise-on eqb same same-pairwise _ _ _ c.before.before.before.loop-test.true (omega arith) (eq-eqb _ _ c.if2.false) ∙ c.before.before.before.before.loop.invariant
+loop-again c = pairwise_on eqb same same_pairwise _ _ _ c.before.before.before.loop-test.true (omega arith) (eq-eqb _ _ c.if2.false) ∙ c.before.before.before.before.loop.invariant
 
 returns-3 : tie.Need-returns-3 invariant-loop decreases-loop
-returns-3 c = sym (pairwise-end eqb same same-pairwise _ _ _ c.loop-test.false (omega arith)) ∙ c.before.loop.invariant
+returns-3 c = sym (pairwise_end eqb same same_pairwise _ _ _ c.loop-test.false (omega arith)) ∙ c.before.loop.invariant
 
 pub are-same-spec : {M : Type 1} → statement M
 are-same-spec =

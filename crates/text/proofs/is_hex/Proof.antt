@@ -1,6 +1,6 @@
 -- `text::is_hex` meets its contract.
 -- Assumes nothing.
-use Rattle.text.specs.Text.{isHex}
+use Rattle.text.specs.Text.{is_hex}
 use borrow.Author.Rules.{rules}
 use Rattle.text.proofs.is_hex.Statement.{statement}
 use Rattle.text.proofs.is_hex.Tie as tie
@@ -9,7 +9,7 @@ is-sized-requires : tie.Need-is-sized-requires
 is-sized-requires c κs = search rules
 
 returns : tie.Need-returns
-unfolding isHex
+unfolding is_hex
 returns c = c.is-sized.ensures
 
 pub is-hex-spec : {M : Type 1} → statement M

@@ -6,8 +6,8 @@ use mathlib.Core.Bool.{and-true}
 use native.Mathlib.Omega.{arith}
 use borrow.Author.Tests.{not-true, not-false}
 use lib.ListN.{length}
-use Rattle.text.specs.Text.{every, identCharacter, longestIdent, isIdent}
-use Rattle.text.proofs.Tests.{and-stop, and-on, true-T, between-low}
+use Rattle.text.specs.Text.{every, ident_character, longest_ident, is_ident}
+use Rattle.text.proofs.Tests.{and_stop, and_on, true_T, between_low}
 use Rattle.text.proofs.Loops.{rest_all}
 use borrow.Author.Rules.{rules}
 use Rattle.text.proofs.is_ident.Statement.{statement}
@@ -15,14 +15,14 @@ use Rattle.text.proofs.is_ident.Tie as tie
 
 -- past the first test: a byte at least
 some : (c : tie.Else1) → 1 ≤ length c.before.before.before.args.s.now
-some c = between-low 1 longestIdent (length c.before.before.before.args.s.now) (true-T _ (sym c.before.is-between.ensures ∙ not-false _ c.if1.false))
+some c = between_low 1 longest_ident (length c.before.before.before.args.s.now) (true_T _ (sym c.before.is-between.ensures ∙ not-false _ c.if1.false))
 
 is-between-requires : tie.Need-is-between-requires
 is-between-requires c κs = search rules
 
 returns : tie.Need-returns
-unfolding isIdent
-returns c = sym (and-stop _ _ (sym c.before.is-between.ensures ∙ not-true _ c.if1.true))
+unfolding is_ident
+returns c = sym (and_stop _ _ (sym c.before.is-between.ensures ∙ not-true _ c.if1.true))
 
 shared-slice-read-is-alphanumeric : tie.Need-shared-slice-read-is-alphanumeric
 shared-slice-read-is-alphanumeric c = omega (arith, some c.before)
@@ -31,10 +31,10 @@ is-alphanumeric-requires : tie.Need-is-alphanumeric-requires
 is-alphanumeric-requires c κs = search rules
 
 returns-2 : tie.Need-returns-2
-unfolding isIdent
+unfolding is_ident
 returns-2 c =
-    sym (and-on _ _ (sym c.before.before.before.before.is-between.ensures ∙ not-false _ c.before.before.before.if1.false)
-    ∙ and-stop _ _ (sym c.before.is-alphanumeric.ensures ∙ not-true _ c.if2.true))
+    sym (and_on _ _ (sym c.before.before.before.before.is-between.ensures ∙ not-false _ c.before.before.before.if1.false)
+    ∙ and_stop _ _ (sym c.before.is-alphanumeric.ensures ∙ not-true _ c.if2.true))
 
 sub-all-belong : tie.Need-overflow-sub-all-belong
 sub-all-belong c = omega (arith, some c.before.before.before)
@@ -49,11 +49,11 @@ all-belong-requires : tie.Need-all-belong-requires
 all-belong-requires c κs = search rules
 
 returns-3 : tie.Need-returns-3
-unfolding isIdent
+unfolding is_ident
 returns-3 c =
-    c.all-belong.ensures ∙ ap (every identCharacter) (rest_all c.before.before.before.before.before.before.before.before.args.s.now 1)
-    ∙ sym (and-on _ _ (sym c.before.before.before.before.before.before.is-between.ensures ∙ not-false _ c.before.before.before.before.before.if1.false)
-    ∙ and-on _ _ (sym c.before.before.before.is-alphanumeric.ensures ∙ not-false _ c.before.before.if2.false) ∙ and-true _)
+    c.all-belong.ensures ∙ ap (every ident_character) (rest_all c.before.before.before.before.before.before.before.before.args.s.now 1)
+    ∙ sym (and_on _ _ (sym c.before.before.before.before.before.before.is-between.ensures ∙ not-false _ c.before.before.before.before.before.if1.false)
+    ∙ and_on _ _ (sym c.before.before.before.is-alphanumeric.ensures ∙ not-false _ c.before.before.if2.false) ∙ and-true _)
 
 pub is-ident-spec : {M : Type 1} → statement M
 is-ident-spec =

@@ -1,8 +1,8 @@
 -- `trailed::hash_of` meets its contract.
 -- Assumes nothing.
 use mathlib.Core.Path.{◌∙◌, ap}
-use Rattle.sha1.specs.State.{ended}
-use Rattle.sha1.proofs.Pieces.{begun-then, ended-once}
+use Rattle.sha_1.specs.State.{ended}
+use Rattle.sha_1.proofs.Pieces.{begun_then, ended_once}
 use borrow.Author.Rules.{rules}
 use Rattle.trailed.proofs.hash_of.Statement.{statement}
 use Rattle.trailed.proofs.hash_of.Tie as tie
@@ -23,7 +23,7 @@ end-requires : tie.Need-end-requires
 end-requires c κs = search rules
 
 returns : tie.Need-returns
-returns c = c.end.ensures ∙ ap ended (rw (c.before.add2.ensures, c.before.before.before.add.ensures, c.before.before.before.before.begin.ensures) (begun-then _ _)) ∙ ended-once _
+returns c = c.end.ensures ∙ ap ended (rw (c.before.add2.ensures, c.before.before.before.add.ensures, c.before.before.before.before.begin.ensures) (begun_then _ _)) ∙ ended_once _
 
 pub hash-of-spec : {M : Type 1} → statement M
 hash-of-spec =

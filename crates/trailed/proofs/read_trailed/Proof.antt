@@ -1,7 +1,7 @@
 -- `trailed::read_trailed` meets its contract.
 -- Assumes nothing.
 use borrow.Author.Tests.{not-true, not-false}
-use Rattle.trailed.proofs.Calls.{says-missing, says-own, says-right, says-wrong}
+use Rattle.trailed.proofs.Calls.{says_missing, says_own, says_right, says_wrong}
 use borrow.Author.Rules.{rules}
 use Rattle.trailed.proofs.read_trailed.Statement.{statement}
 use Rattle.trailed.proofs.read_trailed.Tie as tie
@@ -25,7 +25,7 @@ refuse-requires : tie.Need-refuse-requires
 refuse-requires c κs = search rules
 
 returns : tie.Need-returns
-returns c = says-missing c.before.before.before.before.before.before.args.line.now c.before.before.before.before.record-end.ensures c.before.before.is-trailer.ensures (not-true _ c.before.if1.true) c.refuse.ensures
+returns c = says_missing c.before.before.before.before.before.before.args.line.now c.before.before.before.before.record-end.ensures c.before.before.is-trailer.ensures (not-true _ c.before.if1.true) c.refuse.ensures
 
 sub-read-record : tie.Need-overflow-sub-read-record
 sub-read-record c = search rules
@@ -40,7 +40,7 @@ read-record-requires : tie.Need-read-record-requires
 read-record-requires c κs = search rules
 
 returns-2 : tie.Need-returns-2
-returns-2 c = says-own c.before.before.before.before.before.before.before.before.before.args.line.now c.before.before.before.before.before.before.before.record-end.ensures c.before.before.before.before.before.is-trailer.ensures (not-false _ c.before.before.before.before.if1.false) c.before.before.read-record.ensures c.if2.true
+returns-2 c = says_own c.before.before.before.before.before.before.before.before.before.args.line.now c.before.before.before.before.before.before.before.record-end.ensures c.before.before.before.before.before.is-trailer.ensures (not-false _ c.before.before.before.before.if1.false) c.before.before.read-record.ensures c.if2.true
 
 sub-trailer-of : tie.Need-overflow-sub-trailer-of
 sub-trailer-of c = search rules
@@ -70,13 +70,13 @@ are-same-requires : tie.Need-are-same-requires
 are-same-requires c κs = search rules
 
 returns-3 : tie.Need-returns-3
-returns-3 c = says-right c.before.before.before.before.before.before.before.before.before.before.before.before.before.before.before.args.line.now c.before.before.before.before.before.before.before.before.before.before.before.before.before.record-end.ensures c.before.before.before.before.before.before.before.before.before.before.before.is-trailer.ensures (not-false _ c.before.before.before.before.before.before.before.before.before.before.if1.false) c.before.before.before.before.before.before.before.before.read-record.ensures c.before.before.before.before.trailer-of.ensures c.before.are-same.ensures c.if3.true
+returns-3 c = says_right c.before.before.before.before.before.before.before.before.before.before.before.before.before.before.before.args.line.now c.before.before.before.before.before.before.before.before.before.before.before.before.before.record-end.ensures c.before.before.before.before.before.before.before.before.before.before.before.is-trailer.ensures (not-false _ c.before.before.before.before.before.before.before.before.before.before.if1.false) c.before.before.before.before.before.before.before.before.read-record.ensures c.before.before.before.before.trailer-of.ensures c.before.are-same.ensures c.if3.true
 
 refuse-requires-2 : tie.Need-refuse-requires-2
 refuse-requires-2 c κs = search rules
 
 returns-4 : tie.Need-returns-4
-returns-4 c = says-wrong c.before.before.before.before.before.before.before.before.before.before.before.before.before.before.before.before.args.line.now c.before.before.before.before.before.before.before.before.before.before.before.before.before.before.record-end.ensures c.before.before.before.before.before.before.before.before.before.before.before.before.is-trailer.ensures (not-false _ c.before.before.before.before.before.before.before.before.before.before.before.if1.false) c.before.before.before.before.before.before.before.before.before.read-record.ensures c.before.before.before.before.before.trailer-of.ensures c.before.before.are-same.ensures c.before.before.before.before.before.before.before.if2.false c.before.if3.false c.refuse2.ensures
+returns-4 c = says_wrong c.before.before.before.before.before.before.before.before.before.before.before.before.before.before.before.before.args.line.now c.before.before.before.before.before.before.before.before.before.before.before.before.before.before.record-end.ensures c.before.before.before.before.before.before.before.before.before.before.before.before.is-trailer.ensures (not-false _ c.before.before.before.before.before.before.before.before.before.before.before.if1.false) c.before.before.before.before.before.before.before.before.before.read-record.ensures c.before.before.before.before.before.trailer-of.ensures c.before.before.are-same.ensures c.before.before.before.before.before.before.before.if2.false c.before.if3.false c.refuse2.ensures
 
 pub read-trailed-spec : {M : Type 1} → statement M
 read-trailed-spec =

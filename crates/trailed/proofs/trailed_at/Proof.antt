@@ -3,17 +3,17 @@
 use Prim.Native.Nat.{◌≤◌}
 use mathlib.Core.Path.{◌∙◌}
 use native.Mathlib.Omega.{arith}
-use Rattle.format.specs.Files.{lineFeed}
-use Rattle.frame.proofs.Parts.{next-from}
-use Rattle.files.proofs.Answers.{says_last, says-line}
-use Rattle.trailed.specs.Trailed.{readTrailed}
+use Rattle.format.specs.Files.{line_feed}
+use Rattle.frame.proofs.Parts.{next_from}
+use Rattle.files.proofs.Answers.{says_last, says_line}
+use Rattle.trailed.specs.Trailed.{read_trailed}
 use borrow.Author.Rules.{rules}
 use Rattle.trailed.proofs.trailed_at.Statement.{statement}
 use Rattle.trailed.proofs.trailed_at.Tie as tie
 
 -- the line does not end before its place
 from_place : (c : tie.After-line-end) → c.before.before.args.place ≤ c.line-end.result
-from_place c = omega (arith, c.line-end.ensures, next-from lineFeed c.before.before.args.file.now c.before.before.args.place)
+from_place c = omega (arith, c.line-end.ensures, next_from line_feed c.before.before.args.file.now c.before.before.args.place)
 
 line-end-requires : tie.Need-line-end-requires
 line-end-requires c κs = search rules
@@ -22,7 +22,7 @@ last-line-requires : tie.Need-last-line-requires
 last-line-requires c κs = search rules
 
 returns : tie.Need-returns
-returns c = c.last_line.ensures ∙ says_last readTrailed _ _ (omega (arith, c.before.if1.true, c.before.before.line-end.ensures))
+returns c = c.last_line.ensures ∙ says_last read_trailed _ _ (omega (arith, c.before.if1.true, c.before.before.line-end.ensures))
 
 sub-read-trailed : tie.Need-overflow-sub-read-trailed
 sub-read-trailed c = from_place c.before
@@ -43,7 +43,7 @@ add-t11 : tie.Need-overflow-add-t11
 add-t11 c = search rules
 
 returns-2 : tie.Need-returns-2
-returns-2 c = says-line readTrailed c.before.before.before.before.before.args.file.now c.before.before.before.before.before.args.place c.before.before.before.line-end.ensures c.before.before.if1.false c.read-trailed.result c.read-trailed.ensures
+returns-2 c = says_line read_trailed c.before.before.before.before.before.args.file.now c.before.before.before.before.before.args.place c.before.before.before.line-end.ensures c.before.before.if1.false c.read-trailed.result c.read-trailed.ensures
 
 pub trailed-at-spec : {M : Type 1} → statement M
 trailed-at-spec =

@@ -1,6 +1,6 @@
 -- `trailed::trailer_of` meets its contract.
 -- Assumes nothing.
-use Rattle.trailed.proofs.Calls.{trailer-written}
+use Rattle.trailed.proofs.Calls.{trailer_written}
 use borrow.Author.Rules.{rules}
 use Rattle.trailed.proofs.trailer_of.Statement.{statement}
 use Rattle.trailed.proofs.trailer_of.Tie as tie
@@ -21,7 +21,7 @@ put-hex-requires : tie.Need-put-hex-requires
 put-hex-requires c κs = search rules
 
 returns : tie.Need-returns
-returns c = trailer-written c.before.before.before.before.before.before.args.record.now c.before.before.before.before.hash-of.result c.before.before.before.before.hash-of.ensures c.before.put-hex.ensures
+returns c = trailer_written c.before.before.before.before.before.before.args.record.now c.before.before.before.before.hash-of.result c.before.before.before.before.hash-of.ensures c.before.put-hex.ensures
 
 pub trailer-of-spec : {M : Type 1} → statement M
 trailer-of-spec =

@@ -1,9 +1,9 @@
 -- `trailed::write_trailed` meets its contract.
 -- Assumes nothing.
-use Rattle.format.specs.Read.{readRecord}
-use Rattle.given.proofs.Given.{given-refused}
-use Rattle.trailed.specs.Trailed.{writeTrailed}
-use Rattle.trailed.proofs.Calls.{write-short, write-said}
+use Rattle.format.specs.Read.{read_record}
+use Rattle.given.proofs.Given.{given_refused}
+use Rattle.trailed.specs.Trailed.{write_trailed}
+use Rattle.trailed.proofs.Calls.{write_short, write_said}
 use borrow.Author.Rules.{rules}
 use Rattle.trailed.proofs.write_trailed.Statement.{statement}
 use Rattle.trailed.proofs.write_trailed.Tie as tie
@@ -15,8 +15,8 @@ refuse-requires : tie.Need-refuse-requires
 refuse-requires c κs = search rules
 
 returns : tie.Need-returns
-unfolding writeTrailed
-returns c = given-refused _ (readRecord c.before.before.before.before.before.before.args.record.now) c.before.before.before.read-record.ensures c.before.if1.true _ _ c.refuse.ensures
+unfolding write_trailed
+returns c = given_refused _ (read_record c.before.before.before.before.before.before.args.record.now) c.before.before.before.read-record.ensures c.before.if1.true _ _ c.refuse.ensures
 
 add-if2 : tie.Need-overflow-add-if2
 add-if2 c = search rules
@@ -25,7 +25,7 @@ refuse-requires-2 : tie.Need-refuse-requires-2
 refuse-requires-2 c κs = search rules
 
 returns-2 : tie.Need-returns-2
-returns-2 c = write-short c.before.before.before.before.before.before.before.args.record.now c.before.before.before.before.read-record.ensures c.before.before.if1.false _ _ c.before.if2.true c.refuse2.ensures
+returns-2 c = write_short c.before.before.before.before.before.before.before.args.record.now c.before.before.before.before.read-record.ensures c.before.before.if1.false _ _ c.before.if2.true c.refuse2.ensures
 
 trailer-of-requires : tie.Need-trailer-of-requires
 trailer-of-requires c κs = search rules
@@ -43,7 +43,7 @@ same_length : tie.Need-same-length
 same_length c = search rules
 
 returns-3 : tie.Need-returns-3
-returns-3 c = write-said c.before.before.before.before.before.before.before.before.before.before.before.before.before.before.before.before.args.record.now c.before.before.before.before.before.before.before.before.before.before.before.before.before.read-record.ensures c.before.before.before.before.before.before.before.before.before.before.before.if1.false c.before.before.before.before.before.before.before.before.before.before.if2.false c.before.before.before.before.before.before.before.before.before.trailer-of.ensures c.before.before.before.before.before.before.before.put.ensures c.before.before.put2.ensures
+returns-3 c = write_said c.before.before.before.before.before.before.before.before.before.before.before.before.before.before.before.before.args.record.now c.before.before.before.before.before.before.before.before.before.before.before.before.before.read-record.ensures c.before.before.before.before.before.before.before.before.before.before.before.if1.false c.before.before.before.before.before.before.before.before.before.before.if2.false c.before.before.before.before.before.before.before.before.before.trailer-of.ensures c.before.before.before.before.before.before.before.put.ensures c.before.before.put2.ensures
 
 pub write-trailed-spec : {M : Type 1} → statement M
 write-trailed-spec =

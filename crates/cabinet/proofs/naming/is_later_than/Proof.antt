@@ -3,8 +3,8 @@
 use mathlib.Core.Path.{ap, ap₂, ◌∙◌}
 use Rattle.text.specs.Text.{Bytes}
 use Rattle.text.specs.Later.{later}
-use Rattle.subjects.specs.Subjects.{identityPart}
-use Rattle.cabinet.specs.Steps.{isLaterThan}
+use Rattle.subjects.specs.Subjects.{identity_part}
+use Rattle.cabinet.specs.Steps.{is_later_than}
 use borrow.Author.Rules.{rules}
 use Rattle.cabinet.proofs.naming.is_later_than.Statement.{statement}
 use Rattle.cabinet.proofs.naming.is_later_than.Tie as tie
@@ -22,8 +22,8 @@ is-later-requires : tie.Need-is-later-requires
 is-later-requires c κs = search rules
 
 returns : tie.Need-returns
-unfolding isLaterThan
-returns c = c.is_later.ensures ∙ ap₂ later c.before.before.before.field_in.ensures.holds (c.before.field-in2.ensures.holds ∙ ap (λ (x : Bytes). identityPart x 3) c.before.before.subject-in.ensures)
+unfolding is_later_than
+returns c = c.is_later.ensures ∙ ap₂ later c.before.before.before.field_in.ensures.holds (c.before.field-in2.ensures.holds ∙ ap (λ (x : Bytes). identity_part x 3) c.before.before.subject-in.ensures)
 
 pub is-later-than-spec : {M : Type 1} → statement M
 is-later-than-spec =

@@ -1,6 +1,6 @@
 -- `cabinet::naming::names_in` meets its contract.
 -- Assumes nothing.
-use Rattle.cabinet.proofs.Bytes.{names-short, names-there}
+use Rattle.cabinet.proofs.Bytes.{names_short, names_there}
 use borrow.Author.Rules.{rules}
 use Rattle.cabinet.proofs.naming.names_in.Statement.{statement}
 use Rattle.cabinet.proofs.naming.names_in.Tie as tie
@@ -18,7 +18,7 @@ part-result-end : tie.Need-slice-bounds-result-end
 part-result-end c = search rules
 
 returns : tie.Need-returns
-returns c = names-short c.before.before.before.before.args.identity.now c.before.before.part-start.ensures c.before.if1.true
+returns c = names_short c.before.before.before.before.args.identity.now c.before.before.part-start.ensures c.before.if1.true
 
 sub-result-2 : tie.Need-overflow-sub-result-2
 sub-result-2 c = search rules
@@ -30,7 +30,7 @@ part-result-end-2 : tie.Need-slice-bounds-result-end-2
 part-result-end-2 c = search rules
 
 returns-2 : tie.Need-returns-2
-returns-2 c = names-there c.before.before.before.before.args.identity.now c.before.before.part-start.ensures c.before.if1.false
+returns-2 c = names_there c.before.before.before.before.args.identity.now c.before.before.part-start.ensures c.before.if1.false
 
 pub names-in-spec : {M : Type 1} → statement M
 names-in-spec =

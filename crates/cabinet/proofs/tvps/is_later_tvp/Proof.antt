@@ -1,6 +1,6 @@
 -- `cabinet::tvps::is_later_tvp` meets its contract.
 -- Assumes nothing.
-use Rattle.cabinet.specs.Steps.{isLaterTvp}
+use Rattle.cabinet.specs.Steps.{is_later_tvp}
 use borrow.Author.Rules.{rules}
 use Rattle.cabinet.proofs.tvps.is_later_tvp.Statement.{statement}
 use Rattle.cabinet.proofs.tvps.is_later_tvp.Tie as tie
@@ -18,7 +18,7 @@ is-later-requires : tie.Need-is-later-requires
 is-later-requires c κs = search rules
 
 returns : tie.Need-returns
-unfolding isLaterTvp
+unfolding is_later_tvp
 returns c = c.is_later.ensures
 
 pub is-later-tvp-spec : {M : Type 1} → statement M

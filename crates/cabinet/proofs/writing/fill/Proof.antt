@@ -3,7 +3,7 @@
 use Prim.Native.Nat.{◌-◌}
 use native.Mathlib.Omega.{arith}
 use lib.ListN.{length}
-use Rattle.cabinet.proofs.Bytes.{Filled, filled_none, filled-length, filled_more, filled-all}
+use Rattle.cabinet.proofs.Bytes.{Filled, filled_none, filled_length, filled_more, filled_all}
 use borrow.Author.Rules.{rules}
 use Rattle.cabinet.proofs.writing.fill.Statement.{statement}
 use Rattle.cabinet.proofs.writing.fill.Tie as tie
@@ -27,16 +27,16 @@ add-j : tie.Need-overflow-add-j invariant-loop decreases-loop
 add-j c = search rules
 
 loop-less : tie.Need-loop-smaller invariant-loop decreases-loop
-loop-less c = omega (arith, filled-length c.before.before.loop.invariant)
+loop-less c = omega (arith, filled_length c.before.before.loop.invariant)
 
 loop-again : tie.Need-loop-preserved invariant-loop decreases-loop
 loop-again c = filled_more c.before.before.loop.invariant c.before.loop-test.true c.byte_of.ensures
 
 same_length : tie.Need-same-length invariant-loop decreases-loop
-same_length c = filled-length c.before.loop.invariant
+same_length c = filled_length c.before.loop.invariant
 
 returns : tie.Need-returns invariant-loop decreases-loop
-returns c = filled-all c.before.loop.invariant c.loop-test.false
+returns c = filled_all c.before.loop.invariant c.loop-test.false
 
 pub fill_spec : {M : Type 1} → statement M
 fill_spec =

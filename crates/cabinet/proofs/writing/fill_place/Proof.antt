@@ -1,7 +1,7 @@
 -- `cabinet::writing::fill_place` meets its contract.
 -- Assumes nothing.
 use native.Mathlib.Omega.{arith}
-use Rattle.cabinet.proofs.Bytes.{front-written, back-written}
+use Rattle.cabinet.proofs.Bytes.{front_written, back_written}
 use borrow.Author.Rules.{rules}
 use Rattle.cabinet.proofs.writing.fill_place.Statement.{statement}
 use Rattle.cabinet.proofs.writing.fill_place.Tie as tie
@@ -34,7 +34,7 @@ same_length : tie.Need-same-length
 same_length c = search rules
 
 returns : tie.Need-returns
-returns c = back-written c.before.before.before.before.before.before.before.before.before.before.before.requires (front-written c.before.before.before.before.before.before.before.before.before.before.before.requires c.before.before.before.before.before.before.fill.ensures) c.before.before.fill2.ensures
+returns c = back_written c.before.before.before.before.before.before.before.before.before.before.before.requires (front_written c.before.before.before.before.before.before.before.before.before.before.before.requires c.before.before.before.before.before.before.fill.ensures) c.before.before.fill2.ensures
 
 pub fill-place-spec : {M : Type 1} → statement M
 fill-place-spec =

@@ -1,6 +1,6 @@
 -- `cabinet::writing::write_tvp` meets its contract.
 -- Assumes nothing.
-use Rattle.cabinet.proofs.Bytes.{tvp-written}
+use Rattle.cabinet.proofs.Bytes.{tvp_written}
 use borrow.Author.Rules.{rules}
 use Rattle.cabinet.proofs.writing.write_tvp.Statement.{statement}
 use Rattle.cabinet.proofs.writing.write_tvp.Tie as tie
@@ -33,7 +33,7 @@ same_length : tie.Need-same-length
 same_length c = search rules
 
 returns : tie.Need-returns
-returns c = tvp-written c.before.before.before.before.before.before.requires c.before.before.fill.ensures
+returns c = tvp_written c.before.before.before.before.before.before.requires c.before.before.fill.ensures
 
 pub write-tvp-spec : {M : Type 1} → statement M
 write-tvp-spec =

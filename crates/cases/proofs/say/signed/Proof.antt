@@ -1,6 +1,6 @@
 -- `cases::say::signed` is safe: a number that is not negative is an `u64`, and so is -1 less a negative one.
 -- Assumes nothing.
-use Rattle.text.proofs.Seconds.{minus-fits, minus-casts, casts}
+use Rattle.text.proofs.Seconds.{minus_fits, minus_casts, casts}
 use borrow.Author.Rules.{rules}
 use Rattle.cases.proofs.say.signed.Statement.{statement}
 use Rattle.cases.proofs.say.signed.Tie as tie
@@ -12,10 +12,10 @@ text-requires : tie.Need-text-requires
 text-requires c κs = search rules
 
 sub-print-decimal : tie.Need-overflow-sub-print-decimal
-sub-print-decimal c = minus-fits _ c.before.before.before.ranges.n c.before.before.if1.true
+sub-print-decimal c = minus_fits _ c.before.before.before.ranges.n c.before.before.if1.true
 
 cast-print-decimal : tie.Need-overflow-cast-print-decimal
-cast-print-decimal c = minus-casts _ c.before.before.before.ranges.n c.before.before.if1.true
+cast-print-decimal c = minus_casts _ c.before.before.before.ranges.n c.before.before.if1.true
 
 add-print-decimal : tie.Need-overflow-add-print-decimal
 add-print-decimal c = search rules

@@ -4,7 +4,7 @@ use Prim.Native.Nat.{◌-◌}
 use mathlib.Core.Path.{refl}
 use native.Mathlib.Omega.{arith}
 use lib.ListN.{length}
-use Rattle.confirm.proofs.Compared.{Compared, compared-more, compared-all}
+use Rattle.confirm.proofs.Compared.{Compared, compared_more, compared_all}
 use borrow.Author.Rules.{rules}
 use Rattle.confirm.proofs.tags.are_same.Statement.{statement}
 use Rattle.confirm.proofs.tags.are_same.Tie as tie
@@ -31,10 +31,10 @@ loop-less : tie.Need-loop-smaller invariant-loop decreases-loop
 loop-less c = search rules
 
 loop-again : tie.Need-loop-preserved invariant-loop decreases-loop
-loop-again c = compared-more c.before.before.before.before.args.a.now c.before.before.before.before.args.b.now c.before.before.before.loop.differing c.before.before.before.before.requires c.before.before.loop-test.true c.before.before.before.loop.invariant
+loop-again c = compared_more c.before.before.before.before.args.a.now c.before.before.before.before.args.b.now c.before.before.before.loop.differing c.before.before.before.before.requires c.before.before.loop-test.true c.before.before.before.loop.invariant
 
 returns : tie.Need-returns invariant-loop decreases-loop
-returns c = compared-all c.before.before.args.a.now c.before.before.args.b.now c.before.loop.differing c.before.before.requires c.loop-test.false c.before.loop.invariant
+returns c = compared_all c.before.before.args.a.now c.before.before.args.b.now c.before.loop.differing c.before.before.requires c.loop-test.false c.before.loop.invariant
 
 pub are-same-spec : {M : Type 1} → statement M
 are-same-spec =

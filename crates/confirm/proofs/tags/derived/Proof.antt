@@ -1,6 +1,6 @@
 -- `confirm::tags::derived` meets its contract.
 -- Assumes nothing.
-use Rattle.confirm.proofs.Keys.{derived-so}
+use Rattle.confirm.proofs.Keys.{derived_so}
 use borrow.Author.Rules.{rules}
 use Rattle.confirm.proofs.tags.derived.Statement.{statement}
 use Rattle.confirm.proofs.tags.derived.Tie as tie
@@ -32,7 +32,7 @@ end-requires c κs = search rules
 returns : tie.Need-returns
 returns c =
     let a = c.before.before.before.before.before.before.before.before.before.before.args in
-    derived-so a.z.now a.request.now c.before.before.before.before.before.before.before.begin.ensures c.before.before.before.before.before.before.add.ensures c.before.before.before.before.add2.ensures c.before.add-text.ensures c.end.ensures
+    derived_so a.z.now a.request.now c.before.before.before.before.before.before.before.begin.ensures c.before.before.before.before.before.before.add.ensures c.before.before.before.before.add2.ensures c.before.add-text.ensures c.end.ensures
 
 pub derived-spec : {M : Type 1} → statement M
 derived-spec =

@@ -4,7 +4,7 @@ use mathlib.Core.Path.{◌≡◌, ap, ◌∙◌}
 use native.Mathlib.Omega.{arith}
 use lib.ListN.{length, length-take}
 use Rattle.text.specs.Text.{Bytes, same}
-use Rattle.confirm.proofs.Compared.{tag-length, decoded-tag}
+use Rattle.confirm.proofs.Compared.{tag_length, decoded_tag}
 use borrow.Author.Rules.{rules}
 use Rattle.confirm.proofs.tags.is_tag.Statement.{statement}
 use Rattle.confirm.proofs.tags.is_tag.Tie as tie
@@ -17,7 +17,7 @@ put-decoded-requires c κs = search rules
 
 -- all 24 bytes are written
 written : (c : tie.After-put-decoded) → c.put-decoded.result ≡ 24
-written c = tag-length c.before.before.before.before.args.mac-tag.now c.before.before.before.before.requires.0 c.put-decoded.ensures
+written c = tag_length c.before.before.before.before.args.mac_tag.now c.before.before.before.before.requires.0 c.put-decoded.ensures
 
 array-share-prefix-said : tie.Need-array-share-prefix-said
 array-share-prefix-said c = omega (arith, written c.before)
@@ -31,7 +31,7 @@ are-same-requires c κs = let l : length c.before.before.put-decoded.new.0 ≡ 2
 returns : tie.Need-returns
 returns c =
     let a = c.before.before.before.before.before.before.before.args in
-    c.are-same.ensures ∙ ap (λ (x : Bytes). same x a.tag.now) (decoded-tag a.mac-tag.now c.before.before.before.before.before.before.before.requires.0 c.before.before.before.put-decoded.ensures)
+    c.are-same.ensures ∙ ap (λ (x : Bytes). same x a.tag.now) (decoded_tag a.mac_tag.now c.before.before.before.before.before.before.before.requires.0 c.before.before.before.put-decoded.ensures)
 
 pub is-tag-spec : {M : Type 1} → statement M
 is-tag-spec =

@@ -2,7 +2,7 @@
 -- Assumes nothing.
 use mathlib.Core.List.{[], ◌∷◌}
 use lib.ListN.{length}
-use Rattle.confirm.proofs.Given.{given-two}
+use Rattle.confirm.proofs.Given.{given_two}
 use borrow.Author.Rules.{rules}
 use Rattle.confirm.proofs.texts.add_item.Statement.{statement}
 use Rattle.confirm.proofs.texts.add_item.Tie as tie
@@ -22,7 +22,7 @@ add-requires-2 c κs = search rules
 returns : tie.Need-returns
 returns c =
     let item = c.before.before.before.before.args.item.now in
-    given-two c.before.before.before.before.args.hash (search rules) (length item ∷ []) item c.before.add.ensures c.add2.ensures
+    given_two c.before.before.before.before.args.hash (search rules) (length item ∷ []) item c.before.add.ensures c.add2.ensures
 
 pub add-item-spec : {M : Type 1} → statement M
 add-item-spec =

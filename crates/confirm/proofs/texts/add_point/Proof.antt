@@ -2,7 +2,7 @@
 -- Assumes nothing.
 use mathlib.Core.Path.{ap, ◌∙◌}
 use Rattle.sha384.specs.State.{added}
-use Rattle.confirm.proofs.Given.{point-array}
+use Rattle.confirm.proofs.Given.{point_array}
 use borrow.Author.Rules.{rules}
 use Rattle.confirm.proofs.texts.add_point.Statement.{statement}
 use Rattle.confirm.proofs.texts.add_point.Tie as tie
@@ -26,7 +26,7 @@ add-requires : tie.Need-add-requires
 add-requires c κs = search rules
 
 returns : tie.Need-returns
-returns c = c.add.ensures ∙ ap (added c.before.before.before.before.before.before.args.hash) (point-array c.before.before.before.before.before.before.args.point.now c.before.before.before.before.before.before.requires c.before.before.before.put-decoded.ensures)
+returns c = c.add.ensures ∙ ap (added c.before.before.before.before.before.before.args.hash) (point_array c.before.before.before.before.before.before.args.point.now c.before.before.before.before.before.before.requires c.before.before.before.put-decoded.ensures)
 
 pub add-point-spec : {M : Type 1} → statement M
 add-point-spec =

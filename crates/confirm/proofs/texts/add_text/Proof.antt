@@ -6,15 +6,15 @@ use mathlib.Core.List.{[], ◌∷◌, ◌++◌}
 use native.Mathlib.Omega.{arith}
 use lib.ListN.{length}
 use Rattle.format.specs.Kinds.{REQ}
-use Rattle.format.specs.Read.{fieldsIn}
-use Rattle.agreement.specs.Steps.{lvItem}
-use Rattle.confirm.proofs.Given.{given-two, Given, given-none, given-more, given-all, text-given}
+use Rattle.format.specs.Read.{fields_in}
+use Rattle.agreement.specs.Steps.{lv_item}
+use Rattle.confirm.proofs.Given.{given_two, Given, given_none, given_more, given_all, text_given}
 use borrow.Author.Rules.{rules}
 use Rattle.confirm.proofs.texts.add_text.Statement.{statement}
 use Rattle.confirm.proofs.texts.add_text.Tie as tie
 
 abbrev invariant-loop : tie.invariant-loop
-invariant-loop label fields request starts lens given₀ i₀ given i = Given fields (fieldsIn REQ request) given₀ given i
+invariant-loop label fields request starts lens given₀ i₀ given i = Given fields (fields_in REQ request) given₀ given i
 
 abbrev decreases-loop : tie.decreases-loop
 decreases-loop label fields request starts lens given₀ i₀ given i = length fields - i
@@ -35,10 +35,10 @@ hash-block : (c : tie.After-add invariant-loop decreases-loop) → length c.befo
 hash-block c = search rules
 
 add-item-requires : tie.Need-add-item-requires invariant-loop decreases-loop
-add-item-requires c κs = c.before.before.before.before.before.requires.0.short-label
+add-item-requires c κs = c.before.before.before.before.before.requires.0.short_label
 
 loop-holds : tie.Need-loop-init invariant-loop decreases-loop
-loop-holds c = given-none
+loop-holds c = given_none
 
 mul-add-field : tie.Need-overflow-mul-add-field invariant-loop decreases-loop
 mul-add-field c = search rules
@@ -56,7 +56,7 @@ loop-less : tie.Need-loop-smaller invariant-loop decreases-loop
 loop-less c = omega (arith, c.before.before.loop-test.true)
 
 loop-again : tie.Need-loop-preserved invariant-loop decreases-loop
-loop-again c = given-more c.before.before.before.loop.invariant c.before.before.loop-test.true c.add-field.ensures
+loop-again c = given_more c.before.before.before.loop.invariant c.before.before.loop-test.true c.add-field.ensures
 
 returns : tie.Need-returns invariant-loop decreases-loop
 returns c =
@@ -65,8 +65,8 @@ returns c =
     let ns = a.fields.now in
     let count = (1 + length ns) ∷ [] in
     let l = hash-block c.before.before.before in
-    let front = given-two a.hash l count (lvItem label) c.before.before.before.add.ensures c.before.before.add-item.ensures in
-    text-given a.hash label ns a.request.now (given-all c.before.loop.invariant a.hash (count ++ lvItem label) c.loop-test.false l front)
+    let front = given_two a.hash l count (lv_item label) c.before.before.before.add.ensures c.before.before.add-item.ensures in
+    text_given a.hash label ns a.request.now (given_all c.before.loop.invariant a.hash (count ++ lv_item label) c.loop-test.false l front)
 
 pub add-text-spec : {M : Type 1} → statement M
 add-text-spec =

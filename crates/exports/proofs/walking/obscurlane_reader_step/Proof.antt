@@ -11,7 +11,7 @@ find-requires : tie.Need-find-requires
 find-requires c κs = search rules
 
 returns : tie.Need-returns
-returns c = record { its-line = cc; its-place = cc }
+returns c = record { its_line = cc; its_place = cc }
 
 pub obscurlane-reader-step-spec : {M : Type 1} → statement M
 obscurlane-reader-step-spec = tie.close (tie.spec step-from-requires find-requires returns)

@@ -1,6 +1,6 @@
 -- `fields::attributes::attribute_named_place` meets its contract: the attribute of the number that has the name.
 -- Assumes nothing.
-use Rattle.fields.proofs.Cards.{named-so}
+use Rattle.fields.proofs.Cards.{named_so}
 use borrow.Author.Rules.{rules}
 use Rattle.fields.proofs.attributes.attribute_named_place.Statement.{statement}
 use Rattle.fields.proofs.attributes.attribute_named_place.Tie as tie
@@ -18,7 +18,7 @@ card-place-requires : tie.Need-card-place-requires
 card-place-requires c κs = search rules
 
 returns : tie.Need-returns
-returns c = named-so _ _ _ _ _ _ c.before.number-named.ensures c.before.before.list_of.ensures c.card-place.ensures
+returns c = named_so _ _ _ _ _ _ c.before.number-named.ensures c.before.before.list_of.ensures c.card-place.ensures
 
 pub attribute-named-place-spec : {M : Type 1} → statement M
 attribute-named-place-spec =

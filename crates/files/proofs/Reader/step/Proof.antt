@@ -46,7 +46,7 @@ use denote.Triple.Table.{entered, cited}
 use denote.Triple.Walked.{says, Stays, stay_ref, walk_of, Goes-ref, Walks, ends_at, walked, walk_Meets}
 use denote.Triple.Clauses.{ensured, lasts}
 use Rattle.format.specs.Files.{line_at}
-use Rattle.files.specs.Walk.{lineSaid, nextOf}
+use Rattle.files.specs.Walk.{line_said, next_of}
 use Rattle.files.specs.declared.Reader.{Reader}
 use Rattle.files.specs.declared.Line.{Line}
 use Rattle.files.specs.contracts.Reader as T
@@ -108,7 +108,7 @@ module _ {M : Type 1} {𝓤 : Ura M} (𝓛 : Logic 𝓤) (at_mem : Memory → SP
   v = slice_val h.file.ref_ptr (length h.file.now)
 
   abbrev found : Line
-  found = lineSaid (line_at h.file.now h.place)
+  found = line_said (line_at h.file.now h.place)
 
   -- the struct at exit
   abbrev h' : ℕ → Reader
@@ -159,8 +159,8 @@ module _ {M : Type 1} {𝓤 : Ura M} (𝓛 : Logic 𝓤) (at_mem : Memory → SP
   asked-next : (r : Line) (u : Val) → ent 𝓤 (on_entry 𝓛 next_of.signature tt tt (r, tt) (u ∷ [], tt)) ((NextOf 𝓛 at_mem run).pre (then r u))
   asked-next r u = qed 𝓛 (‵ ftrue ∷ ‵ (owns (S.the_row ∷ []) (r, tt) (u ∷ [], tt)) ∷ []) ∵ join ! $ frame ! $ done !
 
-  said-next : (r : Line) (n : ℕ) → ent 𝓤 (ensured 𝓛 next_of.ended (next_of.clauses 𝓛 at_mem run) tt (r, tt) tt n) (fact 𝓤 (n ≡ nextOf r))
-  said-next r n = ex_e 𝓤 _ (λ ws. snd∗ 𝓤 (sem 𝓛 (lasts next_of.ended tt (r, tt) ws)) (fact 𝓤 (n ≡ nextOf r)))
+  said-next : (r : Line) (n : ℕ) → ent 𝓤 (ensured 𝓛 next_of.ended (next_of.clauses 𝓛 at_mem run) tt (r, tt) tt n) (fact 𝓤 (n ≡ next_of r))
+  said-next r n = ex_e 𝓤 _ (λ ws. snd∗ 𝓤 (sem 𝓛 (lasts next_of.ended tt (r, tt) ws)) (fact 𝓤 (n ≡ next_of r)))
 
   -- what file owns is kept, and place's facts are made anew
   again : (n : ℕ) → n < 2 ^ 64 → ent 𝓤 (sem 𝓛 ((B κ').own h (T'.lowered h ∷ []))) (sem 𝓛 ((B κ').own (h' n) (T'.lowered (h' n) ∷ [])))
@@ -169,10 +169,10 @@ module _ {M : Type 1} {𝓤 : Ura M} (𝓛 : Logic 𝓤) (at_mem : Memory → SP
   abbrev Left : Line → Val → ℕ → List (Item 𝓤)
   Left r u n = ‵ (fobs γ ((B κ').coded.code (h' n))) ∷ ‵ (fbor κ (Body (mem (B κ')) b o γ)) ∷ ‵ (flft κ q) ∷ (‵ (flft κ' q') ⊛ ‵ ftrue) ∷ ‵ ((S.the_row).own_val r (u ∷ [])) ∷ []
 
-  exits : (r : Line) (u : Val) (n : ℕ) → r ≡ found → n ≡ nextOf r → ent 𝓤 (⋆ 𝓛 (Left r u n)) (Post u)
+  exits : (r : Line) (u : Val) (n : ℕ) → r ≡ found → n ≡ next_of r → ent 𝓤 (⋆ 𝓛 (Left r u n)) (Post u)
   exits r u n e e' =
       qed 𝓛 (Left r u n) ∵
-      suffices ! _ (ends_at 𝓛 step.ended stayed (step.clauses 𝓛 at_mem run) (((κ, (κ', tt)), (q, (q', tt)), bounds, x, at), tt) u r (h' n, tt) (tt, tt)) $ says ! record { its-line = e; same-file = refl; its-place = e' } $
+      suffices ! _ (ends_at 𝓛 step.ended stayed (step.clauses 𝓛 at_mem run) (((κ, (κ', tt)), (q, (q', tt)), bounds, x, at), tt) u r (h' n, tt) (tt, tt)) $ says ! record { its_line = e; same_file = refl; its_place = e' } $
       move ! (2 ∷ 3 ∷ []) $ join ! $
       frame ! $ feq_i ! (List Val) (vptr b o ∷ []) (vptr b o ∷ []) refl $ fjoin3 ! $ nothing ! $ move ! (1 ∷ 0 ∷ []) $ fjoin ! $ frame ! $ done !
 
@@ -199,7 +199,7 @@ module _ {M : Type 1} {𝓤 : Ura M} (𝓛 : Logic 𝓤) (at_mem : Memory → SP
         nothing ! $ owned ! S.the_row (Is S.the_row) (EL.makes S.the_type S'.the_plain 𝓛) r (u ∷ []) is $ fjoin ! $ nothing ! $ use2 𝓛 (raw ((NextOf 𝓛 at_mem run).pre (then r u))) (asked-next r u) $
         calls_at ! fm (NextOf 𝓛 at_mem run) known_next (then r u) (and_then ! (load ! (from ! (stop !)) (look ! 13 refl)) (no_more !)) (λ w.
         use1 𝓛 (later (some (λ (n : ℕ). (‵ ftrue ⊛ ‵ (usize.own_val n (w ∷ []))) ⊛ raw (ensured 𝓛 next_of.ended (next_of.clauses 𝓛 at_mem run) tt (r, tt) tt n)))) (id⊢ 𝓤 _) $ await ! tt $ pick ! (λ n.
-        split ! $ move ! (1 ∷ []) $ use1 𝓛 (raw (fact 𝓤 (n ≡ nextOf r))) (said-next r n) $ heard ! (n ≡ nextOf r) (λ e'. split ! $ drop ! $ facts ! usize (Is usize) (shows 𝓛 usize) n (w ∷ []) (λ fits.
+        split ! $ move ! (1 ∷ []) $ use1 𝓛 (raw (fact 𝓤 (n ≡ next_of r))) (said-next r n) $ heard ! (n ≡ next_of r) (λ e'. split ! $ drop ! $ facts ! usize (Is usize) (shows 𝓛 usize) n (w ∷ []) (λ fits.
         -- the positions are again those after the first call
         land ! (from ! (stop !)) (store ! 8 refl ((uint_Lawful 𝓛 w64).typed n _ fits).0) $
         rewrite ! 8 (λ (v' : Val). ‵ (fat full_share (ty_int w64) l₄ 0 v')) (ap only (uint_Tells w64 n _ fits)) refl $

@@ -1,7 +1,7 @@
 -- `reading::together::whole_no` meets its contract.
 -- Assumes nothing.
 use mathlib.Core.Path.{sym, ◌∙◌}
-use Rattle.reading.proofs.Whole.{pubkey-fields, list-field, whole-other}
+use Rattle.reading.proofs.Whole.{pubkey-fields, list_field, whole_other}
 use borrow.Author.Rules.{rules}
 use Rattle.reading.proofs.together.whole_no.Statement.{statement}
 use Rattle.reading.proofs.together.whole_no.Tie as tie
@@ -33,10 +33,10 @@ attributes-no-requires : tie.Need-attributes-no-requires
 attributes-no-requires c κs = search rules
 
 returns-2 : tie.Need-returns-2
-returns-2 c = c.attributes-no.ensures ∙ sym (list-field _ _ _ _ _ _ c.before.before.if2.true c.before.field-at4.ensures.holds)
+returns-2 c = c.attributes-no.ensures ∙ sym (list_field _ _ _ _ _ _ c.before.before.if2.true c.before.field-at4.ensures.holds)
 
 returns-3 : tie.Need-returns-3
-returns-3 c = sym (whole-other _ _ _ (sym c.before.before.is-pubkey.ensures ∙ c.before.if1.false) c.if2.false)
+returns-3 c = sym (whole_other _ _ _ (sym c.before.before.is-pubkey.ensures ∙ c.before.if1.false) c.if2.false)
 
 pub whole-no-spec : {M : Type 1} → statement M
 whole-no-spec =

@@ -1,11 +1,11 @@
 -- `sha384::Sha384::add` meets its contract.
 -- Assumes nothing.
 use Rattle.std.proofs.Common.{◌≡◌, ◌-◌, ◌%◌, length, refl, ◌∙◌, arith, length-take, rules}
-use Rattle.hashing.proofs.Added.{added-short, added-long}
+use Rattle.hashing.proofs.Added.{added_short, added_long}
 use Rattle.sha384.specs.Sha384.{compress}
 use Rattle.sha384.specs.State.{keeping, added}
 use Rattle.sha384.proofs.Taken.{enough}
-use Rattle.sha384.proofs.Added.{whole-fits, used-is, counted}
+use Rattle.sha384.proofs.Added.{whole_fits, used_is, counted}
 use Rattle.sha384.proofs.Sha384.add.Statement.{statement}
 use Rattle.sha384.proofs.Sha384.add.Tie as tie
 
@@ -35,7 +35,7 @@ put-requires c κs = search rules
 
 returns : tie.Need-returns
 unfolding added
-returns c = counted c.before.before.before.before.before.before.before.before.before.before.before.before.args.self c.before.before.before.before.before.before.before.before.before.before.before.before.args.bytes.now c.before.before.before.before.before.plus.ensures c.before.before.before.before.higher.ensures ∙ added-short 128 compress keeping enough c.before.before.before.before.before.before.before.before.before.before.before.before.args.self c.before.before.before.before.before.before.before.before.before.before.before.before.args.bytes.now (search rules) (used-is c.before.before.before.before.before.before.before.before.before.before.before.before.args.self) c.before.before.before.if1.true c.before.before.before.before.before.before.block-of.ensures c.before.put.ensures
+returns c = counted c.before.before.before.before.before.before.before.before.before.before.before.before.args.self c.before.before.before.before.before.before.before.before.before.before.before.before.args.bytes.now c.before.before.before.before.before.plus.ensures c.before.before.before.before.higher.ensures ∙ added_short 128 compress keeping enough c.before.before.before.before.before.before.before.before.before.before.before.before.args.self c.before.before.before.before.before.before.before.before.before.before.before.before.args.bytes.now (search rules) (used_is c.before.before.before.before.before.before.before.before.before.before.before.before.args.self) c.before.before.before.if1.true c.before.before.before.before.before.before.block-of.ensures c.before.put.ensures
 
 slice-aggregate-put-2 : tie.Need-slice-aggregate-put-2
 slice-aggregate-put-2 c = search rules
@@ -50,7 +50,7 @@ sub-whole : tie.Need-overflow-sub-whole
 sub-whole c = search rules
 
 mul-whole : tie.Need-overflow-mul-whole
-mul-whole c = record { fits = whole-fits (length c.before.before.before.before.before.before.before.before.before.before.before.before.before.args.bytes.now) (128 - c.before.before.before.before.before.before.before.before.before.before.before.before.before.args.self.low % 128) (search rules) }
+mul-whole c = record { fits = whole_fits (length c.before.before.before.before.before.before.before.before.before.before.before.before.before.args.bytes.now) (128 - c.before.before.before.before.before.before.before.before.before.before.before.before.before.args.self.low % 128) (search rules) }
 
 add-whole : tie.Need-overflow-add-whole
 add-whole c = search rules
@@ -84,7 +84,7 @@ block-of-requires-2 c κs = search rules
 
 returns-2 : tie.Need-returns-2
 unfolding added
-returns-2 c = counted c.before.before.before.before.before.before.before.before.before.before.before.before.before.before.before.before.before.before.args.self c.before.before.before.before.before.before.before.before.before.before.before.before.before.before.before.before.before.before.args.bytes.now c.before.before.before.before.before.before.before.before.before.before.before.plus.ensures c.before.before.before.before.before.before.before.before.before.before.higher.ensures ∙ added-long 128 compress keeping enough c.before.before.before.before.before.before.before.before.before.before.before.before.before.before.before.before.before.before.args.self c.before.before.before.before.before.before.before.before.before.before.before.before.before.before.before.before.before.before.args.bytes.now (search (rules, c.before.before.before.before.before.before.before.before.before.before.before.before.before.before.before.before.before.before.well-formed)) (used-is c.before.before.before.before.before.before.before.before.before.before.before.before.before.before.before.before.before.before.args.self) c.before.before.before.before.before.before.before.before.before.if1.false c.before.before.before.before.before.before.before.before.before.before.before.before.block-of.ensures c.before.before.before.before.before.before.put2.ensures refl refl c.before.before.hash-both.ensures c.block-of2.ensures
+returns-2 c = counted c.before.before.before.before.before.before.before.before.before.before.before.before.before.before.before.before.before.before.args.self c.before.before.before.before.before.before.before.before.before.before.before.before.before.before.before.before.before.before.args.bytes.now c.before.before.before.before.before.before.before.before.before.before.before.plus.ensures c.before.before.before.before.before.before.before.before.before.before.higher.ensures ∙ added_long 128 compress keeping enough c.before.before.before.before.before.before.before.before.before.before.before.before.before.before.before.before.before.before.args.self c.before.before.before.before.before.before.before.before.before.before.before.before.before.before.before.before.before.before.args.bytes.now (search (rules, c.before.before.before.before.before.before.before.before.before.before.before.before.before.before.before.before.before.before.well-formed)) (used_is c.before.before.before.before.before.before.before.before.before.before.before.before.before.before.before.before.before.before.args.self) c.before.before.before.before.before.before.before.before.before.if1.false c.before.before.before.before.before.before.before.before.before.before.before.before.block-of.ensures c.before.before.before.before.before.before.put2.ensures refl refl c.before.before.hash-both.ensures c.block-of2.ensures
 
 pub add_spec : {M : Type 1} → statement M
 add_spec =

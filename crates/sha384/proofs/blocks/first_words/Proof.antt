@@ -3,7 +3,7 @@
 use Rattle.std.proofs.Common.{◌≡◌, ℕ, ◌-◌, ◌≤◌, [], take, sym, refl, ap, ◌∙◌, arith, rules}
 use Rattle.hashing.specs.Turns.{turns, grown}
 use Rattle.sha384.specs.Sha384.{words}
-use Rattle.hashing.proofs.Turns.{Filled, grown-step}
+use Rattle.hashing.proofs.Turns.{Filled, grown_step}
 use Rattle.sha384.proofs.blocks.first_words.Statement.{statement}
 use Rattle.sha384.proofs.blocks.first_words.Tie as tie
 
@@ -37,7 +37,7 @@ loop-less c = search rules
 
 loop-again : tie.Need-loop-preserved invariant-loop decreases-loop
 unfolding words
-loop-again c = (search rules, grown-step _ [] c.before.before.loop.invariant.1 (omega arith) c.word_at.ensures)
+loop-again c = (search rules, grown_step _ [] c.before.before.loop.invariant.1 (omega arith) c.word_at.ensures)
 
 returns : tie.Need-returns invariant-loop decreases-loop
 returns c = let e : c.before.loop.t ≡ 16 = omega arith in (c.before.loop.invariant.1.whole, ap (λ (j : ℕ). take j c.before.loop.w) (sym e) ∙ c.before.loop.invariant.1.front ∙ ap (words c.before.before.before.args.block.now) e)

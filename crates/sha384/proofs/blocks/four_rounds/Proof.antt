@@ -1,6 +1,6 @@
 -- `sha384::blocks::four_rounds` meets its contract.
 -- Assumes nothing.
-use Rattle.hashing.proofs.Turns.{turns-four}
+use Rattle.hashing.proofs.Turns.{turns_four}
 use Rattle.sha384.specs.Sha384.{rounds}
 use Rattle.std.proofs.Common.{rules}
 use Rattle.sha384.proofs.blocks.four_rounds.Statement.{statement}
@@ -86,7 +86,7 @@ round-requires-4 c κs = search rules
 
 returns : tie.Need-returns
 unfolding rounds
-returns c = λ u e. turns-four _ u c.before.before.before.before.before.before.before.before.before.before.before.before.args.i e c.before.before.before.before.before.before.before.before.before.round.ensures c.before.before.before.before.before.before.round2.ensures c.before.before.before.round3.ensures c.round4.ensures
+returns c = λ u e. turns_four _ u c.before.before.before.before.before.before.before.before.before.before.before.before.args.i e c.before.before.before.before.before.before.before.before.before.round.ensures c.before.before.before.before.before.before.round2.ensures c.before.before.before.round3.ensures c.round4.ensures
 
 pub four-rounds-spec : {M : Type 1} → statement M
 four-rounds-spec =

@@ -4,7 +4,7 @@ use Rattle.std.proofs.Common.{◌≡◌, ◌-◌, ◌/◌, ◌≤◌, length, re
 use Rattle.hashing.specs.Turns.{turns}
 use Rattle.hashing.specs.Blocks as blocks
 use Rattle.sha384.specs.Sha384.{compress, hashed}
-use Rattle.hashing.proofs.Blocks.{hashed-more}
+use Rattle.hashing.proofs.Blocks.{hashed_more}
 use Rattle.sha384.proofs.blocks.hash_by.Statement.{statement}
 use Rattle.sha384.proofs.blocks.hash_by.Tie as tie
 
@@ -43,7 +43,7 @@ loop-less : tie.Need-loop-smaller invariant-loop decreases-loop
 loop-less c = search rules
 
 loop-again : tie.Need-loop-preserved invariant-loop decreases-loop
-loop-again c = ((c.before.before.before.loop.invariant.0.0, search rules), hashed-more 128 compress c.before.before.before.before.before.args.v c.before.before.before.before.before.args.bytes.now c.before.before.before.loop.i c.before.before.before.loop.invariant.1 c.compress.ensures)
+loop-again c = ((c.before.before.before.loop.invariant.0.0, search rules), hashed_more 128 compress c.before.before.before.before.before.args.v c.before.before.before.before.before.args.bytes.now c.before.before.before.loop.i c.before.before.before.loop.invariant.1 c.compress.ensures)
 
 returns : tie.Need-returns invariant-loop decreases-loop
 returns c = let e : c.before.loop.i ≡ length c.before.before.before.args.bytes.now / 128 = omega arith in c.before.loop.invariant.1 ∙ ap (hashed c.before.before.before.args.v c.before.before.before.args.bytes.now) e

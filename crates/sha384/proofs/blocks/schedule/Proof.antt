@@ -3,8 +3,8 @@
 use Rattle.std.proofs.Common.{◌≡◌, ◌+◌, ◌-◌, ◌≤◌, ap, ◌∙◌, arith, rules}
 use Rattle.hashing.specs.Turns.{turns, grown}
 use Rattle.sha384.specs.Sha384.{next, schedule}
-use Rattle.hashing.proofs.Turns.{Filled, schedule-step, filled-all}
-use Rattle.sha384.proofs.Rounds.{next-front}
+use Rattle.hashing.proofs.Turns.{Filled, schedule_step, filled_all}
+use Rattle.sha384.proofs.Rounds.{next_front}
 use Rattle.sha384.proofs.blocks.schedule.Statement.{statement}
 use Rattle.sha384.proofs.blocks.schedule.Tie as tie
 
@@ -41,10 +41,10 @@ loop-less c = search rules
 
 loop-again : tie.Need-loop-preserved invariant-loop decreases-loop
 unfolding schedule
-loop-again c = (search rules, schedule-step next _ next-front c.before.before.before.loop.invariant.1 c.before.before.loop-test.true c.next_word.ensures)
+loop-again c = (search rules, schedule_step next _ next_front c.before.before.before.loop.invariant.1 c.before.before.loop-test.true c.next_word.ensures)
 
 returns : tie.Need-returns invariant-loop decreases-loop
-returns c = let e : c.before.loop.n ≡ 64 = omega arith in filled-all c.before.loop.invariant.1 (omega arith) ∙ ap (schedule c.before.before.before.before.args.block.now) e
+returns c = let e : c.before.loop.n ≡ 64 = omega arith in filled_all c.before.loop.invariant.1 (omega arith) ∙ ap (schedule c.before.before.before.before.args.block.now) e
 
 pub schedule-spec : {M : Type 1} → statement M
 schedule-spec =

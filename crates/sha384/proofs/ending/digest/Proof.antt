@@ -1,6 +1,6 @@
 -- `sha384::ending::digest` meets its contract.
 -- Assumes nothing.
-use Rattle.sha384.proofs.Written.{digest-of}
+use Rattle.sha384.proofs.Written.{digest_of}
 use Rattle.std.proofs.Common.{rules}
 use Rattle.sha384.proofs.ending.digest.Statement.{statement}
 use Rattle.sha384.proofs.ending.digest.Tie as tie
@@ -42,7 +42,7 @@ put-word-requires-6 : tie.Need-put-word-requires-6
 put-word-requires-6 c κs = search rules
 
 returns : tie.Need-returns
-returns c = digest-of c.before.before.before.before.before.before.before.before.before.before.before.before.before.before.before.before.before.before.args.v c.before.before.before.before.before.before.before.before.before.before.before.before.before.before.before.before.put_word.ensures c.before.before.before.before.before.before.before.before.before.before.before.before.before.put-word2.ensures c.before.before.before.before.before.before.before.before.before.before.put-word3.ensures c.before.before.before.before.before.before.before.put-word4.ensures c.before.before.before.before.put-word5.ensures c.before.put-word6.ensures
+returns c = digest_of c.before.before.before.before.before.before.before.before.before.before.before.before.before.before.before.before.before.before.args.v c.before.before.before.before.before.before.before.before.before.before.before.before.before.before.before.before.put_word.ensures c.before.before.before.before.before.before.before.before.before.before.before.before.before.put-word2.ensures c.before.before.before.before.before.before.before.before.before.before.put-word3.ensures c.before.before.before.before.before.before.before.put-word4.ensures c.before.before.before.before.put-word5.ensures c.before.put-word6.ensures
 
 pub digest-spec : {M : Type 1} → statement M
 digest-spec =

@@ -1,7 +1,7 @@
 -- `sha384::ending::padding` meets its contract.
 -- Assumes nothing.
 use Rattle.std.proofs.Common.{ℕ, ◌+◌, ap, arith, rules}
-use Rattle.sha384.proofs.Written.{high_fits, padding-of}
+use Rattle.sha384.proofs.Written.{high_fits, padding_of}
 use Rattle.sha384.proofs.ending.padding.Statement.{statement}
 use Rattle.sha384.proofs.ending.padding.Tie as tie
 
@@ -30,7 +30,7 @@ put-word-requires-2 : tie.Need-put-word-requires-2
 put-word-requires-2 c κs = search rules
 
 returns : tie.Need-returns
-returns c = padding-of c.before.before.before.before.before.before.before.args.high c.before.before.before.before.before.before.before.args.low (omega arith) (ap (λ (j : ℕ). j + 1) c.before.before.before.before.before.before.zeros-after.ensures) c.before.before.before.before.put_word.ensures c.before.put-word2.ensures
+returns c = padding_of c.before.before.before.before.before.before.before.args.high c.before.before.before.before.before.before.before.args.low (omega arith) (ap (λ (j : ℕ). j + 1) c.before.before.before.before.before.before.zeros-after.ensures) c.before.before.before.before.put_word.ensures c.before.put-word2.ensures
 
 pub padding-spec : {M : Type 1} → statement M
 padding-spec =

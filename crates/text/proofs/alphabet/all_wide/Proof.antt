@@ -6,7 +6,7 @@ use mathlib.Core.Bool.{◌&&◌}
 use lib.ListN.{length, drop}
 use Rattle.text.specs.Text.{every}
 use Rattle.text.specs.Steps.{belongs}
-use Rattle.text.proofs.Loops.{every-on, every-end}
+use Rattle.text.proofs.Loops.{every_on, every_end}
 use borrow.Author.Rules.{rules}
 use Rattle.text.proofs.alphabet.all_wide.Statement.{statement}
 use Rattle.text.proofs.alphabet.all_wide.Tie as tie
@@ -35,10 +35,10 @@ loop-less c = search rules
 loop-again : tie.Need-loop-preserved invariant-loop decreases-loop
 loop-again c = let a = c.before.before.before.before.before.args in
     let l = c.before.before.before.loop in
-    rw c.does-belong.ensures (every-on (belongs a.alphabet) a.s.now l.i l.all l.invariant c.before.before.loop-test.true)
+    rw c.does-belong.ensures (every_on (belongs a.alphabet) a.s.now l.i l.all l.invariant c.before.before.loop-test.true)
 
 returns : tie.Need-returns invariant-loop decreases-loop
-returns c = every-end (belongs c.before.before.before.args.alphabet) _ _ _ c.before.loop.invariant c.loop-test.false
+returns c = every_end (belongs c.before.before.before.args.alphabet) _ _ _ c.before.loop.invariant c.loop-test.false
 
 pub all-wide-spec : {M : Type 1} → statement M
 all-wide-spec =

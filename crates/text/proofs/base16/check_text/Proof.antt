@@ -1,6 +1,6 @@
 -- `text::base16::check_text` meets its contract.
 -- Assumes nothing.
-use Rattle.text.specs.Base16.{checkText}
+use Rattle.text.specs.Base16.{check_text}
 use borrow.Author.Rules.{rules}
 use Rattle.text.proofs.base16.check_text.Statement.{statement}
 use Rattle.text.proofs.base16.check_text.Tie as tie
@@ -24,7 +24,7 @@ hex-digit-requires-4 : tie.Need-hex-digit-requires-4
 hex-digit-requires-4 c κs = search rules
 
 returns : tie.Need-returns
-unfolding checkText
+unfolding check_text
 returns c = cc (c.before.before.before.hex-digit.ensures, c.before.before.hex-digit2.ensures, c.before.hex-digit3.ensures, c.hex-digit4.ensures)
 
 pub check-text-spec : {M : Type 1} → statement M

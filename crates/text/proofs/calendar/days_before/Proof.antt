@@ -3,7 +3,7 @@
 use Prim.Native.Nat.{ℕ, ◌+◌, ◌-◌}
 use mathlib.Core.Path.{ap₂}
 use native.Mathlib.Omega.{arith}
-use Rattle.text.specs.Calendar.{daysBefore}
+use Rattle.text.specs.Calendar.{days_before}
 use borrow.Author.Rules.{rules}
 use Rattle.text.proofs.calendar.days_before.Statement.{statement}
 use Rattle.text.proofs.calendar.days_before.Tie as tie
@@ -30,7 +30,7 @@ add-result-2 : tie.Need-overflow-add-result-2
 add-result-2 c = search rules
 
 returns : tie.Need-returns
-unfolding daysBefore
+unfolding days_before
 returns c =
     let a = c.before.before.args in
     (ap₂ (λ (x y : ℕ). x + y + (a.day - 1)) c.before.days-of-years.ensures.0 c.days-of-months.ensures.0, omega arith)

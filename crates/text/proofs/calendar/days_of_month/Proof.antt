@@ -3,7 +3,7 @@
 use mathlib.Core.Path.{sym, ◌∙◌}
 use mathlib.Core.Bool.{true, false}
 use borrow.Author.Rules.{rules}
-use Rattle.text.proofs.Days.{february, thirty, thirty-one}
+use Rattle.text.proofs.Days.{february, thirty, thirty_one}
 use Rattle.text.proofs.calendar.days_of_month.Statement.{statement}
 use Rattle.text.proofs.calendar.days_of_month.Tie as tie
 
@@ -20,7 +20,7 @@ returns-3 : tie.Need-returns-3
 returns-3 c = sym (thirty c.before.args.year _ c.match.keys2)
 
 returns-4 : tie.Need-returns-4
-returns-4 c = sym (thirty-one c.before.args.year _ c.match.rest.0.1 c.match.rest.1)
+returns-4 c = sym (thirty_one c.before.args.year _ c.match.rest.0.1 c.match.rest.1)
 
 pub days-of-month-spec : {M : Type 1} → statement M
 days-of-month-spec = tie.close (tie.spec is-leap-requires returns returns-2 returns-3 returns-4)

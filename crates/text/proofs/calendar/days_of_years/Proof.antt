@@ -2,7 +2,7 @@
 -- Assumes nothing.
 use mathlib.Core.Path.{sym}
 use native.Mathlib.Omega.{arith}
-use Rattle.text.proofs.Counting.{years-closed}
+use Rattle.text.proofs.Counting.{years_closed}
 use borrow.Author.Rules.{rules}
 use Rattle.text.proofs.calendar.days_of_years.Statement.{statement}
 use Rattle.text.proofs.calendar.days_of_years.Tie as tie
@@ -20,7 +20,7 @@ add-result-2 : tie.Need-overflow-add-result-2
 add-result-2 c = search rules
 
 returns : tie.Need-returns
-returns c = (sym (years-closed c.args.n), omega arith)
+returns c = (sym (years_closed c.args.n), omega arith)
 
 pub days-of-years-spec : {M : Type 1} → statement M
 days-of-years-spec = tie.close (tie.spec mul-result add-result sub-result add-result-2 returns)

@@ -2,7 +2,7 @@
 -- Assumes nothing.
 use Prim.Native.Nat.{ℕ}
 use mathlib.Core.Path.{ap, ap₂, ◌∙◌}
-use Rattle.text.specs.Calendar.{daysOfMonth}
+use Rattle.text.specs.Calendar.{days_of_month}
 use Rattle.text.specs.Text.{between, day}
 use borrow.Author.Rules.{rules}
 use Rattle.text.proofs.date.is_day.Statement.{statement}
@@ -24,7 +24,7 @@ returns : tie.Need-returns
 returns c =
     c.is-two-between.ensures
     ∙ ap (λ (n : ℕ). between 1 n (day c.before.before.before.before.before.args.s.now))
-    (c.before.days-of-month.ensures ∙ ap₂ daysOfMonth c.before.before.before.year-of.ensures c.before.before.two.ensures.0)
+    (c.before.days-of-month.ensures ∙ ap₂ days_of_month c.before.before.before.year-of.ensures c.before.before.two.ensures.0)
 
 pub is-day-spec : {M : Type 1} → statement M
 is-day-spec = tie.close (tie.spec year-of-requires two-requires days-of-month-requires is-two-between-requires returns)

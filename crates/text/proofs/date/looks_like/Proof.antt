@@ -6,7 +6,7 @@ use native.Mathlib.Omega.{arith}
 use lib.ListN.{length, drop}
 use borrow.Author.Tests.{not-true, not-false}
 use Rattle.text.specs.Text.{fits, looks}
-use Rattle.text.proofs.Loops.{looks-pairwise, apart, pairwise-stop, pairwise-on, pairwise-end}
+use Rattle.text.proofs.Loops.{looks_pairwise, apart, pairwise_stop, pairwise_on, pairwise_end}
 use borrow.Author.Rules.{rules}
 use Rattle.text.proofs.date.looks_like.Statement.{statement}
 use Rattle.text.proofs.date.looks_like.Tie as tie
@@ -18,7 +18,7 @@ abbrev decreases-loop : tie.decreases-loop
 decreases-loop pattern s i₀ i = length pattern - i
 
 returns : tie.Need-returns invariant-loop decreases-loop
-returns c = sym (apart fits looks looks-pairwise c.before.before.before.args.pattern.now c.before.before.before.args.s.now c.if1.true)
+returns c = sym (apart fits looks looks_pairwise c.before.before.before.args.pattern.now c.before.before.before.args.s.now c.if1.true)
 
 loop-holds : tie.Need-loop-init invariant-loop decreases-loop
 loop-holds c = refl
@@ -33,7 +33,7 @@ does-fit-requires : tie.Need-does-fit-requires invariant-loop decreases-loop
 does-fit-requires c κs = search rules
 
 returns-2 : tie.Need-returns-2 invariant-loop decreases-loop
-returns-2 c = sym (pairwise-stop fits looks looks-pairwise _ _ _ c.before.before.before.before.loop-test.true (omega arith) (sym c.before.does-fit.ensures ∙ not-true _ c.if2.true)) ∙ c.before.before.before.before.before.loop.invariant
+returns-2 c = sym (pairwise_stop fits looks looks_pairwise _ _ _ c.before.before.before.before.loop-test.true (omega arith) (sym c.before.does_fit.ensures ∙ not-true _ c.if2.true)) ∙ c.before.before.before.before.before.loop.invariant
 
 add-i : tie.Need-overflow-add-i invariant-loop decreases-loop
 add-i c = search rules
@@ -42,10 +42,10 @@ loop-less : tie.Need-loop-smaller invariant-loop decreases-loop
 loop-less c = search rules
 
 loop-again : tie.Need-loop-preserved invariant-loop decreases-loop
-loop-again c = pairwise-on fits looks looks-pairwise _ _ _ c.before.before.before.before.loop-test.true (omega arith) (sym c.before.does-fit.ensures ∙ not-false _ c.if2.false) ∙ c.before.before.before.before.before.loop.invariant
+loop-again c = pairwise_on fits looks looks_pairwise _ _ _ c.before.before.before.before.loop-test.true (omega arith) (sym c.before.does_fit.ensures ∙ not-false _ c.if2.false) ∙ c.before.before.before.before.before.loop.invariant
 
 returns-3 : tie.Need-returns-3 invariant-loop decreases-loop
-returns-3 c = sym (pairwise-end fits looks looks-pairwise _ _ _ c.loop-test.false (omega arith)) ∙ c.before.loop.invariant
+returns-3 c = sym (pairwise_end fits looks looks_pairwise _ _ _ c.loop-test.false (omega arith)) ∙ c.before.loop.invariant
 
 pub looks-like-spec : {M : Type 1} → statement M
 looks-like-spec =

@@ -1,7 +1,7 @@
 -- `text::date::two` meets its contract.
 -- Assumes nothing.
 use native.Mathlib.Omega.{arith}
-use Rattle.text.proofs.Loops.{number-two}
+use Rattle.text.proofs.Loops.{number_two}
 use borrow.Author.Rules.{rules}
 use Rattle.text.proofs.date.two.Statement.{statement}
 use Rattle.text.proofs.date.two.Tie as tie
@@ -28,7 +28,7 @@ add-result : tie.Need-overflow-add-result
 add-result c = search rules
 
 returns : tie.Need-returns
-returns c = (omega (arith, number-two c.before.before.before.before.before.args.s.now c.before.before.before.before.before.args.i c.before.before.before.before.before.requires), omega arith)
+returns c = (omega (arith, number_two c.before.before.before.before.before.args.s.now c.before.before.before.before.before.args.i c.before.before.before.before.before.requires), omega arith)
 
 pub two-spec : {M : Type 1} → statement M
 two-spec =

@@ -3,7 +3,7 @@
 use mathlib.Core.Path.{ap₂}
 use lib.Signed.{lt_z}
 use Rattle.text.specs.Later.{later}
-use Rattle.text.proofs.Seconds.{moment-back}
+use Rattle.text.proofs.Seconds.{moment_back}
 use borrow.Author.Rules.{rules}
 use Rattle.text.proofs.moment.is_later.Statement.{statement}
 use Rattle.text.proofs.moment.is_later.Tie as tie
@@ -16,7 +16,7 @@ moment-of-requires-2 c κs = search rules
 
 returns : tie.Need-returns
 unfolding later
-returns c = ap₂ lt_z (moment-back _ c.before.before.before.before.moment-of2.ensures) (moment-back _ c.before.before.before.before.before.moment-of.ensures)
+returns c = ap₂ lt_z (moment_back _ c.before.before.before.before.moment-of2.ensures) (moment_back _ c.before.before.before.before.before.moment-of.ensures)
 
 pub is-later-spec : {M : Type 1} → statement M
 is-later-spec = tie.close (tie.spec moment-of-requires moment-of-requires-2 returns)

@@ -3,7 +3,7 @@
 use mathlib.Core.Path.{ap, ◌∙◌}
 use mir.Syntax.{w64}
 use mir.ValLaws.{to_z-of_z}
-use Rattle.text.specs.Seconds.{twosComplement, bigEndian, secondsBytes}
+use Rattle.text.specs.Seconds.{twos_complement, big_endian, seconds_bytes}
 use borrow.Author.Rules.{rules}
 use Rattle.text.proofs.moment.seconds_bytes.Statement.{statement}
 use Rattle.text.proofs.moment.seconds_bytes.Tie as tie
@@ -36,8 +36,8 @@ cast-t25 : tie.Need-overflow-cast-t25
 cast-t25 c = search rules
 
 returns : tie.Need-returns
-unfolding secondsBytes
-returns c = ap (bigEndian 8) (c.twos-complement.ensures ∙ ap twosComplement (to_z-of_z w64 c.before.args.seconds c.before.ranges.seconds))
+unfolding seconds_bytes
+returns c = ap (big_endian 8) (c.twos-complement.ensures ∙ ap twos_complement (to_z-of_z w64 c.before.args.seconds c.before.ranges.seconds))
 
 pub seconds-bytes-spec : {M : Type 1} → statement M
 seconds-bytes-spec =

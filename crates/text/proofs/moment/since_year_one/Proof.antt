@@ -4,18 +4,18 @@ use Prim.Native.Nat.{ℕ}
 use mathlib.Core.Path.{◌≡◌, refl, ap, ap₂, ◌∙◌}
 use native.Mathlib.Omega.{arith}
 use lib.ListN.{length}
-use Rattle.text.specs.Calendar.{daysBefore}
+use Rattle.text.specs.Calendar.{days_before}
 use Rattle.text.specs.Text.{year, month, day}
-use Rattle.text.specs.Seconds.{sinceYearOne}
-use Rattle.text.proofs.Types.{timestamp-length}
-use Rattle.text.proofs.Counting.{month-most}
+use Rattle.text.specs.Seconds.{since_year_one}
+use Rattle.text.proofs.Types.{timestamp_length}
+use Rattle.text.proofs.Counting.{month_most}
 use Rattle.text.proofs.Seconds.{parts}
 use borrow.Author.Rules.{rules}
 use Rattle.text.proofs.moment.since_year_one.Statement.{statement}
 use Rattle.text.proofs.moment.since_year_one.Tie as tie
 
 long : (c : tie.Start) → length c.args.s.now ≡ 16
-long c = timestamp-length c.args.s.now c.requires
+long c = timestamp_length c.args.s.now c.requires
 
 year-of-requires : tie.Need-year-of-requires
 year-of-requires c κs = omega (arith, long c.before)
@@ -33,7 +33,7 @@ days-before-requires c κs =
     let p = parts s start.requires in
     let d = p.date in
     rw (c.before.before.year-of.ensures, c.before.two.ensures.0, c.two2.ensures.0)
-    (d.year-from, p.year-to, d.month-from, d.month-to, d.day-from, omega (arith, d.day-to, month-most (year s) (month s)))
+    (d.year_from, p.year_to, d.month_from, d.month_to, d.day_from, omega (arith, d.day_to, month_most (year s) (month s)))
 
 two-requires-3 : tie.Need-two-requires-3
 two-requires-3 c κs = omega (arith, long c.before.before.before.before.before)
@@ -63,17 +63,17 @@ add-result-3 : tie.Need-overflow-add-result-3
 add-result-3 c = search rules
 
 returns : tie.Need-returns
-unfolding sinceYearOne
+unfolding since_year_one
 returns c =
     let days = c.before.before.before in
     let start = days.before.before.before.before.before in
     let s = start.args.s.now in
     let p = parts s start.requires in
     let two = days.before in
-    let e : days.days-before.result ≡ daysBefore (year s) (month s) (day s) =
+    let e : days.days-before.result ≡ days_before (year s) (month s) (day s) =
     days.days-before.ensures.0
-    ∙ ap (λ (y : ℕ). daysBefore y two.before.two.result two.two2.result) two.before.before.year-of.ensures
-    ∙ ap₂ (daysBefore (year s)) two.before.two.ensures.0 two.two2.ensures.0 in
+    ∙ ap (λ (y : ℕ). days_before y two.before.two.result two.two2.result) two.before.before.year-of.ensures
+    ∙ ap₂ (days_before (year s)) two.before.two.ensures.0 two.two2.ensures.0 in
     rw (e, c.before.before.two3.ensures.0, c.before.two4.ensures.0, c.two5.ensures.0) (refl, omega arith)
 
 pub since-year-one-spec : {M : Type 1} → statement M

@@ -1,20 +1,20 @@
 -- `text::moment::twos_complement` meets its contract.
 -- Assumes nothing.
-use Rattle.text.proofs.Seconds.{minus-fits, minus-casts, minus-small, below-zero, casts, from_zero}
+use Rattle.text.proofs.Seconds.{minus_fits, minus_casts, minus_small, below_zero, casts, from_zero}
 use Rattle.text.proofs.moment.twos_complement.Statement.{statement}
 use Rattle.text.proofs.moment.twos_complement.Tie as tie
 
 sub-result : tie.Need-overflow-sub-result
-sub-result c = minus-fits _ c.before.ranges.x c.if1.true
+sub-result c = minus_fits _ c.before.ranges.x c.if1.true
 
 cast-result : tie.Need-overflow-cast-result
-cast-result c = minus-casts _ c.before.ranges.x c.if1.true
+cast-result c = minus_casts _ c.before.ranges.x c.if1.true
 
 sub-result-2 : tie.Need-overflow-sub-result-2
-sub-result-2 c = minus-small _ c.before.ranges.x c.if1.true
+sub-result-2 c = minus_small _ c.before.ranges.x c.if1.true
 
 returns : tie.Need-returns
-returns c = below-zero _ c.before.ranges.x c.if1.true
+returns c = below_zero _ c.before.ranges.x c.if1.true
 
 cast-result-2 : tie.Need-overflow-cast-result-2
 cast-result-2 c = casts _ c.before.ranges.x c.if1.false

@@ -1,15 +1,15 @@
 -- `worked::dates::size_of` is safe: a number that is not negative is an `u64`, and so is -1 less a negative one.
 -- Assumes nothing.
-use Rattle.text.proofs.Seconds.{minus-fits, minus-casts, casts}
+use Rattle.text.proofs.Seconds.{minus_fits, minus_casts, casts}
 use Rattle.std.proofs.Common.{rules}
 use Rattle.worked.proofs.dates.size_of.Statement.{statement}
 use Rattle.worked.proofs.dates.size_of.Tie as tie
 
 sub-wrapping-add-u64 : tie.Need-overflow-sub-wrapping-add-u64
-sub-wrapping-add-u64 c = minus-fits _ c.before.ranges.x c.if1.true
+sub-wrapping-add-u64 c = minus_fits _ c.before.ranges.x c.if1.true
 
 cast-wrapping-add-u64 : tie.Need-overflow-cast-wrapping-add-u64
-cast-wrapping-add-u64 c = minus-casts _ c.before.ranges.x c.if1.true
+cast-wrapping-add-u64 c = minus_casts _ c.before.ranges.x c.if1.true
 
 wrapping-add-u64-requires : tie.Need-wrapping-add-u64-requires
 wrapping-add-u64-requires c κs = search rules

@@ -1,0 +1,151 @@
+// The hash of blocks: FIPS 180-4, 4.2.1 (the constants) and 6.1.2 (the message schedule, the rounds, the next hash value).
+ghost use Rattle.std.specs.Prelude.{◌≡◌, ◌+◌, ◌/◌, ◌<◌, ◌≤◌, length, take};
+ghost use Rattle.sha_1.specs.declared.Words.{Words};
+ghost use Rattle.sha_1.specs.Sha1.{K, words, next, schedule, round, rounds, sums, compress, hashed};
+
+use crate::operations::plus;
+use crate::{BLOCK, Words, operations};
+
+// The constant of round t.
+fn constant(t: usize) -> u32
+    ensures { result ≡ K t }
+{
+    if t < 20 {
+        return 0x5a827999;
+    }
+    if t < 40 {
+        return 0x6ed9eba1;
+    }
+    if t < 60 {
+        return 0x8f1bbcdc;
+    }
+    0xca62c1d6
+}
+
+// ---- the message schedule
+
+// A schedule whose first sixteen words are those of the block.
+fn first_words(block: &[u8]) -> [u32; 80]
+    requires { length block.now ≡ 64 }
+    ensures { (length result ≡ 80) × (take 16 result ≡ words block.now 16) }
+{
+    let mut w = [0; 80];
+    let mut t: usize = 0;
+    while t < 16 {
+        w[t] = operations::word_at(block, 4 * t);
+        t += 1;
+    }
+    w
+}
+
+// The word after the first 16 + n.
+fn next_word(w: &[u32; 80], n: usize) -> u32
+    requires { n < 64 }
+    ensures { result ≡ next w.now n }
+{
+    let x = w[n + 13] ^ w[n + 8] ^ w[n + 2] ^ w[n];
+    (x << 1) | (x >> 31)
+}
+
+// The message schedule of a block.
+fn schedule(block: &[u8]) -> [u32; 80]
+    requires { length block.now ≡ 64 }
+    ensures { result ≡ schedule block.now 64 }
+{
+    let mut w = first_words(block);
+    let mut n: usize = 0;
+    while n < 64 {
+        w[n + 16] = next_word(&w, n);
+        n += 1;
+    }
+    w
+}
+
+// ---- the rounds
+
+// Round t.
+fn round(v: Words, t: usize, w: u32) -> Words
+    ensures { result ≡ round v t w }
+{
+    let a = plus(
+        plus(
+            plus(
+                plus((v.a << 5) | (v.a >> 27), operations::f(t, v.b, v.c, v.d)),
+                v.e,
+            ),
+            constant(t),
+        ),
+        w,
+    );
+    Words {
+        a,
+        b: v.a,
+        c: (v.b << 30) | (v.b >> 2),
+        d: v.c,
+        e: v.d,
+    }
+}
+
+// Twenty rounds from round i on. Function and constant are the same in the twenty, and in a loop of them LLVM chooses both once.
+fn twenty_rounds(w: &[u32; 80], v: Words, i: usize) -> Words
+    requires { i ≤ 60 }
+    ensures { (u : Words) → v ≡ rounds w.now u i → result ≡ rounds w.now u (i + 20) }
+{
+    let mut u = v;
+    let mut t = i;
+    while t < i + 20 {
+        u = round(u, t, w[t]);
+        t += 1;
+    }
+    u
+}
+
+// All eighty.
+fn rounds(w: &[u32; 80], v: Words) -> Words
+    ensures { result ≡ rounds w.now v 80 }
+{
+    let one = twenty_rounds(w, v, 0);
+    let two = twenty_rounds(w, one, 20);
+    let three = twenty_rounds(w, two, 40);
+    twenty_rounds(w, three, 60)
+}
+
+// ---- the hash value
+
+fn sums(v: Words, u: Words) -> Words
+    ensures { result ≡ sums v u }
+{
+    Words {
+        a: plus(v.a, u.a),
+        b: plus(v.b, u.b),
+        c: plus(v.c, u.c),
+        d: plus(v.d, u.d),
+        e: plus(v.e, u.e),
+    }
+}
+
+// After one block, from the hash value before it.
+fn compress(v: Words, block: &[u8]) -> Words
+    requires { length block.now ≡ 64 }
+    ensures { result ≡ compress v block.now }
+{
+    let w = schedule(block);
+    let u = rounds(&w, v);
+    sums(u, v)
+}
+
+// After the whole blocks of the bytes.
+pub(crate) fn hash_blocks(v: Words, bytes: &[u8]) -> Words
+    ensures { result ≡ hashed v bytes.now (length bytes.now / 64) }
+{
+    let mut hash = v;
+    let count = bytes.len() / BLOCK;
+    let mut i: usize = 0;
+    while i < count {
+        let start = BLOCK * i;
+        let end = start + BLOCK;
+        hash = compress(hash, &bytes[start..end]);
+        i += 1;
+    }
+    hash
+}
