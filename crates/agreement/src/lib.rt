@@ -1,5 +1,7 @@
 // The three key agreement texts of a load request (STS 600-4-2, clause 5.6): the number of items, then of each item its
 // length and its bytes. The request is read once, and its fields go in as parts of its own bytes; only QE is decoded.
+#![tactic(auto)]
+
 ghost use Rattle.std.specs.Prelude.{◌≡◌, ◌+◌, ◌≤◌, length, T};
 ghost use Rattle.text.specs.Text.{is_hex};
 ghost use Rattle.text.specs.Base16.{base16_decode};

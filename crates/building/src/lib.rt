@@ -1,6 +1,8 @@
 // The building call: document 01, "Seven kinds of record" and "Numbers given back", and document 02, E1. It takes any bytes
 // and lengths and has no `requires`. The order is 2, 5, then the fields from left to right (6, or 7 before 9), then 8, 14, 1
 // and 10; nothing is written before all of them are asked. The table and the tests of a field are the reader's.
+#![tactic(auto)]
+
 ghost use Rattle.std.specs.Prelude.{◌≡◌, ◌∷◌, ◌+◌, ◌≤◌, length, eqb};
 ghost use Rattle.format.specs.Build.{joined, with_check};
 ghost use Rattle.put.specs.Put.{Put};

@@ -1,6 +1,8 @@
 // The centre's key cabinet: document 02, E8 to E11. 64 places of 1,024 bytes in 65,536 lent bytes; each is all zeros, or a public key that the rules up to E10 accept,
 // zeros after it, the last TVP accepted for its module and in the last eight bytes the number of its Expiry, and no two records share Subject kind, Manufacturer and MID.
 // Every call takes any bytes and asks first whether they are a cabinet; none has a `requires`.
+#![tactic(auto)]
+
 mod ages;
 mod naming;
 mod tvps;

@@ -1,5 +1,7 @@
 // The attributes of a wrapped key (STS 600-4-2, clause 7.5.1 and Appendix B): whether a list of them is permitted. The list is walked
 // once: its names ascend, and so do those that are required, so each required name is looked for in its turn.
+#![tactic(auto)]
+
 ghost use Rattle.std.specs.Prelude.{◌≡◌, ◌&&◌, [], ◌+◌, ◌*◌};
 ghost use Rattle.format.specs.Attributes.{appendix_b, is_group_name, are_cards, has_needed, cards_in, are_attributes};
 ghost use Rattle.cards.specs.Steps.{holds_at, key_in, needed_after};

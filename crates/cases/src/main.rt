@@ -1,6 +1,8 @@
 // Runs the calls for users on the cases that compare/ wrote, an implementation that shares nothing with the library, and
 // prints an answer for each. What it must print, the file stdout, is what compare/ answered. compare/README.md has the form
 // of both files.
+#![tactic(auto)]
+
 mod calls;
 mod confirmations;
 mod filing;

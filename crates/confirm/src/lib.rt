@@ -1,6 +1,8 @@
 // The confirmation tags of a key agreement: document 02, E5; STS 600-4-2, clauses 6.3 and 6.4, and sections 11 and 12. Z is lent and
 // read only. The calls take any bytes and have no `requires`; the records' own refusals come first. docs/TRUST.md says what is promised of
 // their time, and what stays on the stack.
+#![tactic(auto)]
+
 mod tags;
 mod texts;
 

@@ -1,5 +1,7 @@
 // CRC16-MODBUS, the check at the end of every record (STS 600-4-2, clause 5.5): a small state handed on by value,
 // begun, given one byte after another, ended. Bit by bit: there is no table, in the compiled code either.
+#![tactic(auto)]
+
 ghost use Rattle.std.specs.Prelude.{◌≡◌};
 ghost use Rattle.crc16.specs.Crc.{begin, bit_step, bit_steps, add, end, crc_of};
 

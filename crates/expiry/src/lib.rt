@@ -1,5 +1,7 @@
 // When a public key expires, as a number: document 02, E9. The call takes any bytes and has no `requires`; the record's own
 // refusals come first.
+#![tactic(auto)]
+
 ghost use Rattle.std.specs.Prelude.{◌≡◌};
 ghost use Rattle.expiry.specs.Expiry.{expiry_under, expiry_of};
 

@@ -1,6 +1,8 @@
 // The C interface: the calls for users, for programs that link `rt staticlib exports`. A slice is a pointer and a length, and an
 // answer is a struct by value. Each function hands on one call of the library and has its contract:
 // bindings/c/obscurlane.h says it to a user of C.
+#![tactic(auto)]
+
 pub mod check;
 pub mod confirming;
 pub mod dates;

@@ -1,6 +1,8 @@
 // One field of a record, by its number from 1: document 01, "Numbers given back"; and one attribute of a wrapped key. Each
 // call reads the record first, as the reading calls do; 12 for a field that the kind hasn't, or an attribute that the list
 // hasn't, comes after every other number. No public call has a `requires`.
+#![tactic(auto)]
+
 mod attributes;
 
 ghost use Rattle.std.specs.Prelude.{◌≡◌, ◌+◌, ◌≤◌, length, T};

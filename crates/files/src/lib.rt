@@ -1,5 +1,7 @@
 // A file of records, line by line: document 01, "Files of records and the newer key". No public call has a `requires`:
 // any bytes and any place have an answer.
+#![tactic(auto)]
+
 ghost use Rattle.std.specs.Prelude.{◌≡◌};
 ghost use Rattle.format.specs.Files.{line_at, walk};
 ghost use Rattle.files.specs.Walk.{line_end, last_line, line_said, next_of, totals_of};

@@ -1,6 +1,8 @@
 // The Fingerprint in the Subject of a public key: document 02, E3; STS 600-4-2, clauses 6.1 and 7.1. It is checked, or the one
 // that is right is written. The calls take any bytes and have no `requires`; the record's own refusals come first. What is
 // hashed goes into the hash from where it stands in the record.
+#![tactic(auto)]
+
 ghost use Rattle.std.specs.Prelude.{◌≡◌, length};
 ghost use Rattle.sha384.specs.Sha384.{sha384};
 ghost use Rattle.places.specs.Places.{field_at};

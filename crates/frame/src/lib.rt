@@ -1,5 +1,7 @@
 // What every record has whatever its kind (STS 600-4-2, clauses 5.7 and 5.8): its first mark, the parts between its
 // marks, and its check. No call has a `requires`: a record too short for a check has an empty body.
+#![tactic(auto)]
+
 ghost use Rattle.std.specs.Prelude.{◌≡◌, ◌-◌, length};
 ghost use Rattle.text.specs.Part.{Part};
 ghost use Rattle.format.specs.Read.{is_mark, title, mark_after, body, check, ends_in, check_no};

@@ -1,5 +1,7 @@
 // HMAC-SHA-384-192: STS 600-4-2, clause 6.3; FIPS 198-1. The text is given to a state of the hash slice by slice, between `begin`
 // and `end`, or to one call as one slice. No call has a `requires`: any key, state and text are taken.
+#![tactic(auto)]
+
 ghost use Rattle.std.specs.Prelude.{◌≡◌};
 ghost use Rattle.sha384.specs.State.{begun, added};
 ghost use Rattle.hmac.specs.Hmac.{K₀, mixed, hmac};

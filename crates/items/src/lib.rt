@@ -1,4 +1,6 @@
 // Key agreement texts as lists of items (STS 600-4-2, clause 5.6): the number of items, then of each its length and its bytes.
+#![tactic(auto)]
+
 ghost use Rattle.std.specs.Prelude.{◌≡◌};
 ghost use Rattle.items.specs.Place.{nowhere, ItemPlaced, ItemHanded};
 

@@ -1,5 +1,7 @@
 // Runs the list on the files that one input of the lister cannot hold: document 01's example, no bytes, only line feeds, and
 // as many bytes as are listed in one line, with one byte more.
+#![tactic(auto)]
+
 ghost use Rattle.std.specs.Prelude.{◌≡◌, length};
 
 use libc::STDOUT_FILENO;

@@ -1,5 +1,7 @@
 // The list of a file of records on standard output: document 01, "Files of records and the newer key". Its text is made and
 // proved by crate `list_text`; here it is handed to the kernel.
+#![tactic(auto)]
+
 ghost use Rattle.std.specs.Prelude.{◌≡◌, length};
 ghost use Rattle.list_text.specs.Listing.{list_room, list_text};
 ghost use Rattle.list_printing.specs.Printing.{print_list};

@@ -1,5 +1,7 @@
 // The list of a file of records as text: document 01, "Files of records and the newer key". Each line of the file is read
 // once, and the totals are counted on the way.
+#![tactic(auto)]
+
 ghost use Rattle.std.specs.Prelude.{◌+◌, ◌≤◌, length};
 ghost use Rattle.put.specs.Put.{Put};
 ghost use Rattle.put.specs.Made.{Writes};

@@ -1,5 +1,7 @@
 // Records by mail: document 02, E7; STS 600-4-2, Appendix C. A record is written between its BEGINS and ENDS lines, folded into rows of 64
 // characters, and read back from a longer text. The calls take any bytes and have no `requires`.
+#![tactic(auto)]
+
 ghost use Rattle.std.specs.Prelude.{◌≡◌, cond, [], ◌∷◌, ◌++◌, ◌+◌, ◌≤◌, length, ltb};
 ghost use Rattle.text.specs.Text.{same};
 ghost use Rattle.format.specs.Build.{joined};

@@ -1,5 +1,7 @@
 // The newer of two public keys: document 01, "Files of records and the newer key", number 13. The calls take any bytes
 // and have no `requires`.
+#![tactic(auto)]
+
 ghost use Rattle.std.specs.Prelude.{◌≡◌};
 ghost use Rattle.format.specs.Kinds.{pubkey_kinds};
 ghost use Rattle.format.specs.Read.{read_identity, read_of};

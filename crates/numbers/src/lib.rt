@@ -1,4 +1,5 @@
 // The numbers given back: document 01, "Numbers given back", and document 02. specs/Numbers.antt has them for definitions.
+#![tactic(auto)]
 
 pub const ACCEPTED: u8 = 0;
 

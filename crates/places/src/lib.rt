@@ -1,5 +1,7 @@
 // Where the fields of a record stand: their starts and their lengths in the caller's bytes, found in one walk. Whoever needs
 // a field of what was read takes it from there. No call has a `requires`.
+#![tactic(auto)]
+
 ghost use Rattle.std.specs.Prelude.{◌≡◌};
 ghost use Rattle.text.specs.Part.{NoPart};
 ghost use Rattle.places.specs.Places.{places_of, IsPartAt, IsFieldAt};

@@ -1,5 +1,7 @@
 // What the library promises, all of it, as the contract of a function that does nothing: specs/ states it, proofs/ proves it.
 // A statement without a proof leaves this function unproved.
+#![tactic(auto)]
+
 ghost use Rattle.promises.specs.Total.{Total};
 ghost use Rattle.promises.specs.Determined.{Determined};
 ghost use Rattle.promises.specs.Interface.{Interface};

@@ -1,4 +1,6 @@
 // Writing into a lent output, one piece after another.
+#![tactic(auto)]
+
 ghost use Rattle.std.specs.Prelude.{◌≡◌, [], ◌∷◌, ◌*◌, ◌+◌, T};
 ghost use Rattle.text.specs.Text.{hexadecimal};
 ghost use Rattle.text.specs.Base16.{hex_value, base16};

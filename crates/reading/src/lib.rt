@@ -2,6 +2,8 @@
 // `requires`. The order is 1, 2, 3, 4, 5, then the fields from left to right (6, or 7 before 9), then 8, then 14, then 28: `form_no`
 // has 2 to 4, `judge` the fields.
 // A record is walked over once for its fields' places: every test of a field, and every later use of one, goes by them.
+#![tactic(auto)]
+
 mod together;
 
 ghost use Rattle.std.specs.Prelude.{◌≡◌, cond, ◌&&◌, ◌||◌, ◌<◌, eqb, ltb};

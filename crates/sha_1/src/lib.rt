@@ -1,5 +1,7 @@
 // SHA-1: FIPS 180-4. A state handed on by value is begun, given one slice after another and ended; one call hashes one
 // slice. No call has a `requires`: any state and any bytes are taken.
+#![tactic(auto)]
+
 mod blocks;
 mod ending;
 mod operations;

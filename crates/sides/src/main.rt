@@ -2,6 +2,8 @@
 // neighbours of an accepted record. Standard input has pairs of lines, a label and a text. Of each text the program prints
 // the label, what the call of each text type answers, its check, what the identity call and the record call answer
 // (number, field number, row of the kind), and the fields that the field calls hand back.
+#![tactic(auto)]
+
 ghost use Rattle.std.specs.Prelude.{◌≡◌, length};
 
 use libc::{STDIN_FILENO, STDOUT_FILENO};

@@ -1,6 +1,8 @@
 // The Subject of a public key, an identity: its fields, and whether two identities name one Subject (document 01, "Files of
 // records and the newer key", number 13): they agree in kind, Manufacturer and MID; GNT and Fingerprint may differ. The calls
 // take any bytes and have no `requires`.
+#![tactic(auto)]
+
 ghost use Rattle.std.specs.Prelude.{◌≡◌};
 ghost use Rattle.text.specs.Text.{same};
 ghost use Rattle.subjects.specs.Subjects.{identity_part, IsIdentityPart, are_alike};

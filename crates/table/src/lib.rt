@@ -1,6 +1,8 @@
 // The one table of kinds (document 01, "Seven kinds of record", and document 02, E1): names, marks, field counts and field types, which reader
 // and builder both consult. A kind is the number of its row. Every look-up takes any number and says what it answers for
 // a row, a field or a code that is not there.
+#![tactic(auto)]
+
 ghost use Rattle.std.specs.Prelude.{◌≡◌, false, ◌||◌, ◌<◌, take, drop, eqb};
 ghost use Rattle.text.specs.Text.{same};
 ghost use Rattle.format.specs.Kinds.{name, identity_kinds, all_kinds};

@@ -1,5 +1,7 @@
 // The text types of documents 01 and 02 and the conversions between hexadecimal characters and values. Each call takes any
 // slice and answers; none has a `requires`. There is no table of digits.
+#![tactic(auto)]
+
 mod alphabet;
 mod base16;
 mod calendar;

@@ -1,5 +1,7 @@
 // Manufacturers' record files: document 02, E6; STS 600-4-2, Appendix D. A line is a record, '#', and the forty characters of the SHA-1 of
 // the record and one line feed. The calls take any bytes and have no `requires`. The numbers of a line are 11, 19, the record's own, 20.
+#![tactic(auto)]
+
 ghost use Rattle.std.specs.Prelude.{◌≡◌, ◌-◌, length};
 ghost use Rattle.sha_1.specs.Sha1.{sha1};
 ghost use Rattle.reading.specs.Reading.{answer_of};

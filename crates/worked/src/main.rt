@@ -4,6 +4,8 @@
 // have spaces; the value known. In a text by mail, which comes last, and in the value known of it, a tab stands for a line
 // feed. A step of the key cabinet has many calls, on one cabinet. The program prints each step with the value that the library
 // gives, says of each whether it agrees, and at last how many do. docs/VECTORS.md tells where each value was taken from.
+#![tactic(auto)]
+
 mod calls;
 mod confirmations;
 mod dates;
