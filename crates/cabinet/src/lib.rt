@@ -28,7 +28,7 @@ pub const NUMBER_AT: usize = 1016;
 
 // What a call answers that changes a cabinet, or asks whether it is one: the number, and the field's number, 0 where none is named.
 #[repr(C)]
-#[derive(Drop)]
+#[derive(Clone, Copy)]
 pub struct Filed {
     pub no: u8,
     pub field: u8,
@@ -36,7 +36,7 @@ pub struct Filed {
 
 // What is answered to how many places are occupied: the number, and how many, 0 with a refusal.
 #[repr(C)]
-#[derive(Drop)]
+#[derive(Clone, Copy)]
 pub struct Counted {
     pub no: u8,
     pub count: usize,

@@ -29,7 +29,7 @@ fn piece_size(n: usize) -> usize
 }
 
 // The state of each hash, both given the same bytes.
-#[derive(Drop)]
+#[derive(Clone, Copy)]
 struct Given {
     sha384: sha384::Sha384,
     sha1: sha_1::Sha1,

@@ -27,7 +27,7 @@ const NEITHER: u8 = 0;
 
 // The number and the field's number, and with a record's own refusal which record it is, REQUEST or RESPONSE; 0 otherwise.
 #[repr(C)]
-#[derive(Drop)]
+#[derive(Clone, Copy)]
 pub struct Confirmed {
     pub no: u8,
     pub field: u8,

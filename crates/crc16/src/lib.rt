@@ -22,7 +22,7 @@ fn eight(state: u16) -> u16
 }
 
 // The check of the bytes given so far.
-#[derive(Drop)]
+#[derive(Clone, Copy)]
 pub struct Crc {
     pub state: u16,
 }

@@ -8,7 +8,7 @@ ghost use Rattle.expiry.specs.Expiry.{expiry_under, expiry_of};
 // The number and the field's number, 0 where none is named; with 0 the seconds from 19930101T000000Z to Expiry, negative
 // before, and 0 with a refusal.
 #[repr(C)]
-#[derive(Drop)]
+#[derive(Clone, Copy)]
 pub struct Expiry {
     pub no: u8,
     pub field: u8,

@@ -5,7 +5,7 @@ ghost use Rattle.confirm.specs.Confirm.{Confirms, confirm_request, confirm_respo
 
 // The 24 bytes of a tag.
 #[repr(C)]
-#[derive(Drop)]
+#[derive(Clone, Copy)]
 pub struct Tag {
     pub bytes: [u8; 24],
 }

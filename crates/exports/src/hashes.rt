@@ -7,7 +7,7 @@ ghost use Rattle.fingerprint.specs.Fingerprint.{check_fingerprint, write_fingerp
 
 // The 48 bytes of a hash.
 #[repr(C)]
-#[derive(Drop)]
+#[derive(Clone, Copy)]
 pub struct Digest {
     pub bytes: [u8; 48],
 }

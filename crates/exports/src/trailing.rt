@@ -12,7 +12,7 @@ use crate::walking;
 
 // The 20 bytes of a hash.
 #[repr(C)]
-#[derive(Drop)]
+#[derive(Clone, Copy)]
 pub struct Sha1Digest {
     pub bytes: [u8; 20],
 }

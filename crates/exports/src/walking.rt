@@ -9,7 +9,7 @@ ghost use Rattle.exports.specs.Exports.{found, PlaceStepped};
 
 // What stands at a place of a file, or that it is finished.
 #[repr(C)]
-#[derive(Drop)]
+#[derive(Clone, Copy)]
 pub struct Found {
     pub line: bool,
     pub no: u8,

@@ -17,7 +17,7 @@ pub use attributes::{attribute, attribute_named, attribute_named_place, attribut
 
 // Where a field or an attribute stands in the caller's bytes: its start and its length, both 0 with a refusal.
 #[repr(C)]
-#[derive(Drop)]
+#[derive(Clone, Copy)]
 pub struct Place {
     pub no: u8,
     pub field: u8,

@@ -8,7 +8,7 @@ ghost use Rattle.files.specs.Walk.{line_end, last_line, line_said, next_of, tota
 ghost use Rattle.files.specs.Steps.{Begins, Stepped, step_from};
 
 // What stands at a place of a file.
-#[derive(Drop)]
+#[derive(Clone, Copy)]
 pub enum Line {
     // A place at or past the end, which is its start and its next place; its length is 0.
     Finished {
@@ -28,7 +28,7 @@ pub enum Line {
 
 // How many lines a file has, and how many of them are accepted records.
 #[repr(C)]
-#[derive(Drop)]
+#[derive(Clone, Copy)]
 pub struct Totals {
     pub lines: usize,
     pub accepted: usize,
@@ -122,7 +122,7 @@ fn next_of(line: Line) -> usize
 }
 
 // A reader holds the lent bytes and the place of the next line.
-#[derive(Drop)]
+#[derive(Clone, Copy)]
 pub struct Reader<'a> {
     pub file: &'a [u8],
     pub place: usize,

@@ -16,7 +16,7 @@ const CHARACTERS: usize = 16;
 
 // What a check answers: its number, and the field's number, 0 where none is named.
 #[repr(C)]
-#[derive(Drop)]
+#[derive(Clone, Copy)]
 pub struct Checked {
     pub no: u8,
     pub field: u8,

@@ -3,7 +3,7 @@
 #![tactic(auto)]
 
 // The rules under which a record is read: those up to E10, for what already lies in a cabinet, and today's, for everything else (document 02, E11).
-#[derive(Drop)]
+#[derive(Clone, Copy)]
 pub enum Rules {
     UpToE10,
     Today,

@@ -6,7 +6,7 @@ ghost use Rattle.items.specs.Place.{nowhere, ItemPlaced, ItemHanded};
 
 // Where an item stands in its text: number 0, its start and its length. With number 12: nowhere, both 0.
 #[repr(C)]
-#[derive(Drop)]
+#[derive(Clone, Copy)]
 pub struct Place {
     pub no: u8,
     pub start: usize,

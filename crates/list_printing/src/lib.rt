@@ -16,7 +16,7 @@ fn room() -> [u8; list_text::ROOM]
 }
 
 // What is said of a list that was printed: how many bytes it has, and whether the kernel took all of them.
-#[derive(Drop)]
+#[derive(Clone, Copy)]
 pub struct Printed {
     pub len: usize,
     pub taken: bool,

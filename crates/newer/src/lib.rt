@@ -21,7 +21,7 @@ const NEITHER: u8 = 0;
 // The number and the field's number; with 0 which of two public keys is the newer, FIRST or SECOND; with a refusal which of
 // them is refused, and 0 where it is the two together (13).
 #[repr(C)]
-#[derive(Drop)]
+#[derive(Clone, Copy)]
 pub struct Choice {
     pub no: u8,
     pub field: u8,

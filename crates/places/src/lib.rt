@@ -11,7 +11,7 @@ pub const MOST: usize = 7;
 
 // How many fields there are, 8 where there are more than seven; and the starts and the lengths of the first seven, from left
 // to right; 0 where there is no more field.
-#[derive(Drop)]
+#[derive(Clone, Copy)]
 pub struct Places {
     pub count: usize,
     pub starts: [usize; 7],

@@ -11,7 +11,7 @@ ghost use Rattle.put.specs.Made.{denied, says};
 // What a call that writes into a lent output answers: its number, the field's number (0 where none is named), and the
 // length written from the front, 0 with a refusal.
 #[repr(C)]
-#[derive(Drop)]
+#[derive(Clone, Copy)]
 pub struct Written {
     pub no: u8,
     pub field: u8,

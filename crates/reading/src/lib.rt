@@ -21,7 +21,7 @@ pub const LONGEST: usize = 1024;
 // each field, from left to right, where it starts in the bytes read, its length, and the row of the identity in it
 // (table::NONE where it is none). Past the last field, and with a refusal, start and length are 0 and the kind is NONE.
 #[repr(C)]
-#[derive(Drop)]
+#[derive(Clone, Copy)]
 pub struct Answer {
     pub no: u8,
     pub field: u8,
@@ -32,7 +32,7 @@ pub struct Answer {
 }
 
 // What the fields of a record are answered: the number and the field's number, and the kinds of the identities among them.
-#[derive(Drop)]
+#[derive(Clone, Copy)]
 pub struct Judged {
     pub no: u8,
     pub field: u8,
@@ -40,14 +40,14 @@ pub struct Judged {
 }
 
 // The first field that is refused; both are 0 where none is.
-#[derive(Drop)]
+#[derive(Clone, Copy)]
 struct Refusal {
     no: u8,
     field: u8,
 }
 
 // What one field is answered: its number, and the row of the identity in it.
-#[derive(Drop)]
+#[derive(Clone, Copy)]
 struct FieldSaid {
     no: u8,
     kind: usize,

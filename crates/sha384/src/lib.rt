@@ -15,7 +15,7 @@ const BLOCK: usize = 128;
 
 // Eight words: a hash value, or the working variables.
 #[repr(C)]
-#[derive(Drop)]
+#[derive(Clone, Copy)]
 pub struct Words {
     pub a: u64,
     pub b: u64,
@@ -30,7 +30,7 @@ pub struct Words {
 // The bytes given so far: the hash value of their whole blocks; the bytes that wait for a whole block, at the front of `block`,
 // and zeros after them; and how many bytes there were, in two words.
 #[repr(C)]
-#[derive(Drop)]
+#[derive(Clone, Copy)]
 pub struct Sha384 {
     pub hash: Words,
     pub block: [u8; 128],

@@ -15,7 +15,7 @@ const BLOCK: usize = 64;
 
 // Five words: a hash value, or the working variables.
 #[repr(C)]
-#[derive(Drop)]
+#[derive(Clone, Copy)]
 pub struct Words {
     pub a: u32,
     pub b: u32,
@@ -27,7 +27,7 @@ pub struct Words {
 // The bytes given so far: the hash value of their whole blocks; the bytes that wait for a whole block, at the front of `block`,
 // and zeros after them; and how many bytes there were, modulo 2 to the 64th.
 #[repr(C)]
-#[derive(Drop)]
+#[derive(Clone, Copy)]
 pub struct Sha1 {
     pub hash: Words,
     pub block: [u8; 64],

@@ -4,7 +4,7 @@ ghost use Rattle.text.specs.Text.{between, decimal, hexadecimal, alphanumeric, i
 ghost use Rattle.text.specs.Steps.{belongs};
 
 // The alphabets that a whole text is held to.
-#[derive(Drop)]
+#[derive(Clone, Copy)]
 pub(crate) enum Alphabet {
     Hexadecimal,
     Ident,

@@ -8,7 +8,7 @@ ghost use Rattle.text.specs.Later.{later};
 // What the date call answers: whether a text is a TIMESTAMP, and its seconds since 19930101T000000Z, negative before; 0 with
 // any other text.
 #[repr(C)]
-#[derive(Drop)]
+#[derive(Clone, Copy)]
 pub struct Moment {
     pub valid: bool,
     pub seconds: i64,
