@@ -1,0 +1,9 @@
+-- `agreement::centre_text` meets its contract.
+-- Assumes nothing.
+use Rattle.agreement.specs.Texts.{centre_text}
+use borrow.Author.Rules.{rules}
+use Rattle.agreement.proofs.centre_text.Goals as goal
+
+pub returns : goal.returns
+unfolding centre_text
+returns c = c.write_text.ensures

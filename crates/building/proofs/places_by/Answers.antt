@@ -1,0 +1,32 @@
+-- `building::places_by` meets its contract. The loop's invariant: the places are all there once those from field j on are written.
+-- Assumes nothing.
+use Prim.Native.Nat.{◌-◌, ◌≤◌}
+use native.Mathlib.Omega.{arith}
+use lib.ListN.{length}
+use Rattle.building.proofs.Pieces.{Found, found_none, found_all, found_fits, found_next}
+use borrow.Author.Rules.{rules}
+use Rattle.building.proofs.places_by.Goals as goal
+
+pub loop-j-init : goal.loop-j-init
+loop-j-init c = (found_none _ _ c.requires.0 c.requires.1, omega arith)
+
+pub offset_bounds-starts-j : goal.offset_bounds-starts-j
+offset_bounds-starts-j c = omega (arith, c.loop-j-test.true, c.loop-j.invariant.0.few)
+
+pub bounds-starts-j : goal.bounds-starts-j
+bounds-starts-j c = omega (arith, c.loop-j-test.true, c.loop-j.invariant.0.few, c.loop-j.invariant.0.seven_starts)
+
+pub offset_bounds-sizes-j : goal.offset_bounds-sizes-j
+offset_bounds-sizes-j c = omega (arith, c.loop-j-test.true, c.loop-j.invariant.0.few)
+
+pub bounds-sizes-j : goal.bounds-sizes-j
+bounds-sizes-j c = omega (arith, c.loop-j-test.true, c.loop-j.invariant.0.few, c.loop-j.invariant.0.seven_sizes)
+
+pub overflow_add-start : goal.overflow_add-start
+overflow_add-start c = omega (arith, found_fits c.loop-j.invariant.0 c.loop-j-test.true)
+
+pub loop-j-preserved : goal.loop-j-preserved
+loop-j-preserved c = (found_next c.loop-j.invariant.0 c.loop-j-test.true, omega arith)
+
+pub returns : goal.returns
+returns c = found_all c.loop-j.invariant.0 c.loop-j.invariant.1 c.loop-j-test.false

@@ -1,0 +1,11 @@
+-- `cabinet::naming::names_in` meets its contract.
+-- Assumes nothing.
+use Rattle.cabinet.proofs.Bytes.{names_short, names_there}
+use borrow.Author.Rules.{rules}
+use Rattle.cabinet.proofs.naming.names_in.Goals as goal
+
+pub returns-then-identity-end : goal.returns-then-identity-end
+returns-then-identity-end c = names_short c.args.identity.now c.part_start-end.ensures c.if-identity-end.true
+
+pub returns : goal.returns
+returns c = names_there c.args.identity.now c.part_start-end.ensures c.if-identity-end.false

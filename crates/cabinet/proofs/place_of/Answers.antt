@@ -1,0 +1,31 @@
+-- `cabinet::place_of` meets its contract.
+-- Assumes nothing.
+use Prim.Native.Nat.{◌-◌}
+use mathlib.Core.Path.{sym, ap, ◌∙◌}
+use native.Mathlib.Omega.{arith}
+use Rattle.text.specs.Text.{Bytes}
+use Rattle.cabinet.specs.Steps.{starts_so, has_names}
+use Rattle.cabinet.proofs.Loops.{Sought, sought_none, sought_on, sought_here, sought_end}
+use borrow.Author.Rules.{rules}
+use Rattle.cabinet.proofs.place_of.Goals as goal
+
+pub loop-i-init : goal.loop-i-init
+loop-i-init c = sought_none _ _ c.requires.1
+
+pub place_at-requires : goal.place_at-requires
+place_at-requires c = record { long = c.requires.0.long; place = c.loop-i-test.true }
+
+pub returns-then-has_names : goal.returns-then-has_names
+returns-then-has_names c = sought_here c.loop-i.invariant c.loop-i-test.true (ap (λ (x : Bytes). starts_so x c.args.names.now) (sym c.place_at.ensures) ∙ sym c.has_names.ensures ∙ c.if-has_names.true)
+
+pub overflow_add-i : goal.overflow_add-i
+overflow_add-i c = omega arith
+
+pub loop-i-smaller : goal.loop-i-smaller
+loop-i-smaller c = omega arith
+
+pub loop-i-preserved : goal.loop-i-preserved
+loop-i-preserved c = sought_on c.loop-i.invariant c.loop-i-test.true (ap (λ (x : Bytes). starts_so x c.args.names.now) (sym c.place_at.ensures) ∙ sym c.has_names.ensures ∙ c.if-has_names.false)
+
+pub returns : goal.returns
+returns c = sought_end c.loop-i.invariant c.loop-i-test.false

@@ -1,0 +1,58 @@
+-- `cases::filing::file` lends the front of the space.
+-- Assumes nothing.
+use Prim.Native.Nat.{◌%◌}
+use native.Mathlib.Omega.{arith}
+use borrow.Author.Rules.{rules}
+use Rattle.cases.proofs.Lent.{front, again}
+use Rattle.cases.proofs.filing.file.Goals as goal
+
+pub slice_bounds-prepare-end : goal.slice_bounds-prepare-end
+slice_bounds-prepare-end c = front 65536 66560 c.zeros-space.result c.zeros-space.ensures (omega arith)
+
+pub slice_bounds-space-end-2 : goal.slice_bounds-space-end-2
+slice_bounds-space-end-2 c =
+    omega (
+      arith,
+      again
+          65536
+          66560
+          c.zeros-space.result
+          c.prepare.new.0
+          c.zeros-space.ensures
+          (omega arith)
+          c.prepare.auto.0,
+    )
+
+pub slice_bounds-call-end : goal.slice_bounds-call-end
+slice_bounds-call-end c =
+    front
+    (c.args.n % 66561)
+    66560
+    _
+    (again
+    65536
+    66560
+    c.zeros-space.result
+    c.prepare.new.0
+    c.zeros-space.ensures
+    (omega arith)
+    c.prepare.auto.0)
+    (omega arith)
+
+pub slice_bounds-cut-end : goal.slice_bounds-cut-end
+slice_bounds-cut-end c =
+    again
+    (c.args.n % 66561)
+    66560
+    _
+    c.call.new.1.0
+    (again
+    65536
+    66560
+    c.zeros-space.result
+    c.prepare.new.0
+    c.zeros-space.ensures
+    (omega arith)
+    c.prepare.auto.0)
+    (omega arith)
+    c.call.auto.1.0

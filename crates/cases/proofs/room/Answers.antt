@@ -1,0 +1,9 @@
+-- `cases::room` has the length that it states.
+-- Assumes nothing.
+use Prim.Native.Nat.{ℕ}
+use mathlib.Core.Path.{sym}
+use lib.ListN.{length-replicate}
+use Rattle.cases.proofs.room.Goals as goal
+
+pub returns : goal.returns
+returns c = sym (length-replicate {A = ℕ} 4194304 0)

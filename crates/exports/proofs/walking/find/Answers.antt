@@ -1,0 +1,12 @@
+-- `exports::walking::find` meets its contract.
+-- Assumes nothing.
+use mathlib.Core.Path.{sym, ap}
+use Rattle.exports.specs.Exports.{found}
+use borrow.Author.Rules.{rules}
+use Rattle.exports.proofs.walking.find.Goals as goal
+
+pub returns-in-Finished : goal.returns-in-Finished
+returns-in-Finished c = ap found (sym c.line-1.given.1)
+
+pub returns-in-Read : goal.returns-in-Read
+returns-in-Read c = ap found (sym c.line-in-Read-1.given.1)

@@ -1,0 +1,7 @@
+-- `exports::walking::obscurlane_reader_step` meets its contract.
+-- Assumes nothing.
+use borrow.Author.Rules.{rules}
+use Rattle.exports.proofs.walking.obscurlane_reader_step.Goals as goal
+
+pub returns : goal.returns
+returns c = record { its_line = cc; its_place = cc }

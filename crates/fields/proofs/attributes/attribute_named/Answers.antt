@@ -1,0 +1,8 @@
+-- `fields::attributes::attribute_named` meets its contract: the part at its place.
+-- Assumes nothing.
+use Rattle.fields.proofs.Wanted.{part_said}
+use borrow.Author.Rules.{rules}
+use Rattle.fields.proofs.attributes.attribute_named.Goals as goal
+
+pub returns : goal.returns
+returns c = part_said c.attribute_named_place.ensures c.part_at.ensures

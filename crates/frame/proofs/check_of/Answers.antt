@@ -1,0 +1,8 @@
+-- `frame::check_of` meets its contract.
+-- Assumes nothing.
+use Rattle.frame.proofs.Check.{check_part}
+use borrow.Author.Rules.{rules}
+use Rattle.frame.proofs.check_of.Goals as goal
+
+pub returns : goal.returns
+returns c = check_part c.args.s.now _ c.body_length-start.ensures

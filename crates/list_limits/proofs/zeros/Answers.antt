@@ -1,0 +1,9 @@
+-- `list_limits::zeros` has the length that it states.
+-- Assumes nothing.
+use Prim.Native.Nat.{ℕ}
+use mathlib.Core.Path.{sym}
+use lib.ListN.{length-replicate}
+use Rattle.list_limits.proofs.zeros.Goals as goal
+
+pub returns : goal.returns
+returns c = sym (length-replicate {A = ℕ} 65537 0)

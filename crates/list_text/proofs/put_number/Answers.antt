@@ -1,0 +1,18 @@
+-- `list_text::put_number` meets its contract.
+-- Assumes nothing.
+use mathlib.Core.Path.{ap}
+use native.Mathlib.Omega.{arith}
+use lib.ListN.{length}
+use Rattle.put.proofs.Pieces.{put_of, put_as, put_length, put_then}
+use Rattle.list_text.proofs.Decimal.{decimal_part, before_length}
+use borrow.Author.Rules.{rules}
+use Rattle.list_text.proofs.put_number.Goals as goal
+
+pub returns : goal.returns
+returns c =
+    let start = c.before.before.before.before.before.before.before.before.before.before.before.before.before in
+    let long = before_length start.args.mark start.args.n in
+    let d = c.decimal-k in
+    let e = decimal_part d.new.1.0 start.args.n d.result start.ranges.n.fits d.ensures.1.0 d.ensures.1.1 in
+    let first = put_as e (put_of (omega (arith, ap length e, long, start.requires)) c.put-next.ensures) in
+    put_then first (put_of (omega (arith, first.next, put_length first, long, start.requires)) c.put_byte.ensures)

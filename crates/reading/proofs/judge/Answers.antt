@@ -1,0 +1,7 @@
+-- `reading::judge` meets its contract.
+-- Assumes nothing.
+use borrow.Author.Rules.{rules}
+use Rattle.reading.proofs.judge.Goals as goal
+
+pub returns : goal.returns
+returns c = c.judge_under.ensures

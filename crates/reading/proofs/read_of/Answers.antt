@@ -1,0 +1,7 @@
+-- `reading::read_of` meets its contract.
+-- Assumes nothing.
+use borrow.Author.Rules.{rules}
+use Rattle.reading.proofs.read_of.Goals as goal
+
+pub returns : goal.returns
+returns c = c.read_under.ensures

@@ -1,0 +1,10 @@
+-- `sha384::sha384_of` meets its contract.
+-- Assumes nothing.
+use Rattle.std.proofs.Common.{ap, ◌∙◌, rules}
+use Rattle.sha384.specs.declared.Sha384.{Sha384}
+use Rattle.sha384.specs.State.{added, ended}
+use Rattle.sha384.proofs.Pieces.{ended_once}
+use Rattle.sha384.proofs.sha384_of.Goals as goal
+
+pub returns : goal.returns
+returns c = c.end.ensures ∙ ap ended (c.add-given.ensures ∙ ap (λ (s : Sha384). added s c.args.bytes.now) c.begin-begun.ensures) ∙ ended_once c.args.bytes.now

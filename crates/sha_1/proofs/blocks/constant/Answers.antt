@@ -1,0 +1,17 @@
+-- `sha1::blocks::constant` meets its contract: the constants are those of FIPS 180-4, 4.2.1.
+-- Assumes nothing.
+use Rattle.std.proofs.Common.{sym}
+use Rattle.sha_1.proofs.Rounds.{in_first, in_second, in_third, in_fourth}
+use Rattle.sha_1.proofs.blocks.constant.Goals as goal
+
+pub returns-then-t-lt20 : goal.returns-then-t-lt20
+returns-then-t-lt20 c = sym (in_first _ _ _ _ _ c.if-t-lt20.true)
+
+pub returns-then-t-lt40 : goal.returns-then-t-lt40
+returns-then-t-lt40 c = sym (in_second _ _ _ _ _ c.if-t-lt20.false c.if-t-lt40.true)
+
+pub returns-then-t-lt60 : goal.returns-then-t-lt60
+returns-then-t-lt60 c = sym (in_third _ _ _ _ _ c.if-t-lt40.false c.if-t-lt60.true)
+
+pub returns : goal.returns
+returns c = sym (in_fourth _ _ _ _ _ c.if-t-lt60.false)

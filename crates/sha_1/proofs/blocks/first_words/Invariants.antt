@@ -1,0 +1,13 @@
+-- `sha1::blocks::first_words` meets its contract.
+-- Assumes nothing.
+use Rattle.std.proofs.Common.{◌≡◌, ℕ, ◌-◌, ◌≤◌, [], take, sym, refl, ap, ◌∙◌, arith, rules}
+use Rattle.hashing.specs.Turns.{turns, grown}
+use Rattle.sha_1.specs.Sha1.{words}
+use Rattle.hashing.proofs.Turns.{Filled, grown_step}
+use Rattle.sha_1.proofs.blocks.first_words.Given as goal
+
+abbrev pub invariant-loop-t : goal.invariant-loop-t
+invariant-loop-t l = (l.t ≤ 16) × Filled (words l.block l.t) l.w l.t
+
+abbrev pub decreases-loop-t : goal.decreases-loop-t
+decreases-loop-t l = 16 - l.t

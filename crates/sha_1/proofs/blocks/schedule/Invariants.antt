@@ -1,0 +1,14 @@
+-- `sha1::blocks::schedule` meets its contract.
+-- Assumes nothing.
+use Rattle.std.proofs.Common.{◌≡◌, ◌+◌, ◌-◌, ◌≤◌, ap, ◌∙◌, arith, rules}
+use Rattle.hashing.specs.Turns.{turns, grown}
+use Rattle.sha_1.specs.Sha1.{next, schedule}
+use Rattle.hashing.proofs.Turns.{Filled, schedule_step, filled_all}
+use Rattle.sha_1.proofs.Rounds.{next_front}
+use Rattle.sha_1.proofs.blocks.schedule.Given as goal
+
+abbrev pub invariant-loop-n : goal.invariant-loop-n
+invariant-loop-n l = (l.n ≤ 64) × Filled (schedule l.block l.n) l.w (l.n + 16)
+
+abbrev pub decreases-loop-n : goal.decreases-loop-n
+decreases-loop-n l = 64 - l.n

@@ -1,0 +1,17 @@
+-- `sha1::blocks::twenty_rounds` meets its contract.
+-- Assumes nothing.
+use Rattle.std.proofs.Common.{◌≡◌, ◌+◌, ◌-◌, ◌≤◌, ap, ◌∙◌, arith, rules}
+use Rattle.hashing.proofs.Turns.{turns_more}
+use Rattle.sha_1.specs.declared.Words.{Words}
+use Rattle.sha_1.specs.Sha1.{rounds}
+use Rattle.sha_1.proofs.blocks.twenty_rounds.Goals as goal
+
+pub loop-t-init : goal.loop-t-init
+loop-t-init c = ((search rules, search rules), λ v e. e)
+
+pub loop-t-preserved : goal.loop-t-preserved
+unfolding rounds
+loop-t-preserved c = ((search rules, search rules), λ v e. turns_more _ v c.loop-t.t (c.loop-t.invariant.1 v e) c.round-u.ensures)
+
+pub returns : goal.returns
+returns c = let e : c.loop-t.t ≡ c.args.i + 20 = omega arith in λ v h. c.loop-t.invariant.1 v h ∙ ap (rounds c.args.w.now v) e

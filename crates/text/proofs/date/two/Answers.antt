@@ -1,0 +1,9 @@
+-- `text::date::two` meets its contract.
+-- Assumes nothing.
+use native.Mathlib.Omega.{arith}
+use Rattle.text.proofs.Loops.{number_two}
+use borrow.Author.Rules.{rules}
+use Rattle.text.proofs.date.two.Goals as goal
+
+pub returns : goal.returns
+returns c = (omega (arith, number_two c.args.s.now c.args.i c.requires), omega arith)

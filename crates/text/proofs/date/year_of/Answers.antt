@@ -1,0 +1,12 @@
+-- `text::date::year_of` meets its contract.
+-- Assumes nothing.
+use Prim.Native.Nat.{ℕ, ◌+◌, ◌*◌}
+use mathlib.Core.Path.{sym, ap₂, ◌∙◌}
+use Rattle.text.proofs.Loops.{year_twice}
+use borrow.Author.Rules.{rules}
+use Rattle.text.proofs.date.year_of.Goals as goal
+
+pub returns : goal.returns
+returns c =
+    ap₂ (λ (x y : ℕ). 100 * x + y) c.two.ensures.0 c.two-2.ensures.0
+    ∙ sym (year_twice c.args.s.now c.requires)

@@ -1,0 +1,9 @@
+-- `text::wrapped::is_alphanumeric` meets its contract.
+-- Assumes nothing.
+use Rattle.text.specs.Text.{is_alphanumeric}
+use borrow.Author.Rules.{rules}
+use Rattle.text.proofs.wrapped.is_alphanumeric.Goals as goal
+
+pub returns : goal.returns
+unfolding is_alphanumeric
+returns c = c.is_sized.ensures

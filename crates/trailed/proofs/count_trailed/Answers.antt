@@ -1,0 +1,31 @@
+-- `trailed::count_trailed` meets its contract. The loop's invariant: the lines before the place are counted.
+-- Assumes nothing.
+use Prim.Native.Nat.{◌-◌}
+use mathlib.Core.Path.{sym, ◌∙◌}
+use mathlib.Core.Logic.{⊎_elim}
+use native.Mathlib.Omega.{arith}
+use lib.ListN.{length}
+use Rattle.files.proofs.Counting.{Counted, Told, told, counted_none, counted_all, told_beyond, told_inside, counted_accepted, counted_refused}
+use Rattle.trailed.specs.Trailed.{read_trailed}
+use Rattle.trailed.proofs.Trailed.{trailed_never_zero}
+use borrow.Author.Rules.{rules}
+use Rattle.trailed.proofs.count_trailed.Goals as goal
+
+-- the line that was read, its number and the next place
+read-line : (c : tie.After-no invariant-loop decreases-loop) → Told read_trailed c.before.before.before.before.before.args.file.now c.before.before.before.loop.place c.no.given.0.0 c.no.given.0.1.1.1.1.1.0
+read-line c = told read_trailed trailed_never_zero _ _ _ _ _ _ _ _ (sym c.no.given.1 ∙ c.before.before.trailed-at.ensures)
+
+pub loop-no-init : goal.loop-no-init
+loop-no-init c = counted_none read_trailed _
+
+pub returns-in_default : goal.returns-in_default
+returns-in_default c = counted_all c.loop-no.invariant _ (sym c.enum_told-1.given.1 ∙ c.trailed_at.ensures)
+
+pub overflow_add-accepted : goal.overflow_add-accepted
+overflow_add-accepted c = omega (arith, c.loop-no.invariant.few, c.loop-no.invariant.fewer, c.loop-no.invariant.inside)
+
+pub loop-no-smaller : goal.loop-no-smaller
+loop-no-smaller c = omega (arith, told_beyond (read-line c.before.before), told_inside (read-line c.before.before))
+
+pub loop-no-preserved : goal.loop-no-preserved
+loop-no-preserved c = ⊎_elim (λ w. counted_accepted c.loop-no.invariant (read-line c.before.before) w.0.taken w.1) (λ w. counted_refused c.loop-no.invariant (read-line c.before.before) w.0.left w.1) c.if-no-eq-ACCEPTED.branch

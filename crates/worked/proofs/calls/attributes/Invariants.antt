@@ -1,0 +1,10 @@
+-- `worked::calls::attributes` ends.
+-- Assumes nothing.
+use Rattle.std.proofs.Common.{◌-◌, rules}
+use Rattle.worked.proofs.calls.attributes.Given as goal
+
+abbrev pub invariant-loop-n : goal.invariant-loop-n
+invariant-loop-n l = Unit {0}
+
+abbrev pub decreases-loop-n : goal.decreases-loop-n
+decreases-loop-n l = 1024 - l.n
