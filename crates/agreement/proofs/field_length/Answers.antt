@@ -10,7 +10,7 @@ use Rattle.agreement.proofs.field_length.Goals as goal
 
 pub returns-then-n-ne-REQ_QE : goal.returns-then-n-ne-REQ_QE
 returns-then-n-ne-REQ_QE c =
-    let s = c.before.before.before in
+    let s = c.before.before.before.before in
     ap length (item_other (fields_in REQ s.args.request.now) _ _ (c.field_at.ensures.holds ∙ s.requires.0.field s.args.n) c.if-n-ne-REQ_QE.true)
 
 pub returns : goal.returns

@@ -6,5 +6,5 @@ use Rattle.agreement.proofs.put_point.Goals as goal
 
 pub returns : goal.returns
 returns c =
-    let s = c.before.before.before.before.before.before.before.before.before.before in
+    let s = c.before.before.before.before.before.before.before.before.before.before.before in
     point_put s.args.point.now s.requires.0 s.requires.1 c.put_byte-next.ensures c.put_decoded.ensures

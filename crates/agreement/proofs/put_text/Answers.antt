@@ -13,14 +13,14 @@ use Rattle.agreement.proofs.put_text.Goals as goal
 
 pub put_item-at-requires : goal.put_item-at-requires
 put_item-at-requires c =
-    let s = c.before.before.before.before.before.before.before.before.before in
+    let s = c.before.before.before.before.before.before.before.before.before.before in
     let l = text_length s.args.label.now s.args.fields.now (fields_in REQ s.args.request.now) in
     let first = put_of (omega (arith, s.requires.3)) c.put_byte-next.ensures in
     (s.requires.0.short_label, omega (arith, l, s.requires.3, first.next, put_length first))
 
 pub loop-i-init : goal.loop-i-init
 loop-i-init c =
-    let s = c.before.before.before.before.before.before.before.before.before.before.before.before in
+    let s = c.before.before.before.before.before.before.before.before.before.before.before.before.before in
     let l = text_length s.args.label.now s.args.fields.now (fields_in REQ s.args.request.now) in
     let first = put_of (omega (arith, s.requires.3)) c.put_byte-next.ensures in
     let second = c.put_item-at.ensures in
@@ -37,7 +37,7 @@ shape_of-out c = put_length c.loop-i.invariant.way.put ∙ put_length c.put_item
 
 pub returns : goal.returns
 returns c =
-    let s = c.before.before.before.before.before.before.before.before.before.before.before.before.before.before in
+    let s = c.before.before.before.before.before.before.before.before.before.before.before.before.before.before.before in
     text_pieces s.args.label.now s.args.fields.now (fields_in REQ s.args.request.now)
     (put_of (omega (arith, s.requires.3)) c.put_byte-next.ensures)
     c.put_item-at.ensures

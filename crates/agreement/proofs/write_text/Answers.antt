@@ -14,7 +14,7 @@ returns-then-answer-ne-ACCEPTED c = given_refused _ (read_of (REQ ∷ []) c.args
 
 pub text_length-requires : goal.text_length-requires
 text_length-requires c =
-    let s = c.before.before.before.before.before.before.before.before.before.before.before in
+    let s = c.before.before.before.before.before.before.before.before.before.before.before.before in
     let request = s.args.request.now in let answered = c.read_of-answer.ensures in let accepted = c.if-answer-ne-ACCEPTED.false in
     (s.requires, request_places request _ answered accepted, request_suited request _ answered accepted)
 
@@ -26,7 +26,7 @@ returns-then-out-text_length c =
 
 pub put_text-len-requires : goal.put_text-len-requires
 put_text-len-requires c =
-    let s = c.before.before.before.before.before.before.before.before.before.before.before.before.before.before.before.before in
+    let s = c.before.before.before.before.before.before.before.before.before.before.before.before.before.before.before.before.before in
     let request = s.args.request.now in let answered = c.read_of-answer.ensures in let accepted = c.if-answer-ne-ACCEPTED.false in
     (s.requires, request_places request _ answered accepted, request_suited request _ answered accepted, omega (arith, c.text_length.ensures, c.if-out-text_length.false))
 

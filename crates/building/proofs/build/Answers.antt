@@ -6,43 +6,45 @@ use Rattle.building.proofs.Calls.{Begun, call_form, call_kind, call_counted, cal
 use borrow.Author.Rules.{rules}
 use Rattle.building.proofs.build.Goals as goal
 use Rattle.building.proofs.build.Lts as lts
+use Rattle.building.proofs.build.Tie.{the-claims}
+use Rattle.building.proofs.build.Reads.{Pre, Post}
 
 -- numbers 2 and 5
-start : (c : lts.After-count_no-no) → Begun c.args.kind.now c.args.bytes.now c.args.lens.now c.kind_named-row.result c.count_no-no.result
+start : (c : lts.After-count_no the-claims Pre Post) → Begun c.args.kind.now c.args.bytes.now c.args.lens.now c.kind_named-row.result c.count_no-no.result
 start c = record { row_is = c.kind_named-row.ensures; no_is = c.count_no-no.ensures }
 
 pub returns-then-no-ne-ACCEPTED : goal.returns-then-no-ne-ACCEPTED
-returns-then-no-ne-ACCEPTED c = call_denied _ _ _ _ (call_form (start c.before.before) _ c.if-no-ne-ACCEPTED.true) c.refuse.ensures
+returns-then-no-ne-ACCEPTED c = call_denied _ _ _ _ (call_form (start c.before.before.before) _ c.if-no-ne-ACCEPTED.true) c.refuse.ensures
 
 pub places_by-found-requires : goal.places_by-found-requires
-places_by-found-requires c = let n = call_counted (start c.before) c.if-no-ne-ACCEPTED.false in (omega (arith, call_few (start c.before) c.if-no-ne-ACCEPTED.false), n.1)
+places_by-found-requires c = let n = call_counted (start c.before.before) c.if-no-ne-ACCEPTED.false in (omega (arith, call_few (start c.before.before) c.if-no-ne-ACCEPTED.false), n.1)
 
 pub returns-then-judged-ne-ACCEPTED : goal.returns-then-judged-ne-ACCEPTED
-returns-then-judged-ne-ACCEPTED c = call_denied _ _ _ _ (call_fields (start c.before.before.before.before.before.before.before.before.before.before) c.if-no-ne-ACCEPTED.false _ (call_parts (start c.before.before.before.before.before.before.before.before.before.before) c.if-no-ne-ACCEPTED.false _ c.places_by-found.ensures) _ c.judge-judged.ensures _ c.if-judged-ne-ACCEPTED.true) c.refuse-then-judged-ne-ACCEPTED.ensures
+returns-then-judged-ne-ACCEPTED c = call_denied _ _ _ _ (call_fields (start c.before.before.before.before.before.before.before.before.before.before.before) c.if-no-ne-ACCEPTED.false _ (call_parts (start c.before.before.before.before.before.before.before.before.before.before.before) c.if-no-ne-ACCEPTED.false _ c.places_by-found.ensures) _ c.judge-judged.ensures _ c.if-judged-ne-ACCEPTED.true) c.refuse-then-judged-ne-ACCEPTED.ensures
 
 pub overflow_add-needed-3 : goal.overflow_add-needed-3
-overflow_add-needed-3 c = omega (arith, call_few (start c.before.before.before.before.before.before.before.before.before) c.if-no-ne-ACCEPTED.false)
+overflow_add-needed-3 c = omega (arith, call_few (start c.before.before.before.before.before.before.before.before.before.before) c.if-no-ne-ACCEPTED.false)
 
 pub overflow_add-needed-4 : goal.overflow_add-needed-4
-overflow_add-needed-4 c = omega (arith, call_few (start c.before.before.before.before.before.before.before.before.before) c.if-no-ne-ACCEPTED.false)
+overflow_add-needed-4 c = omega (arith, call_few (start c.before.before.before.before.before.before.before.before.before.before) c.if-no-ne-ACCEPTED.false)
 
 pub returns-then-needed-gt-LONGEST : goal.returns-then-needed-gt-LONGEST
 returns-then-needed-gt-LONGEST c =
-    let b = start c.before.before.before.before.before.before.before.before.before.before.before in let z = c.if-no-ne-ACCEPTED.false in
+    let b = start c.before.before.before.before.before.before.before.before.before.before.before.before in let z = c.if-no-ne-ACCEPTED.false in
     call_denied _ _ _ _ (call_long b z _ (call_parts b z _ c.places_by-found.ensures) _ c.judge-judged.ensures c.if-judged-ne-ACCEPTED.false _ c.if-needed-gt-LONGEST.true) c.refuse-then-needed-gt-LONGEST.ensures
 
 pub returns-then-out-needed : goal.returns-then-out-needed
 returns-then-out-needed c =
-    let b = start c.before.before.before.before.before.before.before.before.before.before.before.before in let z = c.if-no-ne-ACCEPTED.false in
+    let b = start c.before.before.before.before.before.before.before.before.before.before.before.before.before in let z = c.if-no-ne-ACCEPTED.false in
     call_denied _ _ _ _ (call_narrow b z _ (call_parts b z _ c.places_by-found.ensures) _ c.judge-judged.ensures c.if-judged-ne-ACCEPTED.false _ c.if-needed-gt-LONGEST.false c.if-out-needed.true) c.refuse-then-out-needed.ensures
 
 pub put_record-len-requires : goal.put_record-len-requires
 put_record-len-requires c =
-    let b = start c.before.before.before.before.before.before.before.before.before.before.before.before.before.before.before in let z = c.if-no-ne-ACCEPTED.false in
+    let b = start c.before.before.before.before.before.before.before.before.before.before.before.before.before.before.before.before in let z = c.if-no-ne-ACCEPTED.false in
     ((call_counted b z).1, call_lie b z _ c.places_by-found.ensures, c.if-out-needed.false)
 
 pub returns : goal.returns
 returns c =
-    let b = start c.before.before.before.before.before.before.before.before.before.before.before.before.before.before.before.before.before.before in let z = c.if-no-ne-ACCEPTED.false in
+    let b = start c.before.before.before.before.before.before.before.before.before.before.before.before.before.before.before.before.before.before.before in let z = c.if-no-ne-ACCEPTED.false in
     call_made _ _ _ (call_kind b z).kind _ (call_fits b z _ (call_parts b z _ c.places_by-found.ensures) _ c.judge-judged.ensures c.if-judged-ne-ACCEPTED.false _ c.if-needed-gt-LONGEST.false c.if-out-needed.false)
     (put_as (call_record b z _ c.mark_of.ensures) c.put_record-len.ensures)

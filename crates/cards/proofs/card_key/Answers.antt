@@ -25,7 +25,7 @@ returns-then-value-gt-LONGEST_VALUE c = sym (too_long _ (sym c.is_alphanumeric.e
 pub does_hold-requires : goal.does_hold-requires
 does_hold-requires c = search rules
 
-module _ (c : tie.After-does-hold) where
+module _ (c.before : tie.After-does-hold) where
   named : is_alphanumeric 3 (name_of c.args.card.now) ≡ true
   named = sym c.is_alphanumeric.ensures ∙ not-false _ c.if-not-is_alphanumeric.false-raw
 
@@ -40,7 +40,7 @@ module _ (c : tie.After-does-hold) where
 
 -- what is known where the row is asked: a name, its key, a value that is not too long, and what its row says
 pub returns-then-does_hold : goal.returns-then-does_hold
-returns-then-does_hold c = its_key c.before ∙ sym (does_fit _ (named c.before) (short c.before) (row-says c.before ∙ c.if-does_hold.true))
+returns-then-does_hold c = its_key c.before.before ∙ sym (does_fit _ (named c.before.before) (short c.before.before) (row-says c.before.before ∙ c.if-does_hold.true))
 
 pub returns : goal.returns
-returns c = sym (fits_not _ (named c.before) (short c.before) (row-says c.before ∙ c.if-does_hold.false))
+returns c = sym (fits_not _ (named c.before.before) (short c.before.before) (row-says c.before.before ∙ c.if-does_hold.false))

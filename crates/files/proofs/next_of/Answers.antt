@@ -6,4 +6,4 @@ use borrow.Author.Rules.{rules}
 use Rattle.files.proofs.next_of.Goals as goal
 
 pub returns-in-Read : goal.returns-in-Read
-returns-in-Read c = ap next_of (sym c.line-in-Read-1.given.1)
+returns-in-Read c = ap next_of (sym c.in-Read.is)

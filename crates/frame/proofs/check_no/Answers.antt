@@ -10,9 +10,11 @@ use Rattle.frame.proofs.Check.{check_form, check_mark, check_then}
 use borrow.Author.Rules.{rules}
 use Rattle.frame.proofs.check_no.Goals as goal
 use Rattle.frame.proofs.check_no.Lts as lts
+use Rattle.frame.proofs.check_no.Tie.{the-claims}
+use Rattle.frame.proofs.check_no.Reads.{Pre, Post}
 
 -- past the tests of the form: the comparison decides
-formed : (c : lts.After-are_same) → check_no c.args.mark c.args.s.now ≡ cond c.are_same.result 0 4
+formed : (c : lts.After-are_same the-claims Pre Post) → check_no c.args.mark c.args.s.now ≡ cond c.are_same.result 0 4
 formed c =
     check_then _ _ c.check_of-check.ensures (sym c.is_hex.ensures ∙ not-false _ c.if-not-is_hex.false-raw) c.body_of-body.ensures.holds (sym c.ends_in.ensures ∙ not-false _ c.if-not-ends_in.false-raw)
     ∙ ap (λ (x : Bool). cond x 0 4) (ap (same c.check_of-check.result.now) (sym (c.check_text-built.ensures ∙ ap check_text c.crc_of.ensures)) ∙ sym c.are_same.ensures)
@@ -24,7 +26,7 @@ pub returns-then-not-ends_in : goal.returns-then-not-ends_in
 returns-then-not-ends_in c = sym (check_mark _ _ c.check_of-check.ensures (sym c.is_hex.ensures ∙ not-false _ c.if-not-is_hex.false-raw) c.body_of-body.ensures.holds (sym c.ends_in.ensures ∙ not-true _ c.if-not-ends_in.true-raw))
 
 pub returns-then-are_same : goal.returns-then-are_same
-returns-then-are_same c = sym (formed c.before ∙ ap (λ (x : Bool). cond x 0 4) c.if-are_same.true)
+returns-then-are_same c = sym (formed c.before.before ∙ ap (λ (x : Bool). cond x 0 4) c.if-are_same.true)
 
 pub returns : goal.returns
-returns c = sym (formed c.before ∙ ap (λ (x : Bool). cond x 0 4) c.if-are_same.false)
+returns c = sym (formed c.before.before ∙ ap (λ (x : Bool). cond x 0 4) c.if-are_same.false)

@@ -15,15 +15,18 @@ use Rattle.put.proofs.Pieces.{put_length}
 use Rattle.list_text.proofs.Writing.{Listed, listed_none, room_end, listed_all, room_line, listed_on}
 use borrow.Author.Rules.{rules}
 use Rattle.list_text.proofs.put_list.Goals as goal
+use Rattle.list_text.proofs.put_list.Lts as lts
+use Rattle.list_text.proofs.put_list.Tie.{the-claims}
+use Rattle.list_text.proofs.put_list.Reads.{Pre, Post}
 
 -- the answer for the line, and the line
-said : (c : tie.After-no invariant-loop decreases-loop)
-    → Read c.no.given.0.0 c.no.given.0.1.0 c.no.given.0.1.1.0 c.no.given.0.1.1.1.0 c.no.given.0.1.1.1.1.0 c.no.given.0.1.1.1.1.1.0
-    ≡ line_said (line_at c.before.before.before.before.before.before.args.file.now c.before.before.before.loop.place)
-said c = sym c.no.given.1 ∙ c.before.before.line-at.ensures
+said : (c : lts.After-no the-claims Pre Post invariant-loop decreases-loop)
+    → Read c.in-Read.no c.in-Read.field c.in-Read.kind c.in-Read.start c.in-Read.len c.in-Read.next
+    ≡ line_said (line_at c.args.file.now c.loop-no.place)
+said c = sym c.in-Read.is ∙ c.line_at.ensures
 
-read-line : (c : tie.After-no invariant-loop decreases-loop)
-    → Told read_record c.before.before.before.before.before.before.args.file.now c.before.before.before.loop.place c.no.given.0.0 c.no.given.0.1.1.1.1.1.0
+read-line : (c : lts.After-no the-claims Pre Post invariant-loop decreases-loop)
+    → Told read_record c.args.file.now c.loop-no.place c.in-Read.no c.in-Read.next
 read-line c = told read_record record_never_zero _ _ _ _ _ _ _ _ (said c)
 
 pub loop-no-init : goal.loop-no-init
@@ -31,7 +34,7 @@ loop-no-init c = listed_none _ _
 
 pub put_end-requires : goal.put_end-requires
 put_end-requires c =
-    let turn = c.before.before.before.before in
+    let turn = c.before.before.before.before.before in
     let start = turn.before.before.before in
     room_end turn.loop-no.invariant start.requires.0 start.requires.1
 
@@ -40,9 +43,9 @@ shape_of-out-in_default c = omega (arith, put_length c.loop-no.invariant.written
 
 pub returns-in_default : goal.returns-in_default
 returns-in_default c =
-    let turn = c.before.before.before.before.before.before.before in
+    let turn = c.before.before.before.before.before.before.before.before in
     let start = turn.before.before.before in
-    let finished = sym c.enum_told-1.given.1 ∙ c.line_at.ensures in
+    let finished = sym c.in_default.is ∙ c.line_at.ensures in
     listed_all turn.loop-no.invariant start.requires.0 start.requires.1 _ finished c.put_end.ensures
 
 pub overflow_add-accepted : goal.overflow_add-accepted
@@ -53,20 +56,20 @@ overflow_add-lines c = let counted = c.loop-no.invariant.counted in omega (arith
 
 pub put_line-at-requires : goal.put_line-at-requires
 put_line-at-requires c =
-    let line = c.before.before.before in
+    let line = c.before.before.before.before in
     let turn = line.before.before.before in
     let start = turn.before.before.before in
-    room_line turn.loop-no.invariant start.requires.0 start.requires.1 (read-line line) (said line) (omega (arith, c.known_told-1.given))
+    room_line turn.loop-no.invariant start.requires.0 start.requires.1 (read-line line) (said line) (omega (arith, c.in-Read.known_told-1-own.given))
 
 pub loop-no-smaller : goal.loop-no-smaller
-loop-no-smaller c = let t = read-line c.before.before.before.before.before.before in omega (arith, told_beyond t, told_inside t)
+loop-no-smaller c = let t = read-line c.before.before.before.before.before.before.before in omega (arith, told_beyond t, told_inside t)
 
 pub loop-no-preserved : goal.loop-no-preserved
 loop-no-preserved c =
-    let line = c.before.before.before.before.before.before in
+    let line = c.before.before.before.before.before.before.before in
     let turn = line.before.before.before in
     let start = turn.before.before.before in
     let l = turn.loop-no.invariant in
     let t = read-line line in
     let counted = ⊎_elim (λ w. counted_accepted l.counted t w.0.taken w.1) (λ w. counted_refused l.counted t w.0.left w.1) c.if-no-eq-ACCEPTED.branch in
-    listed_on l start.requires.0 start.requires.1 t (said line) (omega (arith, c.known_told-1.given)) counted c.put_line-at.ensures
+    listed_on l start.requires.0 start.requires.1 t (said line) (omega (arith, c.in-Read.known_told-1-own.given)) counted c.put_line-at.ensures

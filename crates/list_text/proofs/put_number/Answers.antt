@@ -10,7 +10,7 @@ use Rattle.list_text.proofs.put_number.Goals as goal
 
 pub returns : goal.returns
 returns c =
-    let start = c.before.before.before.before.before.before.before.before.before.before.before.before.before in
+    let start = c.before.before.before.before.before.before.before.before.before.before.before.before.before.before in
     let long = before_length start.args.mark start.args.n in
     let d = c.decimal-k in
     let e = decimal_part d.new.1.0 start.args.n d.result start.ranges.n.fits d.ensures.1.0 d.ensures.1.1 in

@@ -12,9 +12,11 @@ use Rattle.reading.proofs.Loops.{said_so}
 use borrow.Author.Rules.{rules}
 use Rattle.reading.proofs.identity_said.Goals as goal
 use Rattle.reading.proofs.identity_said.Lts as lts
+use Rattle.reading.proofs.identity_said.Tie.{the-claims}
+use Rattle.reading.proofs.identity_said.Reads.{Pre, Post}
 
 -- past number 7: the table decides
-inner : (c : lts.After-does_permit) → identity_answer (permitted (field_type c.args.code)) (read_identity c.args.field.now) ≡ cond c.does_permit.result 0 9
+inner : (c : lts.After-does_permit the-claims Pre Post) → identity_answer (permitted (field_type c.args.code)) (read_identity c.args.field.now) ≡ cond c.does_permit.result 0 9
 inner c =
     identity_taken _ (read_identity c.args.field.now) _ c.read_identity-inner.ensures (Built identity_kinds _) (identity_says c.args.field.now) c.if-inner-ne-ACCEPTED.false
     ∙ ap (λ (b : Bool). cond b 0 9) (sym c.does_permit.ensures)
@@ -23,7 +25,7 @@ pub returns-then-inner-ne-ACCEPTED : goal.returns-then-inner-ne-ACCEPTED
 returns-then-inner-ne-ACCEPTED c = said_so (sym (identity_refused _ (read_identity c.args.field.now) _ c.read_identity-inner.ensures c.if-inner-ne-ACCEPTED.true)) (kind_told (read_identity c.args.field.now) _ c.read_identity-inner.ensures)
 
 pub returns-then-does_permit : goal.returns-then-does_permit
-returns-then-does_permit c = said_so (sym (inner c.before ∙ ap (λ (b : Bool). cond b 0 9) c.if-does_permit.true)) (kind_told (read_identity c.args.field.now) _ c.read_identity-inner.ensures)
+returns-then-does_permit c = said_so (sym (inner c.before.before ∙ ap (λ (b : Bool). cond b 0 9) c.if-does_permit.true)) (kind_told (read_identity c.args.field.now) _ c.read_identity-inner.ensures)
 
 pub returns : goal.returns
-returns c = said_so (sym (inner c.before ∙ ap (λ (b : Bool). cond b 0 9) c.if-does_permit.false)) (kind_told (read_identity c.args.field.now) _ c.read_identity-inner.ensures)
+returns c = said_so (sym (inner c.before.before ∙ ap (λ (b : Bool). cond b 0 9) c.if-does_permit.false)) (kind_told (read_identity c.args.field.now) _ c.read_identity-inner.ensures)

@@ -9,9 +9,11 @@ use Rattle.table.proofs.Arrays.{row_there, type_within, type_here, type_past}
 use borrow.Author.Rules.{rules}
 use Rattle.table.proofs.type_of.Goals as goal
 use Rattle.table.proofs.type_of.Lts as lts
+use Rattle.table.proofs.type_of.Tie.{the-claims}
+use Rattle.table.proofs.type_of.Reads.{Pre, Post}
 
 -- past the test: there is such a field
-there : (c : lts.Else-count_of-j) → c.args.j < count_of c.args.row
+there : (c : lts.Else1 the-claims Pre Post) → c.args.j < count_of c.args.row
 there c = omega (arith, c.count_of.ensures, c.if-count_of-j.false)
 
 pub returns-then-count_of-j : goal.returns-then-count_of-j

@@ -11,11 +11,14 @@ use Rattle.agreement.specs.Steps.{lv_item}
 use Rattle.confirm.proofs.Given.{given_two, Given, given_none, given_more, given_all, text_given}
 use borrow.Author.Rules.{rules}
 use Rattle.confirm.proofs.texts.add_text.Goals as goal
+use Rattle.confirm.proofs.texts.add_text.Lts as lts
+use Rattle.confirm.proofs.texts.add_text.Tie.{the-claims}
+use Rattle.confirm.proofs.texts.add_text.Reads.{Pre, Post}
 
 pub overflow_cast-fields : goal.overflow_cast-fields
 overflow_cast-fields c = record { fits = omega (arith, c.requires.0.few) }
 
-hash-block : (c : tie.After-add invariant-loop decreases-loop) → length c.before.before.before.before.before.args.hash.block ≡ 128
+hash-block : (c : lts.After-add the-claims Pre Post invariant-loop decreases-loop) → length c.args.hash.block ≡ 128
 hash-block c = search rules
 
 pub add_item-given-requires : goal.add_item-given-requires
@@ -42,6 +45,6 @@ returns c =
     let label = a.label.now in
     let ns = a.fields.now in
     let count = (1 + length ns) ∷ [] in
-    let l = hash-block c.before.before.before in
+    let l = hash-block c.before.before.before.before in
     let front = given_two a.hash l count (lv_item label) c.add-counted.ensures c.add_item-given.ensures in
     text_given a.hash label ns a.request.now (given_all c.loop-i.invariant a.hash (count ++ lv_item label) c.loop-i-test.false l front)

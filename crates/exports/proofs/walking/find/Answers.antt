@@ -6,7 +6,7 @@ use borrow.Author.Rules.{rules}
 use Rattle.exports.proofs.walking.find.Goals as goal
 
 pub returns-in-Finished : goal.returns-in-Finished
-returns-in-Finished c = ap found (sym c.line-1.given.1)
+returns-in-Finished c = ap found (sym c.in-Finished.is)
 
 pub returns-in-Read : goal.returns-in-Read
-returns-in-Read c = ap found (sym c.line-in-Read-1.given.1)
+returns-in-Read c = ap found (sym c.in-Read.is)

@@ -8,9 +8,11 @@ use Rattle.text.proofs.Tests.{or_stop, or_on}
 use borrow.Author.Rules.{rules}
 use Rattle.text.proofs.alphabet.is_ident_character.Goals as goal
 use Rattle.text.proofs.alphabet.is_ident_character.Lts as lts
+use Rattle.text.proofs.alphabet.is_ident_character.Tie.{the-claims}
+use Rattle.text.proofs.alphabet.is_ident_character.Reads.{Pre, Post}
 
 -- past the first test: one of the four
-others : (c : lts.Else-is_alphanumeric) → ident_character c.args.c ≡ one_of (ascii "_-.,") c.args.c
+others : (c : lts.Else1 the-claims Pre Post) → ident_character c.args.c ≡ one_of (ascii "_-.,") c.args.c
 others c = or_on _ _ (sym c.is_alphanumeric.ensures ∙ c.if-is_alphanumeric.false)
 
 pub returns-then-is_alphanumeric : goal.returns-then-is_alphanumeric

@@ -7,13 +7,13 @@ use Rattle.text.proofs.Days.{february, thirty, thirty_one}
 use Rattle.text.proofs.calendar.days_of_month.Goals as goal
 
 pub returns-then-is_leap : goal.returns-then-is_leap
-returns-then-is_leap c = sym (february c.args.year _ c.in-2.keys1 true (sym c.is_leap.ensures ∙ c.if-is_leap.true))
+returns-then-is_leap c = sym (february c.args.year _ c.in-2.is true (sym c.is_leap.ensures ∙ c.if-is_leap.true))
 
 pub returns-else-is_leap : goal.returns-else-is_leap
-returns-else-is_leap c = sym (february c.args.year _ c.in-2.keys1 false (sym c.is_leap.ensures ∙ c.if-is_leap.false))
+returns-else-is_leap c = sym (february c.args.year _ c.in-2.is false (sym c.is_leap.ensures ∙ c.if-is_leap.false))
 
 pub returns-in-4 : goal.returns-in-4
-returns-in-4 c = sym (thirty c.args.year _ c.in-4.keys2)
+returns-in-4 c = sym (thirty c.args.year _ c.in-4.is)
 
 pub returns-in_default : goal.returns-in_default
-returns-in_default c = sym (thirty_one c.args.year _ c.in_default.rest.0.1 c.in_default.rest.1)
+returns-in_default c = sym (thirty_one c.args.year _ c.in_default.in_default-own.rest.0.1 c.in_default.in_default-own.rest.1)

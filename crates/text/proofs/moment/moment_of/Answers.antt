@@ -22,9 +22,9 @@ since_year_one-requires c = true_T _ (sym c.is_date.ensures ∙ not-false _ c.if
 pub returns : goal.returns
 unfolding moment_of seconds
 returns c =
-    let is = c.before.before in
+    let is = c.before.before.before in
     rw (sym is.is_date.ensures ∙ not-false _ is.if-not-is_date.false-raw)
     (ap (λ (z : ℤ). record { valid = true; seconds = z })
-    (to_z-of_z w64 _ (record { sfits = c.since_start-seconds.type-inv })
+    (to_z-of_z w64 _ (record { sfits = c.since_start-seconds.type_inv })
     ∙ c.since_start-seconds.ensures
     ∙ ap (λ (n : ℕ). sub_ℕ n (since_year_one start)) c.since_year_one.ensures.0))

@@ -13,22 +13,24 @@ use Rattle.text.proofs.Seconds.{parts}
 use borrow.Author.Rules.{rules}
 use Rattle.text.proofs.moment.since_year_one.Goals as goal
 use Rattle.text.proofs.moment.since_year_one.Lts as lts
+use Rattle.text.proofs.moment.since_year_one.Tie.{the-claims}
+use Rattle.text.proofs.moment.since_year_one.Reads.{Pre, Post}
 
-long : (c : lts.Start) → length c.args.s.now ≡ 16
+long : (c : lts.Start the-claims Pre Post) → length c.args.s.now ≡ 16
 long c = timestamp_length c.args.s.now c.requires
 
 pub year_of-requires : goal.year_of-requires
-year_of-requires c = omega (arith, long c.before)
+year_of-requires c = omega (arith, long c.before.before)
 
 pub two-requires : goal.two-requires
-two-requires c = omega (arith, long c.before.before)
+two-requires c = omega (arith, long c.before.before.before)
 
 pub two-requires-2 : goal.two-requires-2
-two-requires-2 c = omega (arith, long c.before.before.before)
+two-requires-2 c = omega (arith, long c.before.before.before.before)
 
 pub days_before-days-requires : goal.days_before-days-requires
 days_before-days-requires c =
-    let start = c.before.before.before.before in
+    let start = c.before.before.before.before.before in
     let s = start.args.s.now in
     let p = parts s start.requires in
     let d = p.date in
@@ -36,18 +38,18 @@ days_before-days-requires c =
     (d.year_from, p.year_to, d.month_from, d.month_to, d.day_from, omega (arith, d.day_to, month_most (year s) (month s)))
 
 pub two-hours-requires : goal.two-hours-requires
-two-hours-requires c = omega (arith, long c.before.before.before.before.before)
+two-hours-requires c = omega (arith, long c.before.before.before.before.before.before)
 
 pub two-minutes-requires : goal.two-minutes-requires
-two-minutes-requires c = omega (arith, long c.before.before.before.before.before.before)
+two-minutes-requires c = omega (arith, long c.before.before.before.before.before.before.before)
 
 pub two-requires-3 : goal.two-requires-3
-two-requires-3 c = omega (arith, long c.before.before.before.before.before.before.before)
+two-requires-3 c = omega (arith, long c.before.before.before.before.before.before.before.before)
 
 pub returns : goal.returns
 unfolding since_year_one
 returns c =
-    let days = c.before.before.before in
+    let days = c.before.before.before.before in
     let start = days.before.before.before.before.before in
     let s = start.args.s.now in
     let p = parts s start.requires in
