@@ -67,7 +67,8 @@ kind_in_some (j ∷ ks) t m k e =
     (λ h.
     let e₂ : j ≡ k = some-injective j k (rw (T_true (same t (name j) && eqb m (mark j)) h) at e) in
     let h' = and_yes (same t (name j)) (eqb m (mark j)) h in
-    rw (← e₂) (or_left (same (name j) (name j)) (among j ks) (same_refl (name j)), same→eq t (name j) h'.0, eqb→eq m (mark j) h'.1))
+    let P : Kind → Type 0 = λ i. T (among i (j ∷ ks)) × (t ≡ name i) × (m ≡ mark i) in
+    subst P e₂ (or_left (same (name j) (name j)) (among j ks) (same_refl (name j)), same→eq t (name j) h'.0, eqb→eq m (mark j) h'.1))
     (λ h.
     let i = kind_in_some ks t m k (rw (T_false (same t (name j) && eqb m (mark j)) h) at e) in
     (or_right (same (name k) (name j)) (among k ks) i.0, i.1, i.2))
