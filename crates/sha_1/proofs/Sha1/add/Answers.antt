@@ -19,11 +19,11 @@ block_of-block-requires c = let l : length c.args.self.block ≡ 64 = search rul
 
 pub returns-then-bytes-room : goal.returns-then-bytes-room
 unfolding added
-returns-then-bytes-room c = counted c.args.self c.args.bytes.now c.wrapping_add_u64-count.ensures ∙ added_short 64 compress keeping enough c.args.self c.args.bytes.now (search rules) refl c.if-bytes-room.true c.block_of-block.ensures c.put.ensures
+returns-then-bytes-room c = counted c.args.self c.args.bytes.now c.wrapping_add_u64-count.ensures.value ∙ added_short 64 compress keeping enough c.args.self c.args.bytes.now (search rules) refl c.if-bytes-room.true c.block_of-block.ensures c.put.ensures
 
 pub slice_bounds-put-end-3 : goal.slice_bounds-put-end-3
 slice_bounds-put-end-3 c = simp length-take (omega arith)
 
 pub returns : goal.returns
 unfolding added
-returns c = counted c.args.self c.args.bytes.now c.wrapping_add_u64-count.ensures ∙ added_long 64 compress keeping enough c.args.self c.args.bytes.now (search (rules, c.well_formed)) refl c.if-bytes-room.false c.block_of-block.ensures c.put-2.ensures refl refl (c.hash_blocks-hash.ensures ∙ rw c.hash_blocks-completed.ensures) c.block_of-block-2.ensures
+returns c = counted c.args.self c.args.bytes.now c.wrapping_add_u64-count.ensures.value ∙ added_long 64 compress keeping enough c.args.self c.args.bytes.now (search (rules, c.well_formed)) refl c.if-bytes-room.false c.block_of-block.ensures c.put-2.ensures refl refl (c.hash_blocks-hash.ensures ∙ rw c.hash_blocks-completed.ensures) c.block_of-block-2.ensures
