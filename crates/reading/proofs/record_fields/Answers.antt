@@ -25,9 +25,6 @@ bounds-kinds-j c = omega (arith, few_fields _ _ c.count_of-count.ensures, c.loop
 pub overflow_add-j : goal.overflow_add-j
 overflow_add-j c = omega (arith, few_fields _ _ c.count_of-count.ensures)
 
--- GONE overflow-cast-t15
--- cast-t15 c = omega (arith, few_fields _ _ c.before.before.before.before.before.before.before.count-of.ensures)
-
 pub returns-then-said-ne-ACCEPTED : goal.returns-then-said-ne-ACCEPTED
 returns-then-said-ne-ACCEPTED c = record { refusal = turn_stop read_identity _ _ _ _ _ c.count_of-count.ensures _ c.loop-j.invariant.0 c.loop-j-test.true _ c.part_at.ensures.holds c.type_of.ensures (its_no _ _ _ c.field_said-said.ensures) c.if-said-ne-ACCEPTED.true; all_kinds = λ z. absurd (c.if-said-ne-ACCEPTED.true z) }
 

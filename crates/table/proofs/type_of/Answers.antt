@@ -17,6 +17,16 @@ offset_bounds-row c =
     let there : c.args.j < count_of c.args.row = omega (arith, c.count_of.ensures, c.if-count_of-j.false) in
     omega (arith, row_there c.args.row c.args.j there)
 
+pub bounds-row : goal.bounds-row
+bounds-row c =
+    let there : c.args.j < count_of c.args.row = omega (arith, c.count_of.ensures, c.if-count_of-j.false) in
+    row_there c.args.row c.args.j there
+
+pub bounds-at : goal.bounds-at
+bounds-at c =
+    let there : c.args.j < count_of c.args.row = omega (arith, c.count_of.ensures, c.if-count_of-j.false) in
+    type_within c.args.row c.args.j there
+
 pub overflow_add-at : goal.overflow_add-at
 overflow_add-at c =
     let there : c.args.j < count_of c.args.row = omega (arith, c.count_of.ensures, c.if-count_of-j.false) in
