@@ -33,3 +33,6 @@ loop-j-preserved c = (turn_on read_identity _ _ _ _ _ c.count_of-count.ensures _
 
 pub returns : goal.returns
 returns c = record { refusal = turn_done read_identity _ _ _ _ _ c.count_of-count.ensures _ c.loop-j.invariant.0 c.loop-j-test.false; all_kinds = λ z. kinds_done c.loop-j.invariant.1 (omega (arith, c.count_of-count.ensures, c.loop-j-test.false)) }
+
+pub overflow_cast-result : goal.overflow_cast-result
+overflow_cast-result c = omega (arith, few_fields _ _ c.count_of-count.ensures)
