@@ -1,7 +1,7 @@
 -- Folding: joining the rows undoes it; no byte comes into a row that the whole has not, and each row has 64 characters or ends as the whole does.
 -- Assumes nothing.
 use Prim.Native.Nat.{ℕ, zero, suc, ◌+◌, ◌*◌, ◌/◌, ◌≤◌, ◌<◌}
-use mathlib.Core.Path.{◌≡◌, refl, sym, ap, ◌∙◌}
+use mathlib.Core.Path.{◌≡◌, refl, sym, ap, ◌∙◌, subst}
 use mathlib.Core.Logic.{◌⊎◌, inl, inr}
 use mathlib.Core.Bool.{not}
 use mathlib.Core.List.{[], ◌∷◌, ◌++◌, flatten}
@@ -69,7 +69,7 @@ rows_are zero s h = tt
 rows_are (suc zero) s h = (inr (ap (last_or 0) (take_all 64 s (omega (arith, h.0)))), tt)
 rows_are (suc (suc n)) s h =
     let f = fewer n s h in
-    (inl (length-take-le 64 s (omega (arith, f.0))), rw (last_drop 64 s f.0) at (rows_are (suc n) (drop 64 s) f.1))
+    (inl (length-take-le 64 s (omega (arith, f.0))), let P : ℕ → Type 0 = λ z. All (IsRow z) (rows (suc n) (drop 64 s)) in subst P (last_drop 64 s f.0) (rows_are (suc n) (drop 64 s) f.1))
 
 pub folded_rows : (s : Bytes) → All (IsRow (last_or 0 s)) (folded s)
 folded_rows s = rows_are _ s (enough s)

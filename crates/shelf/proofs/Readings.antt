@@ -13,7 +13,7 @@ use mir.Facts.{or_yes}
 use Rattle.text.specs.Text.{Bytes, one_of, all_of, without, is_timestamp}
 use Rattle.format.specs.Kinds.{Kind, SMID, REQ, name, mark, fields_of, among, pubkey_kinds, key_kinds, identity_kinds}
 use Rattle.format.specs.Requests.{id_sm, tvp}
-use Rattle.format.specs.Build.{IsIdentity}
+use Rattle.format.specs.Build.{Built, IsIdentity}
 use Rattle.format.specs.Read.{Outcome, accepted, refused, nobody, read_identity, read_under, read_of}
 use Rattle.format.specs.declared.Rules.{Rules}
 use Rattle.format.specs.declared.Rules.TheVariants.{UpToE10, Today}
@@ -185,13 +185,13 @@ positive P (suc n) i h t = ⊎_elim (λ e. let z = eqb→eq (suc n) 0 e in absur
 identity_own : (i : Bytes) (n j : ℕ) → read_identity i ≡ refused n j → T (one_of own_numbers n)
 unfolding read_identity
 identity_own i n j e =
-    positive _ n j (rw e at (identity_says i))
+    positive (Built identity_kinds i) n j (rw e at (identity_says i))
     (rw e at (over_given (0 ∷ own_numbers) tt nobody Today (tt, tt, tt, tt, tt) identity_kinds (tt, (tt, (tt, tt))) i))
 
 record_own : (r : Bytes) (n j : ℕ) → read_of pubkey_kinds r ≡ refused n j → T (one_of own_numbers n)
 unfolding read_under
 record_own r n j e =
-    positive _ n j (rw e at (read_says pubkey_kinds r))
+    positive (Built pubkey_kinds r) n j (rw e at (read_says pubkey_kinds r))
     (rw e at (over_given (0 ∷ own_numbers) tt read_identity Today (tt, tt, tt, tt, tt) pubkey_kinds (tt, (tt, tt)) r))
 
 pub asks_own : (i : Bytes) (n j : ℕ) → asks i ≡ declined n j → (read_identity i ≡ refused n j) × T (one_of own_numbers n)
@@ -218,7 +218,7 @@ reads_own r n j e = go (read_of pubkey_kinds r) refl e
 request_own : (s : Bytes) (n j : ℕ) → read_of (REQ ∷ []) s ≡ refused n j → T (one_of own_numbers n)
 unfolding read_under
 request_own s n j e =
-    positive _ n j (rw e at (read_says (REQ ∷ []) s))
+    positive (Built (REQ ∷ []) s) n j (rw e at (read_says (REQ ∷ []) s))
     (rw e at (over_given (0 ∷ own_numbers) tt read_identity Today (tt, tt, tt, tt, tt) (REQ ∷ []) (tt, tt) s))
 
 pub requests_own : (s : Bytes) (n j : ℕ) → requests s ≡ declined n j → (read_of (REQ ∷ []) s ≡ refused n j) × T (one_of own_numbers n)

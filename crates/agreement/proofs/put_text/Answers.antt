@@ -33,7 +33,7 @@ pub loop-i-preserved : goal.loop-i-preserved
 loop-i-preserved c = entered_more c.loop-i.invariant c.loop-i-test.true c.put_field-at.ensures
 
 pub shape_of-out : goal.shape_of-out
-shape_of-out c = put_length c.loop-i.invariant.way.put ∙ put_length c.put_item-at.ensures ∙ c.put_byte-next.auto.0
+shape_of-out c = put_length c.loop-i.invariant.way.put ∙ put_length c.put_item-at.ensures ∙ c.put_byte-next.auto.out
 
 pub returns : goal.returns
 returns c =

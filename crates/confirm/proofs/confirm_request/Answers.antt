@@ -10,16 +10,16 @@ use borrow.Author.Rules.{rules}
 use Rattle.confirm.proofs.confirm_request.Goals as goal
 
 pub returns-then-asked-ne-ACCEPTED : goal.returns-then-asked-ne-ACCEPTED
-returns-then-asked-ne-ACCEPTED c = request_refused c.args.z.now c.args.request.now c.args.mac-key.now c.args.kek.now _ c.read_of-asked.ensures _ c.if-asked-ne-ACCEPTED.true c.refuse.ensures
+returns-then-asked-ne-ACCEPTED c = request_refused c.args.z.now c.args.request.now c.args.mac_key.now c.args.kek.now _ c.read_of-asked.ensures _ c.if-asked-ne-ACCEPTED.true c.refuse.ensures
 
 pub returns-then-z-ne-Z_BYTES : goal.returns-then-z-ne-Z_BYTES
-returns-then-z-ne-Z_BYTES c = z_wrong c.args.z.now c.args.request.now c.args.mac-key.now c.args.kek.now _ c.read_of-asked.ensures c.if-asked-ne-ACCEPTED.false _ c.if-z-ne-Z_BYTES.true c.say.ensures
+returns-then-z-ne-Z_BYTES c = z_wrong c.args.z.now c.args.request.now c.args.mac_key.now c.args.kek.now _ c.read_of-asked.ensures c.if-asked-ne-ACCEPTED.false _ c.if-z-ne-Z_BYTES.true c.say.ensures
 
 pub returns-then-mac_key-lt-KEY_BYTES : goal.returns-then-mac_key-lt-KEY_BYTES
-returns-then-mac_key-lt-KEY_BYTES c = mac_key_short c.args.z.now c.args.request.now c.args.mac-key.now c.args.kek.now _ c.read_of-asked.ensures c.if-asked-ne-ACCEPTED.false c.if-z-ne-Z_BYTES.false _ c.if-mac_key-lt-KEY_BYTES.true c.say-then-mac_key-lt-KEY_BYTES.ensures
+returns-then-mac_key-lt-KEY_BYTES c = mac_key_short c.args.z.now c.args.request.now c.args.mac_key.now c.args.kek.now _ c.read_of-asked.ensures c.if-asked-ne-ACCEPTED.false c.if-z-ne-Z_BYTES.false _ c.if-mac_key-lt-KEY_BYTES.true c.say-then-mac_key-lt-KEY_BYTES.ensures
 
 pub returns-then-kek-lt-KEY_BYTES : goal.returns-then-kek-lt-KEY_BYTES
-returns-then-kek-lt-KEY_BYTES c = kek_short c.args.z.now c.args.request.now c.args.mac-key.now c.args.kek.now _ c.read_of-asked.ensures c.if-asked-ne-ACCEPTED.false c.if-z-ne-Z_BYTES.false _ c.if-mac_key-lt-KEY_BYTES.false c.if-kek-lt-KEY_BYTES.true c.say-then-kek-lt-KEY_BYTES.ensures
+returns-then-kek-lt-KEY_BYTES c = kek_short c.args.z.now c.args.request.now c.args.mac_key.now c.args.kek.now _ c.read_of-asked.ensures c.if-asked-ne-ACCEPTED.false c.if-z-ne-Z_BYTES.false _ c.if-mac_key-lt-KEY_BYTES.false c.if-kek-lt-KEY_BYTES.true c.say-then-kek-lt-KEY_BYTES.ensures
 
 pub derived-keys-requires : goal.derived-keys-requires
 derived-keys-requires c =
@@ -39,10 +39,10 @@ is_tag-requires c =
     (mac_tag c.args.request.now _ c.read_of-asked.ensures c.if-asked-ne-ACCEPTED.false c.field_at.ensures.holds, search rules)
 
 pub returns-then-not-is_tag : goal.returns-then-not-is_tag
-returns-then-not-is_tag c = request_tag_wrong c.args.z.now c.args.request.now c.args.mac-key.now c.args.kek.now _ c.read_of-asked.ensures c.if-asked-ne-ACCEPTED.false c.if-z-ne-Z_BYTES.false c.if-mac_key-lt-KEY_BYTES.false c.if-kek-lt-KEY_BYTES.false c.derived-keys.ensures c.module_tag-right.ensures c.field_at.ensures.holds c.is_tag.ensures _ (not-true _ c.if-not-is_tag.true-raw) c.say-then-not-is_tag.ensures
+returns-then-not-is_tag c = request_tag_wrong c.args.z.now c.args.request.now c.args.mac_key.now c.args.kek.now _ c.read_of-asked.ensures c.if-asked-ne-ACCEPTED.false c.if-z-ne-Z_BYTES.false c.if-mac_key-lt-KEY_BYTES.false c.if-kek-lt-KEY_BYTES.false c.derived-keys.ensures c.module_tag-right.ensures c.field_at.ensures.holds c.is_tag.ensures _ (not-true _ c.if-not-is_tag.true-raw) c.say-then-not-is_tag.ensures
 
 pub slice_bounds-put-end : goal.slice_bounds-put-end
 slice_bounds-put-end c = let l : length c.derived-keys.result ≡ 48 = search rules in simp length-take (omega (arith, l))
 
 pub returns : goal.returns
-returns c = keys_written c.args.z.now c.args.request.now c.args.mac-key.now c.args.kek.now _ c.read_of-asked.ensures c.if-asked-ne-ACCEPTED.false c.if-z-ne-Z_BYTES.false c.if-mac_key-lt-KEY_BYTES.false c.if-kek-lt-KEY_BYTES.false c.derived-keys.ensures c.module_tag-right.ensures c.field_at.ensures.holds c.is_tag.ensures _ (not-false _ c.if-not-is_tag.false-raw) c.put.ensures c.put-2.ensures c.say-2.ensures
+returns c = keys_written c.args.z.now c.args.request.now c.args.mac_key.now c.args.kek.now _ c.read_of-asked.ensures c.if-asked-ne-ACCEPTED.false c.if-z-ne-Z_BYTES.false c.if-mac_key-lt-KEY_BYTES.false c.if-kek-lt-KEY_BYTES.false c.derived-keys.ensures c.module_tag-right.ensures c.field_at.ensures.holds c.is_tag.ensures _ (not-false _ c.if-not-is_tag.false-raw) c.put.ensures c.put-2.ensures c.say-2.ensures

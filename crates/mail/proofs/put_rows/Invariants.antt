@@ -9,8 +9,8 @@ use Rattle.mail.proofs.Writing.{rows_of, row_inside, row_put, rows_none}
 use borrow.Author.Rules.{rules}
 use Rattle.mail.proofs.put_rows.Given as goal
 
-abbrev invariant-loop : tie.invariant-loop
-invariant-loop out₀ at «record» next₀ i₀ out next i = Underway out₀ at (rows_of «record») (rows_of (drop i «record»)) out next
+abbrev pub invariant-loop-i : goal.invariant-loop-i
+invariant-loop-i l = Underway l.initial.out l.at (rows_of l.«record») (rows_of (drop l.i l.«record»)) l.out l.next
 
-abbrev decreases-loop : tie.decreases-loop
-decreases-loop out₀ at «record» next₀ i₀ out next i = length «record» - i
+abbrev pub decreases-loop-i : goal.decreases-loop-i
+decreases-loop-i l = length l.«record» - l.i

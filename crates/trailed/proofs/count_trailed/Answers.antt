@@ -10,13 +10,7 @@ use Rattle.trailed.specs.Trailed.{read_trailed}
 use Rattle.trailed.proofs.Trailed.{trailed_never_zero}
 use borrow.Author.Rules.{rules}
 use Rattle.trailed.proofs.count_trailed.Goals as goal
-use Rattle.trailed.proofs.count_trailed.Lts as lts
-use Rattle.trailed.proofs.count_trailed.Tie.{the-claims}
-use Rattle.trailed.proofs.count_trailed.Reads.{Pre, Post}
-
--- the line that was read, its number and the next place
-read-line : (c : lts.After-no the-claims Pre Post invariant-loop decreases-loop) → Told read_trailed c.args.file.now c.loop-no.place c.in-Read.no c.in-Read.next
-read-line c = told read_trailed trailed_never_zero _ _ _ _ _ _ _ _ (sym c.in-Read.is ∙ c.trailed_at.ensures)
+use Rattle.trailed.proofs.count_trailed.Goals.{then-no-eq-ACCEPTED, else-no-eq-ACCEPTED}
 
 pub loop-no-init : goal.loop-no-init
 loop-no-init c = counted_none read_trailed _
@@ -28,7 +22,16 @@ pub overflow_add-accepted : goal.overflow_add-accepted
 overflow_add-accepted c = omega (arith, c.loop-no.invariant.few, c.loop-no.invariant.fewer, c.loop-no.invariant.inside)
 
 pub loop-no-smaller : goal.loop-no-smaller
-loop-no-smaller c = omega (arith, told_beyond (read-line c.before.before.before), told_inside (read-line c.before.before.before))
+loop-no-smaller c =
+    -- the line that was read, its number and the next place
+    let read : Told read_trailed c.args.file.now c.loop-no.place c.in-Read.no c.in-Read.next = told read_trailed trailed_never_zero _ _ _ _ _ _ _ _ (sym c.in-Read.is ∙ c.trailed_at.ensures) in
+    omega (arith, told_beyond read, told_inside read)
 
 pub loop-no-preserved : goal.loop-no-preserved
-loop-no-preserved c = ⊎_elim (λ w. counted_accepted c.loop-no.invariant (read-line c.before.before.before) w.0.taken w.1) (λ w. counted_refused c.loop-no.invariant (read-line c.before.before.before) w.0.left w.1) c.if-no-eq-ACCEPTED.branch
+loop-no-preserved c =
+    -- the line that was read, its number and the next place
+    let read : Told read_trailed c.args.file.now c.loop-no.place c.in-Read.no c.in-Read.next = told read_trailed trailed_never_zero _ _ _ _ _ _ _ _ (sym c.in-Read.is ∙ c.trailed_at.ensures) in
+    elim c.if-no-eq-ACCEPTED.branch [
+      then-no-eq-ACCEPTED w ↦ counted_accepted c.loop-no.invariant read w.if-no-eq-ACCEPTED.true w.accepted-is
+    | else-no-eq-ACCEPTED w ↦ counted_refused c.loop-no.invariant read w.if-no-eq-ACCEPTED.false w.accepted-is
+    ]

@@ -7,22 +7,15 @@ use Rattle.text.specs.Text.{Bytes, same}
 use Rattle.confirm.proofs.Compared.{tag_length, decoded_tag}
 use borrow.Author.Rules.{rules}
 use Rattle.confirm.proofs.tags.is_tag.Goals as goal
-use Rattle.confirm.proofs.tags.is_tag.Lts as lts
-use Rattle.confirm.proofs.tags.is_tag.Tie.{the-claims}
-use Rattle.confirm.proofs.tags.is_tag.Reads.{Pre, Post}
-
--- all 24 bytes are written
-written : (c : lts.After-put_decoded the-claims Pre Post) → c.put_decoded-len.result ≡ 24
-written c = tag_length c.args.mac_tag.now c.requires.0 c.put_decoded-len.ensures
 
 pub slice_bounds-said-end : goal.slice_bounds-said-end
-slice_bounds-said-end c = omega (arith, written c.before.before)
+slice_bounds-said-end c = omega (arith, tag_length c.args.mac_tag.now c.requires.0 c.put_decoded-len.ensures)
 
 pub slice_bounds-are_same-end : goal.slice_bounds-are_same-end
-slice_bounds-are_same-end c = let l : length c.put_decoded-len.new.0 ≡ 24 = search rules in simp length-take (omega (arith, l, written c.before.before.before))
+slice_bounds-are_same-end c = let l : length c.put_decoded-len.new.out ≡ 24 = search rules in simp length-take (omega (arith, l, tag_length c.args.mac_tag.now c.requires.0 c.put_decoded-len.ensures))
 
 pub are_same-requires : goal.are_same-requires
-are_same-requires c = let l : length c.put_decoded-len.new.0 ≡ 24 = search rules in simp length-take (omega (arith, l, written c.before.before.before, c.requires.1))
+are_same-requires c = let l : length c.put_decoded-len.new.out ≡ 24 = search rules in simp length-take (omega (arith, l, tag_length c.args.mac_tag.now c.requires.0 c.put_decoded-len.ensures, c.requires.1))
 
 pub returns : goal.returns
 returns c =

@@ -12,6 +12,6 @@ use Rattle.confirm.proofs.tags.tag_of.Goals as goal
 pub returns : goal.returns
 returns c =
     let a = c.args in
-    let k = a.mac-key.now in
+    let k = a.mac_key.now in
     let text = text_of a.label.now a.fields.now a.request.now in
     c.end.ensures ∙ ap (hmac_ended k) (c.add_text-given.ensures ∙ ap (λ (s : Sha384). added s text) c.begin-begun.ensures) ∙ tag_once k text

@@ -11,15 +11,9 @@ use Rattle.agreement.specs.Steps.{lv_item}
 use Rattle.confirm.proofs.Given.{given_two, Given, given_none, given_more, given_all, text_given}
 use borrow.Author.Rules.{rules}
 use Rattle.confirm.proofs.texts.add_text.Goals as goal
-use Rattle.confirm.proofs.texts.add_text.Lts as lts
-use Rattle.confirm.proofs.texts.add_text.Tie.{the-claims}
-use Rattle.confirm.proofs.texts.add_text.Reads.{Pre, Post}
 
 pub overflow_cast-fields : goal.overflow_cast-fields
 overflow_cast-fields c = record { fits = omega (arith, c.requires.0.few) }
-
-hash-block : (c : lts.After-add the-claims Pre Post invariant-loop decreases-loop) → length c.args.hash.block ≡ 128
-hash-block c = search rules
 
 pub add_item-given-requires : goal.add_item-given-requires
 add_item-given-requires c = c.requires.0.short_label
