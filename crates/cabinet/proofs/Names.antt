@@ -3,7 +3,7 @@
 -- Assumes nothing.
 use Prim.Native.Nat.{ℕ, zero, suc, ◌-◌}
 use Prim.Native.Char.{code}
-use mathlib.Core.Path.{◌≡◌, refl, sym, ap, ◌∙◌}
+use mathlib.Core.Path.{◌≡◌, refl, sym, ap, ◌∙◌, subst}
 use mathlib.Core.Logic.{◌≢◌}
 use mathlib.Core.Bool.{Bool, true, false, not, ◌&&◌}
 use mathlib.Core.List.{List, [], ◌∷◌, ◌++◌, append_assoc, append-nil}
@@ -111,7 +111,8 @@ module _ {i : Bytes} {k : Names} {g : Bytes} (a : Asked i k g) where
 
   parts_clean : WithoutAll (code ":") (name a.who ∷ a.fields)
   parts_clean =
-      rw (← its_mark) (
+      let P : ℕ → Type 0 = λ m. WithoutAll m (name a.who ∷ a.fields) in
+      subst P its_mark (
         plain_without (mark a.who) (mark_no_character a.who) (name a.who) (name_plain a.who),
         record_clean IsIdentity identity_tame a.who a.fields built.permitted.fit,
       )
@@ -137,8 +138,9 @@ module _ {i : Bytes} {k : Names} {g : Bytes} (a : Asked i k g) where
       go [] l e f = absurd (omega arith)
       go (x ∷ []) l e f = absurd (omega arith)
       go (x ∷ y ∷ fs) l e f =
-          let c = check_text (crc_of (joined (code ":") (name a.who ∷ x ∷ y ∷ fs))) in
-          (joined (code ":") fs ++ c, f ∙ rw (e, its_mark) (ap (λ (z : Bytes). z ++ c) (joined_append (code ":") (name a.who ∷ x ∷ y ∷ []) fs) ∙ append_assoc (joined (code ":") (name a.who ∷ x ∷ y ∷ [])) (joined (code ":") fs) c))
+          let parts : List Bytes = name a.who ∷ x ∷ y ∷ fs in
+          let c = check_text (crc_of (joined (code ":") parts)) in
+          (joined (code ":") fs ++ c, f ∙ ap (λ (m : ℕ). joined m parts ++ check_text (crc_of (joined m parts))) its_mark ∙ rw e (ap (λ (z : Bytes). z ++ c) (joined_append (code ":") (name a.who ∷ x ∷ y ∷ []) fs) ∙ append_assoc (joined (code ":") (name a.who ∷ x ∷ y ∷ [])) (joined (code ":") fs) c))
 
   -- and those are what the code takes
   pub names_taken : names_in i ≡ names_text k
@@ -177,7 +179,8 @@ module _ (h : Held) (good : stands h.text ≡ about h.names h.gnt) where
 
   key_parts : WithoutAll (code "|") (name key_so.kind ∷ key_so.fields)
   key_parts =
-      rw (← key_mark) (
+      let P : ℕ → Type 0 = λ m. WithoutAll m (name key_so.kind ∷ key_so.fields) in
+      subst P key_mark (
         plain_without (mark key_so.kind) (mark_no_character key_so.kind) (name key_so.kind) (name_plain key_so.kind),
         record_clean IsIdentity identity_tame key_so.kind key_so.fields built_key.permitted.fit,
       )
@@ -191,9 +194,11 @@ module _ (h : Held) (good : stands h.text ≡ about h.names h.gnt) where
       go [] l f = absurd (omega arith)
       go (x ∷ fs) l f =
           let two = joined (code "|") (name key_so.kind ∷ x ∷ []) in
-          let c = check_text (crc_of (joined (code "|") (name key_so.kind ∷ x ∷ fs))) in
+          let parts : List Bytes = name key_so.kind ∷ x ∷ fs in
+          let c = check_text (crc_of (joined (code "|") parts)) in
           let text : h.text ≡ two ++ (joined (code "|") fs ++ c) =
-          f ∙ rw key_mark (ap (λ (t : Bytes). t ++ c) (joined_append (code "|") (name key_so.kind ∷ x ∷ []) fs) ∙ append_assoc two (joined (code "|") fs) c) in
+          f ∙ ap (λ (m : ℕ). joined m parts ++ check_text (crc_of (joined m parts))) key_mark
+          ∙ ap (λ (t : Bytes). t ++ c) (joined_append (code "|") (name key_so.kind ∷ x ∷ []) fs) ∙ append_assoc two (joined (code "|") fs) c in
           ((joined (code "|") fs ++ c) ++ t, ap (λ (u : Bytes). u ++ t) text ∙ append_assoc two (joined (code "|") fs ++ c) t)
 
   -- and so the bytes of its place

@@ -9,29 +9,25 @@ use Rattle.list_text.proofs.put_line.Goals as goal
 
 pub put_number-after_number-requires : goal.put_number-after_number-requires
 put_number-after_number-requires c =
-    let start = c.before.before.before in
-    omega (arith, line_parts start.args.number start.args.start start.args.len start.args.no, start.requires)
+    omega (arith, line_parts c.args.number c.args.start c.args.len c.args.no, c.requires)
 
 pub put_number-after_start-requires : goal.put_number-after_start-requires
 put_number-after_start-requires c =
-    let start = c.before.before.before.before.before.before.before in
     let one = c.put_number-after_number.ensures in
-    omega (arith, line_parts start.args.number start.args.start start.args.len start.args.no, start.requires, one.next, put_length one)
+    omega (arith, line_parts c.args.number c.args.start c.args.len c.args.no, c.requires, one.next, put_length one)
 
 pub put_number-after_len-requires : goal.put_number-after_len-requires
 put_number-after_len-requires c =
-    let start = c.before.before.before.before.before.before.before.before.before.before.before in
     let one = c.put_number-after_number.ensures in
     let two = c.put_number-after_start.ensures in
-    omega (arith, line_parts start.args.number start.args.start start.args.len start.args.no, start.requires, one.next, put_length one, two.next, put_length two)
+    omega (arith, line_parts c.args.number c.args.start c.args.len c.args.no, c.requires, one.next, put_length one, two.next, put_length two)
 
 pub put_number-requires : goal.put_number-requires
 put_number-requires c =
-    let start = c.before.before.before.before.before.before.before.before.before.before.before.before.before.before.before in
     let one = c.put_number-after_number.ensures in
     let two = c.put_number-after_start.ensures in
     let three = c.put_number-after_len.ensures in
-    omega (arith, line_parts start.args.number start.args.start start.args.len start.args.no, start.requires, one.next, put_length one, two.next, put_length two, three.next, put_length three)
+    omega (arith, line_parts c.args.number c.args.start c.args.len c.args.no, c.requires, one.next, put_length one, two.next, put_length two, three.next, put_length three)
 
 pub returns : goal.returns
 unfolding line_text

@@ -10,9 +10,8 @@ use Rattle.list_text.proofs.put_number.Goals as goal
 
 pub returns : goal.returns
 returns c =
-    let start = c.before.before.before.before.before.before.before.before.before.before.before.before.before.before in
-    let long = before_length start.args.mark start.args.n in
+    let long = before_length c.args.mark c.args.n in
     let d = c.decimal-k in
-    let e = decimal_part d.new.1.0 start.args.n d.result start.ranges.n.fits d.ensures.1.0 d.ensures.1.1 in
-    let first = put_as e (put_of (omega (arith, ap length e, long, start.requires)) c.put-next.ensures) in
-    put_then first (put_of (omega (arith, first.next, put_length first, long, start.requires)) c.put_byte.ensures)
+    let e = decimal_part d.new.out c.args.n d.result c.ranges.n.fits d.ensures.1.0 d.ensures.1.1 in
+    let first = put_as e (put_of (omega (arith, ap length e, long, c.requires)) c.put-next.ensures) in
+    put_then first (put_of (omega (arith, first.next, put_length first, long, c.requires)) c.put_byte.ensures)

@@ -39,6 +39,6 @@ returns c =
     let label = a.label.now in
     let ns = a.fields.now in
     let count = (1 + length ns) ∷ [] in
-    let l = hash-block c.before.before.before.before in
+    let l : length a.hash.block ≡ 128 = search rules in
     let front = given_two a.hash l count (lv_item label) c.add-counted.ensures c.add_item-given.ensures in
     text_given a.hash label ns a.request.now (given_all c.loop-i.invariant a.hash (count ++ lv_item label) c.loop-i-test.false l front)
