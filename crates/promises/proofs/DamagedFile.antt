@@ -37,9 +37,9 @@ use Rattle.hashing.specs.Blocks.{block, hashed}
 use Rattle.sha_1.specs.Sha1 as short
 use Rattle.trailed.specs.Trailed.{trailer, trailed, record_in, InRecord, read_trailed, trailed_at, walk_trailed}
 use Rattle.trailed.proofs.Trailed.{trailed_read}
-use Rattle.promises.specs.Files.{PlainSays}
-use Rattle.promises.specs.Trailed.{TrailedSays}
-use Rattle.promises.specs.Demand3.{Called, none, more, AllCaughtSaid, DamageCaught}
+use Rattle.promises.proofs.Statements.Files.{PlainSays}
+use Rattle.promises.proofs.Statements.Trailed.{TrailedSays}
+use Rattle.promises.proofs.Statements.Demand3.{Called, none, more, AllCaughtSaid, DamageCaught}
 use Rattle.promises.specs.Worked.{module_id_fields, module_id, centre_id_fields, centre_id, centre_key_fields, centre_key, response_fields, response, fields_of_worked, sound_lines, sound_file, damaged_file, flipped_file, trailed_file, damaged_trailed_file, flipped_trailed_file}
 use Rattle.promises.proofs.Demand3.{demand3}
 use Rattle.promises.proofs.FlippedBits.{flipped_bits}

@@ -21,9 +21,9 @@ use Rattle.files.specs.Walk.{line_said}
 use Rattle.files.proofs.Stepping.{none_left, first_left}
 use Rattle.trailed.specs.Trailed.{read_trailed}
 use Rattle.trailed.proofs.Trailed.{trailed_within_two, trailed_damage_caught}
-use Rattle.promises.specs.Files.{PlainSays}
-use Rattle.promises.specs.Trailed.{TrailedSays}
-use Rattle.promises.specs.Demand3.{Called, none, more, CaughtSaid, AllCaughtSaid, DamageCaught, Demand3}
+use Rattle.promises.proofs.Statements.Files.{PlainSays}
+use Rattle.promises.proofs.Statements.Trailed.{TrailedSays}
+use Rattle.promises.proofs.Statements.Demand3.{Called, none, more, CaughtSaid, AllCaughtSaid, DamageCaught, Demand3}
 
 -- ---- a line of each file
 
@@ -68,6 +68,8 @@ module _ (call : Bytes → Outcome) (Says : Bor Bytes → ℕ → Line → Type 
         rw (here, there) (end_caught f.now g.now long place),
         calls_caught place [] [] r t c ls ms (rw here at ps) (rw there at qs) (omega (arith, e)),
       )
+  calls_caught place [] (y ∷ ys) r t c (l ∷ ls) (m ∷ ms) p q e = elim c [ ]
+  calls_caught place (x ∷ xs) [] r t c (l ∷ ls) (m ∷ ms) p q e = elim c [ ]
   calls_caught place (x ∷ xs) (y ∷ ys) r t c (l ∷ ls) (m ∷ ms) (more p ps) (more q qs) e =
       let (is, left) = first_left call f.now place x xs r in
       let (is', left') = first_left call g.now place y ys t in

@@ -18,7 +18,7 @@ use Rattle.format.proofs.Damage.{accepted_short, record_catches, flips_refused, 
 use Rattle.trailed.specs.Trailed.{InRecord, read_trailed}
 use Rattle.trailed.proofs.Trailed.{trailed_catches, trailed_within_two}
 use Rattle.promises.specs.Worked.{module_id_fields, module_id, centre_id_fields, centre_id, response_fields, response, response_of, four_flipped, three_flipped, later_response, two_flipped}
-use Rattle.promises.specs.FlippedBits.{NoLimit, FlippedBits, FlipsPass}
+use Rattle.promises.proofs.Statements.FlippedBits.{NoLimit, FlippedBits, FlipsPass}
 use Rattle.promises.proofs.Demand3.{plain_caught, trailed_caught}
 use Rattle.promises.proofs.Permitted.{is_sm, is_kmc, built_of}
 

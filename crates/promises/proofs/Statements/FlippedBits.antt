@@ -9,9 +9,9 @@ use Rattle.text.specs.Text.{Bytes}
 use Rattle.format.specs.Read.{body, check, read_record}
 use Rattle.format.specs.Damage.{Accepted, Refused, WithinTwo, Flipped, InCheck, Either}
 use Rattle.trailed.specs.Trailed.{InRecord, read_trailed}
-use Rattle.promises.specs.Files.{PlainSays}
-use Rattle.promises.specs.Trailed.{TrailedSays}
-use Rattle.promises.specs.Demand3.{DamageCaught}
+use Rattle.promises.proofs.Statements.Files.{PlainSays}
+use Rattle.promises.proofs.Statements.Trailed.{TrailedSays}
+use Rattle.promises.proofs.Statements.Demand3.{DamageCaught}
 use Rattle.promises.specs.Worked.{response, four_flipped, three_flipped, later_response, two_flipped}
 
 -- the check tells two flips apart in at most 32,767 bits (`two` in Check.antt), and no accepted record has more: it has at most 1,024 bytes

@@ -19,16 +19,16 @@ use Rattle.files.specs.Walk.{number_of}
 use Rattle.files.specs.Steps.{Steps}
 use Rattle.newer.specs.Keys.{Agreed}
 use Rattle.newer.specs.Newer.{theFirst, theSecond, newer}
-use Rattle.promises.specs.Attributes.{Wrapped}
+use Rattle.promises.proofs.Statements.Attributes.{Wrapped}
 use Rattle.trailed.specs.Trailed.{InRecord, read_trailed}
 use Rattle.mail.specs.Mail.{PassedOver}
 use Rattle.shelf.specs.Cabinet.{put_key, remove_key, admit, find_key, count_keys}
-use Rattle.promises.specs.Cabinet.{IsCabinet}
-use Rattle.promises.specs.Dates.{Follows}
-use Rattle.promises.specs.Files.{PlainSays}
-use Rattle.promises.specs.Trailed.{TrailedSays}
-use Rattle.promises.specs.Demand3.{Called}
-use Rattle.promises.specs.Rebuilding.{Asked, IdentityField, RecordField}
+use Rattle.promises.proofs.Statements.Cabinet.{IsCabinet}
+use Rattle.promises.proofs.Statements.Dates.{Follows}
+use Rattle.promises.proofs.Statements.Files.{PlainSays}
+use Rattle.promises.proofs.Statements.Trailed.{TrailedSays}
+use Rattle.promises.proofs.Statements.Demand3.{Called}
+use Rattle.promises.proofs.Statements.Rebuilding.{Asked, IdentityField, RecordField}
 use Rattle.promises.specs.Worked.{fields_of_worked, unsigned_key_fields, module_id, unsigned_module_key, centre_key_fields, centre_key, module_key, later_key, request_fields, request, key_attributes, key_fields, key, sound_file, damaged_file, flipped_file, trailed_file, damaged_trailed_file, flipped_trailed_file}
 
 pub record Witnesses : Type 0 where

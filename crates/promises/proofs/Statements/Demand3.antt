@@ -12,8 +12,8 @@ use Rattle.format.specs.Damage.{Differ, Inside, bytes_in, DamagedOver, WithinTwo
 use Rattle.files.specs.declared.Line.{Line}
 use Rattle.files.specs.Walk.{number_of, start_of, length_of, next_of}
 use Rattle.trailed.specs.Trailed.{read_trailed}
-use Rattle.promises.specs.Files.{PlainSays}
-use Rattle.promises.specs.Trailed.{TrailedSays}
+use Rattle.promises.proofs.Statements.Files.{PlainSays}
+use Rattle.promises.proofs.Statements.Trailed.{TrailedSays}
 
 -- answers that the contract of a file call allows (`Says`, as in Files.antt) for the lent bytes, one call after another from a place on
 pub data Called (Says : Bor Bytes → ℕ → Line → Type 0) (lent : Bor Bytes) : ℕ → List Line → Type 0 where
