@@ -69,7 +69,7 @@ pub fn obscurlane_line_at(file: &[u8], place: usize) -> Found
 
 // A reader of a file is its place: a new one stands at the start.
 pub fn obscurlane_reader_new(file: &[u8]) -> usize
-    ensures { Begins file.now (record { file = file.now; place = result }) }
+    ensures { Begins file.entry (record { file = file.entry; place = result }) }
 {
     0
 }

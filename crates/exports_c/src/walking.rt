@@ -26,7 +26,7 @@ pub extern "C" fn obscurlane_line_at(file: &[u8], place: usize) -> exports::walk
 // A reader of a file is its place: a new one stands at the start.
 #[unsafe(no_mangle)]
 pub extern "C" fn obscurlane_reader_new(file: &[u8]) -> usize
-    ensures { Begins file.now (record { file = file.now; place = result }) }
+    ensures { Begins file.entry (record { file = file.entry; place = result }) }
 {
     exports::walking::obscurlane_reader_new(file)
 }
