@@ -29,8 +29,11 @@ fn variable(name: &str) -> String {
 /// The folder of the archive of this tree, which has to be there: an old one would link as well as a new one, and answer what
 /// the sources no longer say.
 fn made_folder() -> PathBuf {
-    for path in ["crates", "crates.txt", "bindings/archive"] {
+    for path in ["crates.txt", "bindings/archive"] {
         println!("cargo:rerun-if-changed={}", in_root(path).display());
+    }
+    for folder in sources() {
+        println!("cargo:rerun-if-changed={}", folder.display());
     }
     println!("cargo:rerun-if-env-changed=OBSCURLANE_NATIVE");
     let (target, host) = (variable("CARGO_CFG_TARGET_ARCH"), env::consts::ARCH);
@@ -42,6 +45,14 @@ fn made_folder() -> PathBuf {
         Ok(_) => fail("the archive has to be made first"),
         Err(error) => fail(&format!("bindings/archive: {error}")),
     }
+}
+
+/// The folders in which each crate has its sources; what rt keeps beside them, in `out`, changes with every check.
+fn sources() -> Vec<PathBuf> {
+    let crates = fs::read_dir(in_root("crates")).into_iter().flatten().flatten();
+    let parts =
+        crates.flat_map(|entry| ["src", "specs", "proofs"].map(|part| entry.path().join(part)));
+    parts.filter(|folder| folder.is_dir()).collect()
 }
 
 fn fail(why: &str) -> ! {

@@ -6,7 +6,7 @@ use std::collections::{BTreeMap, BTreeSet};
 use std::fs;
 use std::path::{Path, PathBuf};
 
-/// The structs that are handed over: as `crates/exports` names them, and in C. `sys` has them by the words of the latter behind the
+/// The structs that are handed over: as `crates/exports_c` names them, and in C, those of `exports` by their names alone. `sys` has them by the words of the latter behind the
 /// first.
 const STRUCTS: [(&str, &str); 20] = [
     ("reading::Answer", "obscurlane_answer"),
@@ -23,8 +23,8 @@ const STRUCTS: [(&str, &str); 20] = [
     ("Tag", "obscurlane_tag"),
     ("confirm::Confirmed", "obscurlane_confirmed"),
     ("Sha1Digest", "obscurlane_sha1_digest"),
-    ("sha1::Words", "obscurlane_sha1_words"),
-    ("sha1::Sha1", "obscurlane_sha1_state"),
+    ("sha_1::Words", "obscurlane_sha1_words"),
+    ("sha_1::Sha1", "obscurlane_sha1_state"),
     ("cabinet::Filed", "obscurlane_filed"),
     ("cabinet::Counted", "obscurlane_counted"),
     ("text::Moment", "obscurlane_moment"),
@@ -76,7 +76,7 @@ fn words(text: &str) -> impl Iterator<Item = &str> {
 /// A name and its type.
 type Typed = (String, String);
 
-/// A function of the interface, by its signature in `crates/exports`.
+/// A function of the interface, by its signature in `crates/exports_c`.
 struct Function {
     name: String,
     parameters: Vec<Typed>,
@@ -84,7 +84,7 @@ struct Function {
 }
 
 fn functions() -> Vec<Function> {
-    let source = flat(&read_all("crates/exports/src", "rt"));
+    let source = flat(&read_all("crates/exports_c/src", "rt"));
     source.split("pub extern \"C\" fn ").skip(1).map(function).collect()
 }
 
@@ -96,13 +96,10 @@ fn function(signature: &str) -> Function {
     Function { name: name.to_owned(), parameters: typed(parameters), answer: answer.to_owned() }
 }
 
-/// A struct of `exports` itself by its name alone, whichever module of it has the struct.
+/// A struct of `exports` by its name alone, whichever module of it has the struct.
 fn without_module(of_type: &str) -> &str {
-    let is_module = |name: &str| in_root(&format!("crates/exports/src/{name}.rt")).is_file();
-    match of_type.split_once("::") {
-        Some((module, name)) if is_module(module) => name,
-        _ => of_type,
-    }
+    let of_exports = of_type.strip_prefix("exports::").and_then(|rest| rest.split_once("::"));
+    of_exports.map_or(of_type, |(_, name)| name)
 }
 
 /// The names and types of parameters, or of a struct's fields.
@@ -118,6 +115,7 @@ fn typed(list: &str) -> Vec<Typed> {
 /// The structs of C's layout in a source of Rattle or Rust, which write them alike.
 fn structs(source: &str) -> BTreeMap<String, Vec<Typed>> {
     let source = flat(source);
+    let source = source.replace("#[derive(Clone, Copy)] ", "");
     let found = source.split("#[repr(C)] pub struct ").skip(1).map(|rest| {
         let (name, rest) = rest.split_once(" { ").expect("fields");
         let (fields, _) = rest.split_once(" }").expect("the end of the fields");
@@ -139,14 +137,17 @@ fn fields_of(path: &str) -> Vec<Typed> {
     with_path.collect()
 }
 
-/// The crates that the archive is made of: those that `exports` needs, and that these need.
+/// The crates that the archive is made of: `exports_c`, those that it needs, and that these need.
 fn linked_crates() -> BTreeSet<String> {
     let list = read("crates.txt");
     let needed_by = |name: &str| {
-        let line = list.lines().find_map(|line| line.strip_prefix(name)?.strip_prefix(':'));
+        let line = list.lines().find_map(|line| {
+            let rest = line.strip_prefix(name)?;
+            rest.strip_prefix(" staticlib").unwrap_or(rest).strip_prefix(':')
+        });
         line.unwrap_or_default().split_whitespace()
     };
-    let (mut found, mut open) = (BTreeSet::new(), vec!["exports"]);
+    let (mut found, mut open) = (BTreeSet::new(), vec!["exports_c"]);
     while let Some(name) = open.pop() {
         if found.insert(name.to_owned()) {
             open.extend(needed_by(name).filter(|name| in_root("crates").join(name).is_dir()));

@@ -11,8 +11,7 @@ pub struct Tag {
 }
 
 // The tag of a text under a key.
-#[unsafe(no_mangle)]
-pub extern "C" fn obscurlane_hmac_of(key: &[u8], text: &[u8]) -> Tag
+pub fn obscurlane_hmac_of(key: &[u8], text: &[u8]) -> Tag
     ensures { result.bytes ≡ hmac key.now text.now }
 {
     let bytes = hmac::hmac_of(key, text);
@@ -20,8 +19,7 @@ pub extern "C" fn obscurlane_hmac_of(key: &[u8], text: &[u8]) -> Tag
 }
 
 // Whether the MacTag of a request is right for Z; with 0 MacKey and KEK.
-#[unsafe(no_mangle)]
-pub extern "C" fn obscurlane_confirm_request(
+pub fn obscurlane_confirm_request(
     z: &[u8],
     request: &[u8],
     mac_key: &mut [u8],
@@ -33,12 +31,7 @@ pub extern "C" fn obscurlane_confirm_request(
 }
 
 // Whether the MacTag of a response is right for Z, with the request that it answers.
-#[unsafe(no_mangle)]
-pub extern "C" fn obscurlane_confirm_response(
-    z: &[u8],
-    request: &[u8],
-    response: &[u8],
-) -> confirm::Confirmed
+pub fn obscurlane_confirm_response(z: &[u8], request: &[u8], response: &[u8]) -> confirm::Confirmed
     ensures { result ≡ confirm_response z.now request.now response.now }
 {
     confirm::confirm_response(z, request, response)

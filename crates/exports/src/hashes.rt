@@ -13,24 +13,21 @@ pub struct Digest {
 }
 
 // The state before the first byte.
-#[unsafe(no_mangle)]
-pub extern "C" fn obscurlane_sha384_begin() -> sha384::Sha384
+pub fn obscurlane_sha384_begin() -> sha384::Sha384
     ensures { result ≡ begun }
 {
     sha384::Sha384::begin()
 }
 
 // The state with these bytes too.
-#[unsafe(no_mangle)]
-pub extern "C" fn obscurlane_sha384_add(state: sha384::Sha384, bytes: &[u8]) -> sha384::Sha384
+pub fn obscurlane_sha384_add(state: sha384::Sha384, bytes: &[u8]) -> sha384::Sha384
     ensures { result ≡ added state bytes.now }
 {
     state.add(bytes)
 }
 
 // The hash of all bytes given.
-#[unsafe(no_mangle)]
-pub extern "C" fn obscurlane_sha384_end(state: sha384::Sha384) -> Digest
+pub fn obscurlane_sha384_end(state: sha384::Sha384) -> Digest
     ensures { result.bytes ≡ ended state }
 {
     let bytes = state.end();
@@ -38,8 +35,7 @@ pub extern "C" fn obscurlane_sha384_end(state: sha384::Sha384) -> Digest
 }
 
 // The hash of the bytes.
-#[unsafe(no_mangle)]
-pub extern "C" fn obscurlane_sha384_of(bytes: &[u8]) -> Digest
+pub fn obscurlane_sha384_of(bytes: &[u8]) -> Digest
     ensures { result.bytes ≡ sha384 bytes.now }
 {
     let bytes = sha384::sha384_of(bytes);
@@ -47,16 +43,14 @@ pub extern "C" fn obscurlane_sha384_of(bytes: &[u8]) -> Digest
 }
 
 // Whether the Fingerprint in the Subject of a public key is the right one.
-#[unsafe(no_mangle)]
-pub extern "C" fn obscurlane_check_fingerprint(record: &[u8]) -> fingerprint::Checked
+pub fn obscurlane_check_fingerprint(record: &[u8]) -> fingerprint::Checked
     ensures { result ≡ check_fingerprint «record».now }
 {
     fingerprint::check_fingerprint(record)
 }
 
 // The Fingerprint that is right for a public key.
-#[unsafe(no_mangle)]
-pub extern "C" fn obscurlane_write_fingerprint(record: &[u8], out: &mut [u8]) -> put::Written
+pub fn obscurlane_write_fingerprint(record: &[u8], out: &mut [u8]) -> put::Written
     ensures { Writes (write_fingerprint «record».now (length out.old)) out.old out.new result }
 {
     fingerprint::write_fingerprint(record, out)

@@ -1,5 +1,5 @@
-// The C interface: the calls for users, for programs that link `rt staticlib exports`. A slice is a pointer and a length, and an
-// answer is a struct by value. Each function hands on one call of the library and has its contract:
+// The calls for users as the C interface has them: a slice is a pointer and a length there, and an answer is a struct by value. Each
+// function hands on one call of the library and has its contract. The crate `exports_c` offers them to C under these names:
 // bindings/c/obscurlane.h says it to a user of C.
 #![tactic(auto)]
 

@@ -18,24 +18,21 @@ pub struct Sha1Digest {
 }
 
 // The state before the first byte.
-#[unsafe(no_mangle)]
-pub extern "C" fn obscurlane_sha1_begin() -> sha_1::Sha1
+pub fn obscurlane_sha1_begin() -> sha_1::Sha1
     ensures { result ≡ begun }
 {
     sha_1::Sha1::begin()
 }
 
 // The state with these bytes too.
-#[unsafe(no_mangle)]
-pub extern "C" fn obscurlane_sha1_add(state: sha_1::Sha1, bytes: &[u8]) -> sha_1::Sha1
+pub fn obscurlane_sha1_add(state: sha_1::Sha1, bytes: &[u8]) -> sha_1::Sha1
     ensures { result ≡ added state bytes.now }
 {
     state.add(bytes)
 }
 
 // The hash of all bytes given.
-#[unsafe(no_mangle)]
-pub extern "C" fn obscurlane_sha1_end(state: sha_1::Sha1) -> Sha1Digest
+pub fn obscurlane_sha1_end(state: sha_1::Sha1) -> Sha1Digest
     ensures { result.bytes ≡ ended state }
 {
     let bytes = state.end();
@@ -43,8 +40,7 @@ pub extern "C" fn obscurlane_sha1_end(state: sha_1::Sha1) -> Sha1Digest
 }
 
 // The hash of the bytes.
-#[unsafe(no_mangle)]
-pub extern "C" fn obscurlane_sha1_of(bytes: &[u8]) -> Sha1Digest
+pub fn obscurlane_sha1_of(bytes: &[u8]) -> Sha1Digest
     ensures { result.bytes ≡ sha1 bytes.now }
 {
     let bytes = sha_1::sha1_of(bytes);
@@ -52,32 +48,28 @@ pub extern "C" fn obscurlane_sha1_of(bytes: &[u8]) -> Sha1Digest
 }
 
 // Reads a line of a manufacturer's record file: a record and its trailer.
-#[unsafe(no_mangle)]
-pub extern "C" fn obscurlane_read_trailed(line: &[u8]) -> reading::Answer
+pub fn obscurlane_read_trailed(line: &[u8]) -> reading::Answer
     ensures { result ≡ answer_of (read_trailed line.now) }
 {
     trailed::read_trailed(line)
 }
 
 // The line that begins at a place of such a file.
-#[unsafe(no_mangle)]
-pub extern "C" fn obscurlane_trailed_at(file: &[u8], place: usize) -> walking::Found
+pub fn obscurlane_trailed_at(file: &[u8], place: usize) -> walking::Found
     ensures { result ≡ found (line_said (trailed_at file.now place)) }
 {
     walking::find(trailed::trailed_at(file, place))
 }
 
 // How many lines such a file has, and how many of them are accepted.
-#[unsafe(no_mangle)]
-pub extern "C" fn obscurlane_count_trailed(file: &[u8]) -> files::Totals
+pub fn obscurlane_count_trailed(file: &[u8]) -> files::Totals
     ensures { result ≡ count_trailed file.now }
 {
     trailed::count_trailed(file)
 }
 
 // The line of a record with its trailer, from the front of a lent output.
-#[unsafe(no_mangle)]
-pub extern "C" fn obscurlane_write_trailed(record: &[u8], out: &mut [u8]) -> put::Written
+pub fn obscurlane_write_trailed(record: &[u8], out: &mut [u8]) -> put::Written
     ensures { Writes (write_trailed «record».now (length out.old)) out.old out.new result }
 {
     trailed::write_trailed(record, out)

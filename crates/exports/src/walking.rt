@@ -21,8 +21,7 @@ pub struct Found {
 }
 
 // An item of a key agreement text, counted from 1.
-#[unsafe(no_mangle)]
-pub extern "C" fn obscurlane_text_item(text: &[u8], wanted: usize) -> items::Place
+pub fn obscurlane_text_item(text: &[u8], wanted: usize) -> items::Place
     ensures { ItemPlaced text.now wanted result }
 {
     items::item_place(text, wanted)
@@ -62,24 +61,21 @@ pub(crate) fn find(line: files::Line) -> Found
 }
 
 // The line that begins at a place of a file.
-#[unsafe(no_mangle)]
-pub extern "C" fn obscurlane_line_at(file: &[u8], place: usize) -> Found
+pub fn obscurlane_line_at(file: &[u8], place: usize) -> Found
     ensures { result ≡ found (line_said (line_at file.now place)) }
 {
     find(files::line_at(file, place))
 }
 
 // A reader of a file is its place: a new one stands at the start.
-#[unsafe(no_mangle)]
-pub extern "C" fn obscurlane_reader_new(file: &[u8]) -> usize
+pub fn obscurlane_reader_new(file: &[u8]) -> usize
     ensures { Begins file.entry (record { file = file.entry; place = result }) }
 {
     0
 }
 
 // The line at the reader's place, which goes on to the next line.
-#[unsafe(no_mangle)]
-pub extern "C" fn obscurlane_reader_step(file: &[u8], place: &mut usize) -> Found
+pub fn obscurlane_reader_step(file: &[u8], place: &mut usize) -> Found
     ensures { PlaceStepped file.now place.old result place.new }
 {
     let step = find(files::step_from(file, *place));
@@ -88,16 +84,14 @@ pub extern "C" fn obscurlane_reader_step(file: &[u8], place: &mut usize) -> Foun
 }
 
 // How many lines a file has, and how many of them are accepted records.
-#[unsafe(no_mangle)]
-pub extern "C" fn obscurlane_count(file: &[u8]) -> files::Totals
+pub fn obscurlane_count(file: &[u8]) -> files::Totals
     ensures { result ≡ totals_of (walk file.now) }
 {
     files::count(file)
 }
 
 // Which of two public keys is the newer.
-#[unsafe(no_mangle)]
-pub extern "C" fn obscurlane_newer(first: &[u8], second: &[u8]) -> newer::Choice
+pub fn obscurlane_newer(first: &[u8], second: &[u8]) -> newer::Choice
     ensures { result ≡ choice_said (newer first.now second.now) }
 {
     newer::newer_of(first, second)
