@@ -8,8 +8,12 @@ ghost use Rattle.std.specs.Prelude.{◌≡◌, length};
 
 use std::io;
 
+fn print(rt: &impl Print, text: &[u8]) -> io::Result<()> {
+    rt.write_all(text)
+}
+
 fn space(rt: &impl Print) -> io::Result<()> {
-    rt.write_all(b" ")
+    print(rt, b" ")
 }
 
 // A space and a number.
@@ -19,7 +23,7 @@ fn then(rt: &impl Print, n: usize) -> io::Result<()> {
 }
 
 fn print_answer(rt: &impl Print, call: &[u8], answer: reading::Answer) -> io::Result<()> {
-    rt.write_all(call)?;
+    print(rt, call)?;
     then(rt, answer.no as usize)?;
     then(rt, answer.field as usize)?;
     then(rt, answer.kind)
@@ -29,8 +33,8 @@ fn print_field(rt: &impl Print, n: usize, field: &[u8]) -> io::Result<()> {
     space(rt)?;
     then(rt, n)?;
     space(rt)?;
-    rt.write_all(field)?;
-    rt.write_all(b"\n")
+    print(rt, field)?;
+    print(rt, b"\n")
 }
 
 // Field n of an identity and of a record, where there is one.
@@ -50,12 +54,12 @@ fn print_fields(rt: &impl Print, n: usize, s: &[u8]) -> io::Result<()> {
 
 // The names stand in one text, since each text that a function holds makes its proof longer.
 fn print_test(rt: &impl Print, n: usize, accepted: bool) -> io::Result<()> {
-    rt.write_all(frame::part(
+    print(rt, frame::part(
         b'/',
         b"\n  IDENT /, TIMESTAMP /, HEX /, POINT /, SIG /, MAC /, PRINT ",
         n,
     ))?;
-    rt.write_all(frame::part(b'/', b"no/yes", accepted as usize))
+    print(rt, frame::part(b'/', b"no/yes", accepted as usize))
 }
 
 fn show_text(rt: &impl Print, s: &[u8]) -> io::Result<()> {
@@ -66,8 +70,8 @@ fn show_text(rt: &impl Print, s: &[u8]) -> io::Result<()> {
     print_test(rt, 4, text::is_sig(s))?;
     print_test(rt, 5, text::is_mac(s))?;
     print_test(rt, 6, text::is_print(s))?;
-    rt.write_all(b", check ")?;
-    rt.write_all(&text::check_text(crc16::crc_of(s)))
+    print(rt, b", check ")?;
+    print(rt, &text::check_text(crc16::crc_of(s)))
 }
 
 // The value of a single character, and the character of that value.
@@ -76,19 +80,19 @@ fn show_value(rt: &impl Print, s: &[u8]) -> io::Result<()> {
         return Ok(());
     }
     let value = text::hex_value(s[0]);
-    rt.write_all(b"\n  value")?;
+    print(rt, b"\n  value")?;
     then(rt, value as usize)?;
-    rt.write_all(b", character")?;
+    print(rt, b", character")?;
     then(rt, text::hex_digit(value) as usize)
 }
 
 fn show(rt: &impl Print, label: &[u8], s: &[u8]) -> io::Result<()> {
-    rt.write_all(label)?;
+    print(rt, label)?;
     show_text(rt, s)?;
     show_value(rt, s)?;
     print_answer(rt, b"\n  identity", reading::read_identity(s))?;
     print_answer(rt, b", record", reading::read_record(s))?;
-    rt.write_all(b"\n")?;
+    print(rt, b"\n")?;
     for n in 0..9 {
         print_fields(rt, n, s)?;
     }
