@@ -54,11 +54,14 @@ fn print_fields(rt: &impl Print, n: usize, s: &[u8]) -> io::Result<()> {
 
 // The names stand in one text, since each text that a function holds makes its proof longer.
 fn print_test(rt: &impl Print, n: usize, accepted: bool) -> io::Result<()> {
-    print(rt, frame::part(
-        b'/',
-        b"\n  IDENT /, TIMESTAMP /, HEX /, POINT /, SIG /, MAC /, PRINT ",
-        n,
-    ))?;
+    print(
+        rt,
+        frame::part(
+            b'/',
+            b"\n  IDENT /, TIMESTAMP /, HEX /, POINT /, SIG /, MAC /, PRINT ",
+            n,
+        ),
+    )?;
     print(rt, frame::part(b'/', b"no/yes", accepted as usize))
 }
 

@@ -7,10 +7,10 @@ use Rattle.cases.proofs.Lent.{front, again}
 use Rattle.cases.proofs.filing.file.Goals as goal
 
 pub slice_bounds-prepare-end : goal.slice_bounds-prepare-end
-slice_bounds-prepare-end c = front 65536 66560 c.zeros-space.result c.zeros-space.ensures (omega arith)
+slice_bounds-prepare-end g c = front 65536 66560 c.zeros-space.result c.zeros-space.ensures (omega arith)
 
 pub slice_bounds-space-end-2 : goal.slice_bounds-space-end-2
-slice_bounds-space-end-2 c =
+slice_bounds-space-end-2 g c =
     omega (
       arith,
       again
@@ -24,7 +24,7 @@ slice_bounds-space-end-2 c =
     )
 
 pub slice_bounds-call-end : goal.slice_bounds-call-end
-slice_bounds-call-end c =
+slice_bounds-call-end g c =
     front
     (c.args.n % 66561)
     66560
@@ -40,7 +40,7 @@ slice_bounds-call-end c =
     (omega arith)
 
 pub slice_bounds-cut-end : goal.slice_bounds-cut-end
-slice_bounds-cut-end c =
+slice_bounds-cut-end g c =
     again
     (c.args.n % 66561)
     66560

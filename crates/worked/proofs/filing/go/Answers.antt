@@ -4,4 +4,4 @@ use Rattle.std.proofs.Common.{sym, arith, length-take-le, rules}
 use Rattle.worked.proofs.filing.go.Goals as goal
 
 pub slice_bounds-go_through-end : goal.slice_bounds-go_through-end
-slice_bounds-go_through-end c = sym (length-take-le _ _ (omega arith))
+slice_bounds-go_through-end g c = sym (length-take-le _ _ (omega arith))
