@@ -92,7 +92,7 @@ pub(crate) fn print_place(rt: &impl Print, at: fields::Place) -> io::Result<()> 
     say::number(rt, at.len)
 }
 
-// The first line, by a reader. It holds the file, so this function is proved by hand.
+// The first line, by a reader.
 fn first_line(file: &[u8]) -> files::Line {
     let mut reader = files::Reader::new(file);
     reader.step()

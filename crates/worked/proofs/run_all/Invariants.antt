@@ -1,6 +1,6 @@
 -- `worked::run_all` ends: each turn goes on by three lines.
 -- Assumes nothing.
-use Rattle.std.proofs.Common.{◌-◌, rules}
+use Rattle.std.proofs.Common.{◌-◌}
 use Rattle.worked.proofs.run_all.Given as goal
 
 abbrev pub invariant-loop-line : goal.invariant-loop-line

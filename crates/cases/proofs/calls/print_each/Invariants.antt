@@ -1,7 +1,6 @@
 -- `cases::calls::print_each` ends.
 -- Assumes nothing.
 use Prim.Native.Nat.{◌-◌}
-use borrow.Author.Rules.{rules}
 use Rattle.cases.proofs.calls.print_each.Given as goal
 
 abbrev pub invariant-loop-i : goal.invariant-loop-i

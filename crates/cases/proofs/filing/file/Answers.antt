@@ -2,7 +2,6 @@
 -- Assumes nothing.
 use Prim.Native.Nat.{◌%◌}
 use native.Mathlib.Omega.{arith}
-use borrow.Author.Rules.{rules}
 use Rattle.cases.proofs.Lent.{front, again}
 use Rattle.cases.proofs.filing.file.Goals as goal
 
@@ -17,10 +16,10 @@ slice_bounds-space-end-2 g c =
           65536
           66560
           c.zeros-space.result
-          c.prepare.new.0
+          c.prepare.new.lent
           c.zeros-space.ensures
           (omega arith)
-          c.prepare.auto.0,
+          c.prepare.auto.lent,
     )
 
 pub slice_bounds-call-end : goal.slice_bounds-call-end
@@ -33,10 +32,10 @@ slice_bounds-call-end g c =
     65536
     66560
     c.zeros-space.result
-    c.prepare.new.0
+    c.prepare.new.lent
     c.zeros-space.ensures
     (omega arith)
-    c.prepare.auto.0)
+    c.prepare.auto.lent)
     (omega arith)
 
 pub slice_bounds-cut-end : goal.slice_bounds-cut-end
@@ -45,14 +44,14 @@ slice_bounds-cut-end g c =
     (c.args.n % 66561)
     66560
     _
-    c.call.new.1.0
+    c.call.new.lent
     (again
     65536
     66560
     c.zeros-space.result
-    c.prepare.new.0
+    c.prepare.new.lent
     c.zeros-space.ensures
     (omega arith)
-    c.prepare.auto.0)
+    c.prepare.auto.lent)
     (omega arith)
-    c.call.auto.1.0
+    c.call.auto.lent

@@ -1,7 +1,6 @@
 -- `cases::filing::go` lends the front of the space.
 -- Assumes nothing.
 use native.Mathlib.Omega.{arith}
-use borrow.Author.Rules.{rules}
 use Rattle.cases.proofs.Lent.{front, again}
 use Rattle.cases.proofs.filing.go.Goals as goal
 
@@ -14,7 +13,7 @@ slice_bounds-cut-end g c =
     65536
     66560
     c.zeros-space.result
-    c.go_through.new.0
+    c.go_through.new.lent
     c.zeros-space.ensures
     (omega arith)
-    c.go_through.auto.0
+    c.go_through.auto.lent

@@ -1,7 +1,6 @@
 -- `cases::sweeps::sweep` ends.
 -- Assumes nothing.
 use Prim.Native.Nat.{◌-◌}
-use borrow.Author.Rules.{rules}
 use Rattle.cases.proofs.sweeps.sweep.Given as goal
 
 abbrev pub invariant-loop-byte : goal.invariant-loop-byte

@@ -1,6 +1,6 @@
 -- `worked::calls::attributes` ends.
 -- Assumes nothing.
-use Rattle.std.proofs.Common.{◌-◌, rules}
+use Rattle.std.proofs.Common.{◌-◌}
 use Rattle.worked.proofs.calls.attributes.Given as goal
 
 abbrev pub invariant-loop-n : goal.invariant-loop-n

@@ -1,6 +1,6 @@
 -- `worked::calls::line_numbers` ends.
 -- Assumes nothing.
-use Rattle.std.proofs.Common.{◌-◌, rules}
+use Rattle.std.proofs.Common.{◌-◌}
 use Rattle.worked.proofs.calls.line_numbers.Given as goal
 
 abbrev pub invariant-loop-k : goal.invariant-loop-k

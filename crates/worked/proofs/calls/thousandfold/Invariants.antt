@@ -1,6 +1,6 @@
 -- `worked::calls::thousandfold` ends.
 -- Assumes nothing.
-use Rattle.std.proofs.Common.{◌-◌, rules}
+use Rattle.std.proofs.Common.{◌-◌}
 use Rattle.worked.proofs.calls.thousandfold.Given as goal
 
 abbrev pub invariant-loop-k : goal.invariant-loop-k

@@ -1,6 +1,6 @@
 -- `worked::confirmations::key` lends the front of an array.
 -- Assumes nothing.
-use Rattle.std.proofs.Common.{sym, arith, length-take-le, rules}
+use Rattle.std.proofs.Common.{sym, arith, length-take-le}
 use Rattle.worked.proofs.confirmations.key.Goals as goal
 
 pub slice_bounds-confirm-end-then-is_kek : goal.slice_bounds-confirm-end-then-is_kek

@@ -1,6 +1,6 @@
 -- `worked::filing::go_through` ends.
 -- Assumes nothing.
-use Rattle.std.proofs.Common.{◌≡◌, ◌-◌, length, rules}
+use Rattle.std.proofs.Common.{◌≡◌, ◌-◌, length}
 use Rattle.worked.proofs.filing.go_through.Given as goal
 
 abbrev pub invariant-loop-k : goal.invariant-loop-k

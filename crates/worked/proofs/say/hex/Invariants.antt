@@ -1,6 +1,6 @@
 -- `worked::say::hex` ends.
 -- Assumes nothing.
-use Rattle.std.proofs.Common.{◌-◌, length, rules}
+use Rattle.std.proofs.Common.{◌-◌, length}
 use Rattle.worked.proofs.say.hex.Given as goal
 
 abbrev pub invariant-loop-i : goal.invariant-loop-i
