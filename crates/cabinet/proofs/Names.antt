@@ -28,7 +28,7 @@ use Rattle.format.proofs.Parts.{joined_append, cut_parts}
 use Rattle.format.proofs.Fields.{record_clean}
 use Rattle.format.proofs.Exactly.{identity_exact, identity_tame, under_exact, its_count}
 use Rattle.frame.specs.Frame.{part_of, part_start}
-use Rattle.subjects.specs.Subjects.{manufacturer, mid, gnt}
+use Rattle.subjects.specs.Subjects.{manufacturer, mid}
 use Rattle.subjects.specs.Keys.{subject, KeyUnder}
 use Rattle.subjects.proofs.Subjects.{identity-field}
 use Rattle.shelf.specs.Places.{Names, named, same_names, Held, held}

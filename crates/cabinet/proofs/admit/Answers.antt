@@ -5,7 +5,6 @@ use lib.ListN.{length}
 use borrow.Author.Tests.{not-true, not-false}
 use Rattle.cabinet.proofs.Bytes.{length_part}
 use Rattle.cabinet.proofs.Calls.{its_size, admits_within, tvp_fits, admits_23, admits_own, admits_26, admits_27, admits_done}
-use borrow.Author.Rules.{rules}
 use Rattle.cabinet.proofs.admit.Goals as goal
 
 pub returns-then-not-is_cabinet : goal.returns-then-not-is_cabinet

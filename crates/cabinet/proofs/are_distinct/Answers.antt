@@ -1,11 +1,10 @@
 -- `cabinet::are_distinct` meets its contract.
 -- Assumes nothing.
-use Prim.Native.Nat.{◌-◌}
 use mathlib.Core.Path.{sym, ◌∙◌}
 use native.Mathlib.Omega.{arith}
 use borrow.Author.Tests.{not-true, not-false}
 use Rattle.cabinet.specs.Steps.{alone_at}
-use Rattle.cabinet.proofs.Loops.{Passed, sought_none, passed_on, passed_not, passed_all}
+use Rattle.cabinet.proofs.Loops.{sought_none, passed_on, passed_not, passed_all}
 use Rattle.cabinet.proofs.are_distinct.Goals as goal
 
 pub loop-i-init : goal.loop-i-init

@@ -1,6 +1,5 @@
 -- `cabinet::are_places` meets its contract.
 -- Assumes nothing.
-use Prim.Native.Nat.{◌-◌}
 use mathlib.Core.Path.{sym, ap, ◌∙◌}
 use native.Mathlib.Omega.{arith}
 use lib.ListN.{length}
@@ -8,7 +7,7 @@ use borrow.Author.Tests.{not-true, not-false}
 use Rattle.text.specs.Text.{Bytes}
 use Rattle.shelf.specs.Cabinet.{decode}
 use Rattle.cabinet.specs.Steps.{is_place, is_place_at}
-use Rattle.cabinet.proofs.Loops.{Passed, sought_none, passed_on, passed_not, passed_all}
+use Rattle.cabinet.proofs.Loops.{sought_none, passed_on, passed_not, passed_all}
 use Rattle.cabinet.proofs.Bytes.{length_part}
 use Rattle.cabinet.proofs.are_places.Goals as goal
 

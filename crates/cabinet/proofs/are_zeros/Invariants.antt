@@ -1,10 +1,8 @@
 -- `cabinet::are_zeros` meets its contract. The loop's invariant: what was seen before i is in `seen`.
 -- Assumes nothing.
 use Prim.Native.Nat.{◌-◌}
-use mathlib.Core.Path.{refl}
 use lib.ListN.{length}
-use Rattle.cabinet.proofs.Loops.{Zeros, zeros_more, zeros_all}
-use borrow.Author.Rules.{rules}
+use Rattle.cabinet.proofs.Loops.{Zeros}
 use Rattle.cabinet.proofs.are_zeros.Given as goal
 
 abbrev pub invariant-loop-i : goal.invariant-loop-i

@@ -3,7 +3,6 @@
 use mathlib.Core.Path.{sym, ◌∙◌}
 use borrow.Author.Tests.{not-true, not-false}
 use Rattle.cabinet.proofs.Calls.{check_23, check_0}
-use borrow.Author.Rules.{rules}
 use Rattle.cabinet.proofs.check_cabinet.Goals as goal
 
 pub returns-then-not-is_cabinet : goal.returns-then-not-is_cabinet

@@ -3,7 +3,6 @@
 use mathlib.Core.Path.{sym, ◌∙◌}
 use borrow.Author.Tests.{not-true, not-false}
 use Rattle.cabinet.proofs.Calls.{count_23, count_0, its_size}
-use borrow.Author.Rules.{rules}
 use Rattle.cabinet.proofs.count_keys.Goals as goal
 
 pub returns-then-not-is_cabinet : goal.returns-then-not-is_cabinet

@@ -5,7 +5,6 @@ use native.Mathlib.Omega.{arith}
 use Rattle.cabinet.specs.Steps.{unless_old_at}
 use Rattle.cabinet.proofs.Loops.{found_below}
 use Rattle.cabinet.proofs.Calls.{at_none, at_old, at_new}
-use borrow.Author.Rules.{rules}
 use Rattle.cabinet.proofs.current_of.Goals as goal
 
 pub place_of-its-requires : goal.place_of-its-requires

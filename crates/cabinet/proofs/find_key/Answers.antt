@@ -3,7 +3,6 @@
 use mathlib.Core.Path.{refl}
 use native.Mathlib.Omega.{arith}
 use Rattle.cabinet.proofs.Calls.{handed}
-use borrow.Author.Rules.{rules}
 use Rattle.cabinet.proofs.find_key.Goals as goal
 
 pub slice_bounds-result-end : goal.slice_bounds-result-end

@@ -1,10 +1,8 @@
 -- `cabinet::free_at` meets its contract.
 -- Assumes nothing.
-use Prim.Native.Nat.{◌-◌}
 use native.Mathlib.Omega.{arith}
 use borrow.Author.Tests.{eq-eqb, ne_eqb}
-use Rattle.cabinet.specs.Steps.{is_free_at}
-use Rattle.cabinet.proofs.Loops.{Sought, sought_none, sought_on, sought_here, sought_end}
+use Rattle.cabinet.proofs.Loops.{sought_none, sought_on, sought_here, sought_end}
 use Rattle.cabinet.proofs.free_at.Goals as goal
 
 pub loop-i-init : goal.loop-i-init

@@ -6,7 +6,6 @@ use lib.ListN.{length, get_or}
 use Rattle.text.specs.Text.{Bytes}
 use Rattle.cabinet.proofs.Bytes.{length_part}
 use Rattle.cabinet.proofs.Cabinets.{alone_free, alone_named}
-use borrow.Author.Rules.{rules}
 use Rattle.cabinet.proofs.is_alone.Goals as goal
 
 pub bounds-place-0 : goal.bounds-place-0

@@ -4,7 +4,6 @@ use mathlib.Core.Path.{sym, ◌∙◌}
 use native.Mathlib.Omega.{arith}
 use borrow.Author.Tests.{not-true, not-false}
 use Rattle.cabinet.proofs.Decoding.{place_free, place_long, place_gap, place_dateless, place_other, place_number}
-use borrow.Author.Rules.{rules}
 use Rattle.cabinet.proofs.is_place.Goals as goal
 
 pub returns-then-len-eq0 : goal.returns-then-len-eq0

@@ -4,7 +4,6 @@ use mathlib.Core.Path.{sym, ◌∙◌}
 use native.Mathlib.Omega.{arith}
 use borrow.Author.Tests.{not-true, not-false}
 use Rattle.cabinet.proofs.Calls.{its_size, current_within, finds_23, finds_own, finds_26, finds_done}
-use borrow.Author.Rules.{rules}
 use Rattle.cabinet.proofs.key_place.Goals as goal
 
 pub returns-then-not-is_cabinet : goal.returns-then-not-is_cabinet

@@ -1,7 +1,6 @@
 -- `cabinet::make_cabinet` meets its contract.
 -- Assumes nothing.
 use Rattle.cabinet.proofs.Calls.{make_short, make_done}
-use borrow.Author.Rules.{rules}
 use Rattle.cabinet.proofs.make_cabinet.Goals as goal
 
 pub returns-then-cabinet-ne-SIZE : goal.returns-then-cabinet-ne-SIZE

@@ -1,12 +1,10 @@
 -- `cabinet::occupied_from` meets its contract.
 -- Assumes nothing.
-use Prim.Native.Nat.{◌-◌}
 use mathlib.Core.Path.{ap}
 use mathlib.Core.Bool.{not}
 use native.Mathlib.Omega.{arith}
 use borrow.Author.Tests.{eq-eqb, ne_eqb}
-use Rattle.cabinet.specs.Steps.{is_held_at}
-use Rattle.cabinet.proofs.Loops.{Sought, sought_none, sought_on, sought_here, sought_end}
+use Rattle.cabinet.proofs.Loops.{sought_none, sought_on, sought_here, sought_end}
 use Rattle.cabinet.proofs.occupied_from.Goals as goal
 
 pub loop-at-init : goal.loop-at-init

@@ -1,8 +1,7 @@
 -- `cabinet::occupied_in` meets its contract.
 -- Assumes nothing.
-use Prim.Native.Nat.{◌-◌}
 use native.Mathlib.Omega.{arith}
-use Rattle.cabinet.proofs.Loops.{Tallied, tallied_none, tallied_more, next_after, tallied_all}
+use Rattle.cabinet.proofs.Loops.{tallied_none, tallied_more, next_after, tallied_all}
 use Rattle.cabinet.proofs.occupied_in.Goals as goal
 
 pub occupied_from-at-requires : goal.occupied_from-at-requires

@@ -1,8 +1,7 @@
 -- `cabinet::occupied_in` meets its contract.
 -- Assumes nothing.
 use Prim.Native.Nat.{◌-◌}
-use native.Mathlib.Omega.{arith}
-use Rattle.cabinet.proofs.Loops.{Tallied, tallied_none, tallied_more, next_after, tallied_all}
+use Rattle.cabinet.proofs.Loops.{Tallied}
 use Rattle.cabinet.proofs.occupied_in.Given as goal
 
 abbrev pub invariant-loop-at : goal.invariant-loop-at

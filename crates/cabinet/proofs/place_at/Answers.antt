@@ -2,7 +2,6 @@
 -- Assumes nothing.
 use native.Mathlib.Omega.{arith}
 use Rattle.cabinet.proofs.Bytes.{taken_part}
-use borrow.Author.Rules.{rules}
 use Rattle.cabinet.proofs.place_at.Goals as goal
 
 pub overflow_mul-start : goal.overflow_mul-start

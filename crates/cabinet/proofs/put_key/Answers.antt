@@ -6,7 +6,6 @@ use borrow.Author.Tests.{not-true, not-false}
 use Rattle.cabinet.proofs.Bytes.{start_fits}
 use Rattle.cabinet.proofs.Decoding.{number_short}
 use Rattle.cabinet.proofs.Calls.{its_size, puts_short, to_within, puts_23, puts_own, puts_24, puts_again, puts_25, puts_first}
-use borrow.Author.Rules.{rules}
 use Rattle.cabinet.proofs.put_key.Goals as goal
 
 pub returns-then-not-is_cabinet : goal.returns-then-not-is_cabinet

@@ -5,7 +5,6 @@ use native.Mathlib.Omega.{arith}
 use borrow.Author.Tests.{not-true, not-false}
 use Rattle.cabinet.proofs.Bytes.{empty_fits}
 use Rattle.cabinet.proofs.Calls.{its_size, found_within, removes_23, removes_own, removes_26, removes_done}
-use borrow.Author.Rules.{rules}
 use Rattle.cabinet.proofs.remove_key.Goals as goal
 
 pub returns-then-not-is_cabinet : goal.returns-then-not-is_cabinet

@@ -1,10 +1,10 @@
 -- `crc16::crc_of` meets its contract. The loop's invariant: the state, given what is left, is the check of the whole.
 -- Assumes nothing.
-use Prim.Native.Nat.{ℕ, ◌≤◌, ◌+◌, ◌-◌}
-use mathlib.Core.Path.{◌≡◌, sym, ap, ◌∙◌}
+use Prim.Native.Nat.{ℕ, ◌+◌}
+use mathlib.Core.Path.{sym, ap, ◌∙◌}
 use borrow.Author.Rules.{rules}
 use native.Mathlib.Omega.{arith}
-use lib.ListN.{length, drop, drop_of_length-le}
+use lib.ListN.{drop, drop_of_length-le}
 use Rattle.crc16.specs.Crc.{add_all, crc_of}
 use Rattle.crc16.proofs.Steps.{all_more}
 use Rattle.crc16.proofs.crc_of.Goals as goal

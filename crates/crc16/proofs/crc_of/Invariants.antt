@@ -1,12 +1,9 @@
 -- `crc16::crc_of` meets its contract. The loop's invariant: the state, given what is left, is the check of the whole.
 -- Assumes nothing.
-use Prim.Native.Nat.{ℕ, ◌≤◌, ◌+◌, ◌-◌}
-use mathlib.Core.Path.{◌≡◌, sym, ap, ◌∙◌}
-use borrow.Author.Rules.{rules}
-use native.Mathlib.Omega.{arith}
-use lib.ListN.{length, drop, drop_of_length-le}
+use Prim.Native.Nat.{◌≤◌, ◌-◌}
+use mathlib.Core.Path.{◌≡◌}
+use lib.ListN.{length, drop}
 use Rattle.crc16.specs.Crc.{add_all, crc_of}
-use Rattle.crc16.proofs.Steps.{all_more}
 use Rattle.crc16.proofs.crc_of.Given as goal
 
 abbrev pub invariant-loop-i : goal.invariant-loop-i

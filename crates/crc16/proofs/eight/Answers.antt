@@ -1,6 +1,5 @@
 -- `crc16::eight` meets its contract: eight times what `bit` ensures.
 -- Assumes nothing.
-use borrow.Author.Rules.{rules}
 use mathlib.Core.Path.{ap, ◌∙◌}
 use Rattle.crc16.specs.Crc.{bit_step, bit_steps}
 use Rattle.crc16.proofs.eight.Goals as goal

@@ -2,7 +2,6 @@
 -- Assumes nothing.
 use native.Mathlib.Omega.{arith}
 use Rattle.cabinet.proofs.Decoding.{text_end, text_within, old_so}
-use borrow.Author.Rules.{rules}
 use Rattle.cabinet.proofs.ages.is_old.Goals as goal
 
 pub slice_bounds-read_of-end : goal.slice_bounds-read_of-end

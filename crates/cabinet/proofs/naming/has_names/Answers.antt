@@ -1,7 +1,6 @@
 -- `cabinet::naming::has_names` meets its contract.
 -- Assumes nothing.
 use Rattle.cabinet.proofs.Bytes.{starts_past, starts_short, starts_there}
-use borrow.Author.Rules.{rules}
 use Rattle.cabinet.proofs.naming.has_names.Goals as goal
 
 pub returns-then-place-start : goal.returns-then-place-start

@@ -5,7 +5,6 @@ use Rattle.text.specs.Text.{Bytes}
 use Rattle.text.specs.Later.{later}
 use Rattle.subjects.specs.Subjects.{identity_part}
 use Rattle.cabinet.specs.Steps.{is_later_than}
-use borrow.Author.Rules.{rules}
 use Rattle.cabinet.proofs.naming.is_later_than.Goals as goal
 
 pub returns : goal.returns

@@ -1,7 +1,6 @@
 -- `cabinet::naming::names_in` meets its contract.
 -- Assumes nothing.
 use Rattle.cabinet.proofs.Bytes.{names_short, names_there}
-use borrow.Author.Rules.{rules}
 use Rattle.cabinet.proofs.naming.names_in.Goals as goal
 
 pub returns-then-identity-end : goal.returns-then-identity-end

@@ -1,7 +1,6 @@
 -- `cabinet::naming::subject_in` meets its contract.
 -- Assumes nothing.
 use Rattle.cabinet.specs.Steps.{subject_at}
-use borrow.Author.Rules.{rules}
 use Rattle.cabinet.proofs.naming.subject_in.Goals as goal
 
 pub returns : goal.returns

@@ -1,7 +1,6 @@
 -- `cabinet::tvps::is_later_tvp` meets its contract.
 -- Assumes nothing.
 use Rattle.cabinet.specs.Steps.{is_later_tvp}
-use borrow.Author.Rules.{rules}
 use Rattle.cabinet.proofs.tvps.is_later_tvp.Goals as goal
 
 pub returns : goal.returns

@@ -2,7 +2,6 @@
 -- Assumes nothing.
 use borrow.Author.Tests.{not-true, not-false}
 use Rattle.cabinet.proofs.Decoding.{tvp_invalid, tvp_valid}
-use borrow.Author.Rules.{rules}
 use Rattle.cabinet.proofs.tvps.is_tvp.Goals as goal
 
 pub returns-then-not-moment : goal.returns-then-not-moment

@@ -1,10 +1,7 @@
 -- `cabinet::writing::fill` meets its contract.
 -- Assumes nothing.
-use Prim.Native.Nat.{◌-◌}
 use native.Mathlib.Omega.{arith}
-use lib.ListN.{length}
-use Rattle.cabinet.proofs.Bytes.{Filled, filled_none, filled_length, filled_more, filled_all}
-use borrow.Author.Rules.{rules}
+use Rattle.cabinet.proofs.Bytes.{filled_none, filled_length, filled_more, filled_all}
 use Rattle.cabinet.proofs.writing.fill.Goals as goal
 
 pub loop-j-init : goal.loop-j-init

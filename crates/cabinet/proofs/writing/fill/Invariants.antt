@@ -1,10 +1,8 @@
 -- `cabinet::writing::fill` meets its contract.
 -- Assumes nothing.
 use Prim.Native.Nat.{◌-◌}
-use native.Mathlib.Omega.{arith}
 use lib.ListN.{length}
-use Rattle.cabinet.proofs.Bytes.{Filled, filled_none, filled_length, filled_more, filled_all}
-use borrow.Author.Rules.{rules}
+use Rattle.cabinet.proofs.Bytes.{Filled}
 use Rattle.cabinet.proofs.writing.fill.Given as goal
 
 abbrev pub invariant-loop-j : goal.invariant-loop-j

@@ -2,7 +2,6 @@
 -- Assumes nothing.
 use native.Mathlib.Omega.{arith}
 use Rattle.cabinet.proofs.Bytes.{front_written, back_written}
-use borrow.Author.Rules.{rules}
 use Rattle.cabinet.proofs.writing.fill_place.Goals as goal
 
 pub slice_bounds-fill-end : goal.slice_bounds-fill-end

@@ -2,7 +2,6 @@
 -- Assumes nothing.
 use native.Mathlib.Omega.{arith}
 use Rattle.cabinet.proofs.Bytes.{place_fits, place_written}
-use borrow.Author.Rules.{rules}
 use Rattle.cabinet.proofs.writing.write_key.Goals as goal
 
 pub overflow_mul-start : goal.overflow_mul-start

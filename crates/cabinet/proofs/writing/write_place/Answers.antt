@@ -1,7 +1,6 @@
 -- `cabinet::writing::write_place` meets its contract.
 -- Assumes nothing.
 use Rattle.cabinet.proofs.Bytes.{date_fits, both_written}
-use borrow.Author.Rules.{rules}
 use Rattle.cabinet.proofs.writing.write_place.Goals as goal
 
 pub write_key-requires : goal.write_key-requires

@@ -1,7 +1,6 @@
 -- `cabinet::writing::write_tvp` meets its contract.
 -- Assumes nothing.
 use Rattle.cabinet.proofs.Bytes.{tvp_written}
-use borrow.Author.Rules.{rules}
 use Rattle.cabinet.proofs.writing.write_tvp.Goals as goal
 
 pub returns : goal.returns

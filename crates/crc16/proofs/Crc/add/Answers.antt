@@ -1,6 +1,5 @@
 -- `crc16::Crc::add` meets its contract, by what `eight` ensures.
 -- Assumes nothing.
-use borrow.Author.Rules.{rules}
 use Rattle.crc16.specs.Crc.{add}
 use Rattle.crc16.proofs.Crc.add.Goals as goal
 
