@@ -23,6 +23,10 @@ Accepted o = (k : Kind) × (fs : List Bytes) × (o ≡ accepted k fs)
 abbrev pub Refused : Outcome → Type 0
 Refused o = (n i : ℕ) × (o ≡ refused n i) × (n ≢ 0)
 
+-- no line feed stands at place p
+abbrev pub NoFeed : Bytes → ℕ → Type 0
+NoFeed s p = get_or s p 0 ≢ line_feed
+
 -- the bytes of a file in the line l
 abbrev pub bytes_in : Line → Bytes → Bytes
 bytes_in l file = part l.start l.size file
@@ -51,7 +55,7 @@ pub record DamagedBy (call : Bytes → Outcome) (Harm : Bytes → Bytes → Type
   -- two record files of equal length
   pub long : length a ≡ length b
   -- no differing byte is a line feed in either file
-  pub no-feed : (p : ℕ) → Differ a b p → (get_or a p 0 ≢ line_feed) × (get_or b p 0 ≢ line_feed)
+  pub no-feed : (p : ℕ) → Differ a b p → NoFeed a p × NoFeed b p
   -- they differ only inside lines which the first accepts
   pub in_accepted : (l : Line) → Memᴰ l (walk_over call a) → (p : ℕ) → Inside l p → Differ a b p → Accepted l.said
   -- in each such line so

@@ -2,7 +2,6 @@
 -- before 9), then 8; document 02, E1: then 14, and E11: then 28; STS 600-4-2, clause 5.8.2 (PARSE-RECORD).
 -- Assumes nothing.
 use Rattle.std.specs.Prelude.{ℕ, zero, suc, ◌-◌, Bool, true, false, cond, ◌&&◌, List, [], ◌∷◌, length, take, drop, leb, eqb}
-use Prim.Native.Char.{code}
 use Rattle.std.proofs.Math.Option.{Option, none, some}
 use Rattle.crc16.specs.Crc.{crc_of}
 use Rattle.text.specs.Text.{Bytes, same, is_hex, is_of, is_printable}

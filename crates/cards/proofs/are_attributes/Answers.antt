@@ -2,7 +2,6 @@
 -- Assumes nothing.
 use mathlib.Core.Path.{sym, ◌∙◌}
 use Rattle.cards.proofs.Cards.{no_bytes, open_end, ended}
-use borrow.Author.Rules.{rules}
 use Rattle.cards.proofs.are_attributes.Goals as goal
 
 pub returns-then-list-eq0 : goal.returns-then-list-eq0

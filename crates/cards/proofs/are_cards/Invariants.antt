@@ -1,15 +1,13 @@
 -- `cards::are_cards` meets its contract. The loop's invariant: the walk over the cards that are left decides.
 -- Assumes nothing.
 use Prim.Native.Nat.{◌-◌}
-use mathlib.Core.Path.{◌≡◌, sym, ◌∙◌}
+use mathlib.Core.Path.{◌≡◌}
 use mathlib.Core.Bool.{◌&&◌}
 use mathlib.Core.List.{[]}
-use native.Mathlib.Omega.{arith}
 use lib.ListN.{length, drop}
 use Rattle.format.specs.Attributes.{appendix_b, are_cards, has_needed, cards_in}
 use Rattle.cards.proofs.Needed.{walk}
-use Rattle.cards.proofs.Cards.{keys_of, one_walk, ends_behind, ends_within, turn_stop, turn_on, turn_end}
-use borrow.Author.Rules.{rules}
+use Rattle.cards.proofs.Cards.{keys_of}
 use Rattle.cards.proofs.are_cards.Given as goal
 
 abbrev pub invariant-loop-i : goal.invariant-loop-i

@@ -2,7 +2,6 @@
 -- Assumes nothing.
 use mathlib.Core.Path.{◌∙◌}
 use borrow.Author.Tests.{ne_eqb}
-use borrow.Author.Rules.{rules}
 use Rattle.cards.proofs.does_hold.Goals as goal
 
 pub returns-then-key-eq-ACT : goal.returns-then-key-eq-ACT

@@ -2,7 +2,6 @@
 -- Assumes nothing.
 use mathlib.Core.Path.{refl}
 use Rattle.frame.proofs.Check.{body_part}
-use borrow.Author.Rules.{rules}
 use Rattle.frame.proofs.body_of.Goals as goal
 
 pub returns : goal.returns

@@ -7,7 +7,6 @@ use Rattle.text.specs.Text.{same}
 use Rattle.text.specs.Base16.{check_text}
 use Rattle.format.specs.Read.{check_no}
 use Rattle.frame.proofs.Check.{check_form, check_mark, check_then}
-use borrow.Author.Rules.{rules}
 use Rattle.frame.proofs.check_no.Goals as goal
 use Rattle.frame.proofs.check_no.Lts as lts
 use Rattle.frame.proofs.check_no.Tie.{the-claims}

@@ -1,7 +1,6 @@
 -- `frame::check_of` meets its contract.
 -- Assumes nothing.
 use Rattle.frame.proofs.Check.{check_part}
-use borrow.Author.Rules.{rules}
 use Rattle.frame.proofs.check_of.Goals as goal
 
 pub returns : goal.returns

@@ -1,7 +1,6 @@
 -- `frame::ends_in` meets its contract.
 -- Assumes nothing.
 use Rattle.frame.proofs.Check.{ends_none, ends_some}
-use borrow.Author.Rules.{rules}
 use Rattle.frame.proofs.ends_in.Goals as goal
 
 pub returns-then-s-eq0 : goal.returns-then-s-eq0

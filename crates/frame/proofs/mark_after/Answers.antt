@@ -3,7 +3,6 @@
 use mathlib.Core.Path.{sym, ◌∙◌}
 use lib.ListN.{get_or-eq_default}
 use Rattle.frame.proofs.Title.{title_mark}
-use borrow.Author.Rules.{rules}
 use Rattle.frame.proofs.mark_after.Goals as goal
 
 pub returns-then-at-s : goal.returns-then-at-s

@@ -1,11 +1,7 @@
 -- `frame::next_mark` meets its contract. The loop's invariant: the mark was not passed.
 -- Assumes nothing.
-use Prim.Native.Nat.{◌-◌}
-use mathlib.Core.Path.{◌≡◌, refl, sym, ◌∙◌}
-use lib.ListN.{length}
-use Rattle.frame.specs.Frame.{next_mark}
+use mathlib.Core.Path.{refl, sym, ◌∙◌}
 use Rattle.frame.proofs.Parts.{next_here, next_on, next_end}
-use borrow.Author.Rules.{rules}
 use Rattle.frame.proofs.next_mark.Goals as goal
 
 pub loop-i-init : goal.loop-i-init

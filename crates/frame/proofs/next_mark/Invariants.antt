@@ -1,11 +1,9 @@
 -- `frame::next_mark` meets its contract. The loop's invariant: the mark was not passed.
 -- Assumes nothing.
 use Prim.Native.Nat.{◌-◌}
-use mathlib.Core.Path.{◌≡◌, refl, sym, ◌∙◌}
+use mathlib.Core.Path.{◌≡◌}
 use lib.ListN.{length}
 use Rattle.frame.specs.Frame.{next_mark}
-use Rattle.frame.proofs.Parts.{next_here, next_on, next_end}
-use borrow.Author.Rules.{rules}
 use Rattle.frame.proofs.next_mark.Given as goal
 
 abbrev pub invariant-loop-i : goal.invariant-loop-i

@@ -6,7 +6,6 @@ use native.Mathlib.Omega.{arith}
 use lib.ListN.{length}
 use Rattle.text.proofs.Part.{same_part}
 use Rattle.frame.proofs.Parts.{next_from, next_within, part_none, part_there, place_none, place_there}
-use borrow.Author.Rules.{rules}
 use Rattle.frame.proofs.part.Goals as goal
 
 pub returns-then-s-start : goal.returns-then-s-start

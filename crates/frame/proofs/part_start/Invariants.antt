@@ -1,12 +1,8 @@
 -- `frame::part_start` meets its contract. The loop's invariant: k parts were passed, and n was not among them.
 -- Assumes nothing.
 use Prim.Native.Nat.{◌-◌, ◌≤◌}
-use mathlib.Core.Path.{ap, ◌∙◌}
-use native.Mathlib.Omega.{arith}
 use lib.ListN.{length}
-use Rattle.frame.specs.Frame.{part_start}
-use Rattle.frame.proofs.Parts.{Walk, walk_start, walk_on, walk_last, next_from, next_within}
-use borrow.Author.Rules.{rules}
+use Rattle.frame.proofs.Parts.{Walk}
 use Rattle.frame.proofs.part_start.Given as goal
 
 abbrev pub invariant-loop-i : goal.invariant-loop-i

@@ -1,12 +1,8 @@
 -- `frame::title_length` meets its contract. The loop's invariant: no mark was passed.
 -- Assumes nothing.
-use Prim.Native.Nat.{◌+◌, ◌-◌}
-use mathlib.Core.Path.{◌≡◌, sym, ◌∙◌}
+use mathlib.Core.Path.{sym, ◌∙◌}
 use native.Mathlib.Omega.{arith}
-use lib.ListN.{length, drop}
-use Rattle.format.specs.Read.{title}
 use Rattle.frame.proofs.Title.{title_here, title_on, title_end}
-use borrow.Author.Rules.{rules}
 use Rattle.frame.proofs.title_length.Goals as goal
 
 pub returns-then-is_mark : goal.returns-then-is_mark

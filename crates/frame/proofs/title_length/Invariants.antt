@@ -1,12 +1,9 @@
 -- `frame::title_length` meets its contract. The loop's invariant: no mark was passed.
 -- Assumes nothing.
 use Prim.Native.Nat.{◌+◌, ◌-◌}
-use mathlib.Core.Path.{◌≡◌, sym, ◌∙◌}
-use native.Mathlib.Omega.{arith}
+use mathlib.Core.Path.{◌≡◌}
 use lib.ListN.{length, drop}
 use Rattle.format.specs.Read.{title}
-use Rattle.frame.proofs.Title.{title_here, title_on, title_end}
-use borrow.Author.Rules.{rules}
 use Rattle.frame.proofs.title_length.Given as goal
 
 abbrev pub invariant-loop-i : goal.invariant-loop-i

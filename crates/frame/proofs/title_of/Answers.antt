@@ -3,7 +3,6 @@
 use mathlib.Core.Path.{refl}
 use native.Mathlib.Omega.{arith}
 use Rattle.frame.proofs.Title.{title_within, title_part}
-use borrow.Author.Rules.{rules}
 use Rattle.frame.proofs.title_of.Goals as goal
 
 pub slice_bounds-result-end : goal.slice_bounds-result-end

@@ -1,7 +1,6 @@
 -- `hmac::begin` meets its contract.
 -- Assumes nothing.
 use Rattle.hmac.specs.State.{hmac_begun}
-use borrow.Author.Rules.{rules}
 use Rattle.hmac.proofs.begin.Goals as goal
 
 pub returns : goal.returns

@@ -5,7 +5,6 @@ use Rattle.sha384.specs.State.{added}
 use Rattle.sha384.specs.declared.Sha384.{Sha384}
 use Rattle.hmac.specs.State.{hmac_ended}
 use Rattle.hmac.proofs.Tags.{tag_once}
-use borrow.Author.Rules.{rules}
 use Rattle.hmac.proofs.hmac_of.Goals as goal
 
 pub returns : goal.returns

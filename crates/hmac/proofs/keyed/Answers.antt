@@ -1,9 +1,8 @@
 -- `hmac::keyed` meets its contract. The loop's invariant: the first i bytes of the block are mixed.
 -- Assumes nothing.
-use Prim.Native.Nat.{◌-◌}
 use mathlib.Core.Path.{ap₂, ◌∙◌}
 use Rattle.sha384.specs.State.{added}
-use Rattle.hmac.proofs.Keys.{Mixing, mixing_none, mixing_more, mixing_all}
+use Rattle.hmac.proofs.Keys.{mixing_none, mixing_more, mixing_all}
 use borrow.Author.Rules.{rules}
 use Rattle.hmac.proofs.keyed.Goals as goal
 

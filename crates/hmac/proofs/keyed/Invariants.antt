@@ -1,10 +1,7 @@
 -- `hmac::keyed` meets its contract. The loop's invariant: the first i bytes of the block are mixed.
 -- Assumes nothing.
 use Prim.Native.Nat.{◌-◌}
-use mathlib.Core.Path.{ap₂, ◌∙◌}
-use Rattle.sha384.specs.State.{added}
-use Rattle.hmac.proofs.Keys.{Mixing, mixing_none, mixing_more, mixing_all}
-use borrow.Author.Rules.{rules}
+use Rattle.hmac.proofs.Keys.{Mixing}
 use Rattle.hmac.proofs.keyed.Given as goal
 
 abbrev pub invariant-loop-i : goal.invariant-loop-i

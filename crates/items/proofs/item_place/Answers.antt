@@ -1,8 +1,7 @@
 -- `items::item_place` meets its contract. The loop's invariant: i of n items are passed (`Passed`).
 -- Assumes nothing.
-use Prim.Native.Nat.{◌-◌}
 use native.Mathlib.Omega.{arith}
-use Rattle.items.proofs.Walk.{Passed, placed_none, no_text, number_zero, walked_none, no_length, no_bytes, walked_more, walked_there, bytes_behind, too_few, found}
+use Rattle.items.proofs.Walk.{placed_none, no_text, number_zero, walked_none, no_length, no_bytes, walked_more, walked_there, bytes_behind, too_few, found}
 use borrow.Author.Rules.{rules}
 use Rattle.items.proofs.item_place.Goals as goal
 

@@ -2,7 +2,6 @@
 -- Assumes nothing.
 use mathlib.Core.Path.{refl}
 use Rattle.items.proofs.Walk.{handed}
-use borrow.Author.Rules.{rules}
 use Rattle.items.proofs.text_item.Goals as goal
 
 pub returns : goal.returns

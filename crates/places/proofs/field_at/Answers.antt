@@ -1,7 +1,6 @@
 -- `places::field_at` meets its contract.
 -- Assumes nothing.
 use Rattle.places.proofs.Stands.{field_none, field_next}
-use borrow.Author.Rules.{rules}
 use Rattle.places.proofs.field_at.Goals as goal
 
 pub returns-then-number-eq0 : goal.returns-then-number-eq0

@@ -3,7 +3,6 @@
 use mathlib.Core.Path.{refl}
 use native.Mathlib.Omega.{arith}
 use Rattle.places.proofs.Stands.{at_past, at_outside, at_there}
-use borrow.Author.Rules.{rules}
 use Rattle.places.proofs.part_at.Goals as goal
 
 pub returns-then-j-ge-MOST : goal.returns-then-j-ge-MOST

@@ -1,10 +1,8 @@
 -- `places::places_of` meets its contract.
 -- Assumes nothing.
-use Prim.Native.Nat.{◌-◌, ◌≤◌}
 use native.Mathlib.Omega.{arith}
 use Rattle.frame.proofs.Parts.{next_within}
-use Rattle.places.proofs.Walk.{Going, walk_begins, walk_ends, walk_full, walk_goes_on, ends_from, ends_within}
-use borrow.Author.Rules.{rules}
+use Rattle.places.proofs.Walk.{walk_begins, walk_ends, walk_full, walk_goes_on, ends_from, ends_within}
 use Rattle.places.proofs.places_of.Goals as goal
 
 pub overflow_add-i : goal.overflow_add-i

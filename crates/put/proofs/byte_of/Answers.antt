@@ -2,7 +2,6 @@
 -- Assumes nothing.
 use native.Mathlib.Omega.{arith}
 use Rattle.text.proofs.Hexadecimal.{valued}
-use borrow.Author.Rules.{rules}
 use Rattle.put.proofs.byte_of.Goals as goal
 
 pub overflow_mul-result : goal.overflow_mul-result

@@ -1,10 +1,7 @@
 -- `put::put` meets its contract. The loop's invariant: i bytes of the piece are written.
 -- Assumes nothing.
-use Prim.Native.Nat.{◌-◌}
 use native.Mathlib.Omega.{arith}
-use lib.ListN.{length}
-use Rattle.put.proofs.Copying.{Copy, copy_none, copy_length, copy_more, copy_all, copy_not}
-use borrow.Author.Rules.{rules}
+use Rattle.put.proofs.Copying.{copy_none, copy_length, copy_more, copy_all, copy_not}
 use Rattle.put.proofs.put.Goals as goal
 
 pub returns-then-out-at : goal.returns-then-out-at

@@ -1,10 +1,8 @@
 -- `put::put` meets its contract. The loop's invariant: i bytes of the piece are written.
 -- Assumes nothing.
 use Prim.Native.Nat.{◌-◌}
-use native.Mathlib.Omega.{arith}
 use lib.ListN.{length}
-use Rattle.put.proofs.Copying.{Copy, copy_none, copy_length, copy_more, copy_all, copy_not}
-use borrow.Author.Rules.{rules}
+use Rattle.put.proofs.Copying.{Copy}
 use Rattle.put.proofs.put.Given as goal
 
 abbrev pub invariant-loop-i : goal.invariant-loop-i

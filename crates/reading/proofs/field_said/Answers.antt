@@ -8,7 +8,6 @@ use Rattle.format.specs.Read.{read_identity}
 use Rattle.table.specs.Table.{field_type, may_be_empty}
 use Rattle.reading.proofs.Types.{answer_empty, answer_identity, answer_text, kind_empty, kind_identity, kind_text}
 use Rattle.reading.proofs.Loops.{said_so}
-use borrow.Author.Rules.{rules}
 use Rattle.reading.proofs.field_said.Goals as goal
 
 pub returns-then-is_left_empty : goal.returns-then-is_left_empty

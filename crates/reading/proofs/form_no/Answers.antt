@@ -2,7 +2,6 @@
 -- Assumes nothing.
 use mathlib.Core.Path.{sym, ◌∙◌}
 use Rattle.reading.proofs.Form.{form_none, form_check}
-use borrow.Author.Rules.{rules}
 use Rattle.reading.proofs.form_no.Goals as goal
 
 pub returns-then-row-eq-NONE : goal.returns-then-row-eq-NONE

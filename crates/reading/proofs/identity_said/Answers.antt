@@ -9,7 +9,6 @@ use Rattle.format.proofs.Exactly.{identity_says}
 use Rattle.table.specs.Table.{field_type, permitted}
 use Rattle.reading.proofs.Types.{identity_refused, identity_taken, kind_told}
 use Rattle.reading.proofs.Loops.{said_so}
-use borrow.Author.Rules.{rules}
 use Rattle.reading.proofs.identity_said.Goals as goal
 use Rattle.reading.proofs.identity_said.Lts as lts
 use Rattle.reading.proofs.identity_said.Tie.{the-claims}

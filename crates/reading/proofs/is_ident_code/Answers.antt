@@ -3,7 +3,6 @@
 use mathlib.Core.Path.{sym, ◌∙◌}
 use borrow.Author.Tests.{eq-eqb, ne_eqb, lt-ltb, le-ltb}
 use Rattle.text.proofs.Tests.{or_stop, or_on}
-use borrow.Author.Rules.{rules}
 use Rattle.reading.proofs.is_ident_code.Goals as goal
 
 pub returns-then-code-eq-IDENT : goal.returns-then-code-eq-IDENT

@@ -4,7 +4,6 @@ use mathlib.Core.Path.{sym, ◌∙◌}
 use borrow.Author.Tests.{eq-eqb, ne_eqb}
 use Rattle.text.proofs.Tests.{and_stop, and_on}
 use Rattle.reading.proofs.Types.{empty_is}
-use borrow.Author.Rules.{rules}
 use Rattle.reading.proofs.is_left_empty.Goals as goal
 
 pub returns-then-field-ne0 : goal.returns-then-field-ne0

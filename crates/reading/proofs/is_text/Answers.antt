@@ -4,7 +4,6 @@ use mathlib.Core.Path.{◌≡◌, sym, ◌∙◌}
 use native.Mathlib.Omega.{arith}
 use Rattle.table.specs.Table.{field_type}
 use Rattle.reading.proofs.Types.{ident_text, Other, other}
-use borrow.Author.Rules.{rules}
 use Rattle.reading.proofs.is_text.Goals as goal
 use Rattle.reading.proofs.is_text.Lts as lts
 use Rattle.reading.proofs.is_text.Tie.{the-claims}

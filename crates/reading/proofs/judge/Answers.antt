@@ -1,6 +1,5 @@
 -- `reading::judge` meets its contract.
 -- Assumes nothing.
-use borrow.Author.Rules.{rules}
 use Rattle.reading.proofs.judge.Goals as goal
 
 pub returns : goal.returns

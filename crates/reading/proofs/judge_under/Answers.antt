@@ -4,7 +4,6 @@ use mathlib.Core.Path.{sym, ap, ◌∙◌}
 use native.Mathlib.Omega.{arith}
 use Rattle.reading.specs.Reading.{judged_said}
 use Rattle.reading.proofs.Whole.{judged_none, judged_field, judged_whole, judged_all, kinds_said}
-use borrow.Author.Rules.{rules}
 use Rattle.reading.proofs.judge_under.Goals as goal
 
 pub returns-then-row-ge-ROWS : goal.returns-then-row-ge-ROWS

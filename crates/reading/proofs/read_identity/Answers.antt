@@ -9,7 +9,6 @@ use Rattle.reading.specs.Reading.{answer_of}
 use Rattle.reading.proofs.Answers.{taken_so}
 use Rattle.reading.proofs.Outcomes.{over_long}
 use Rattle.reading.proofs.Calls.{Begun, begun, call_form, call_many, call_kind, call_parts, call_field, call_accepted, call_starts, call_lens, identity_is, identity_below, identity_plain, identity-kinds}
-use borrow.Author.Rules.{rules}
 use Rattle.reading.proofs.read_identity.Goals as goal
 use Rattle.reading.proofs.read_identity.Lts as lts
 use Rattle.reading.proofs.read_identity.Tie.{the-claims}

@@ -1,6 +1,5 @@
 -- `reading::read_of` meets its contract.
 -- Assumes nothing.
-use borrow.Author.Rules.{rules}
 use Rattle.reading.proofs.read_of.Goals as goal
 
 pub returns : goal.returns

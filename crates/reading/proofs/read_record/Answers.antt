@@ -3,7 +3,6 @@
 use mathlib.Core.Path.{sym, ap, ◌∙◌}
 use Rattle.reading.specs.Reading.{answer_of}
 use Rattle.reading.proofs.Calls.{record_is}
-use borrow.Author.Rules.{rules}
 use Rattle.reading.proofs.read_record.Goals as goal
 
 pub returns : goal.returns

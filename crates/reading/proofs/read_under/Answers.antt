@@ -8,7 +8,6 @@ use Rattle.reading.specs.Reading.{answer_of}
 use Rattle.reading.proofs.Answers.{taken_so}
 use Rattle.reading.proofs.Outcomes.{over_long}
 use Rattle.reading.proofs.Calls.{Begun, begun, call_form, call_many, call_kind, to_fields, call_places, call_starts, call_lens, under_is, record_refused, record_accepted, record-kinds}
-use borrow.Author.Rules.{rules}
 use Rattle.reading.proofs.read_under.Goals as goal
 use Rattle.reading.proofs.read_under.Lts as lts
 use Rattle.reading.proofs.read_under.Tie.{the-claims}

@@ -1,6 +1,6 @@
 -- `sha384::higher` meets its contract.
 -- Assumes nothing.
-use Rattle.std.proofs.Common.{◌∙◌, arith, rules}
+use Rattle.std.proofs.Common.{◌∙◌, arith}
 use Rattle.sha384.proofs.Taken.{carried, uncarried}
 use Rattle.sha384.proofs.higher.Goals as goal
 

@@ -1,6 +1,6 @@
 -- `sha384::sha384_of` meets its contract.
 -- Assumes nothing.
-use Rattle.std.proofs.Common.{ap, ◌∙◌, rules}
+use Rattle.std.proofs.Common.{ap, ◌∙◌}
 use Rattle.sha384.specs.declared.Sha384.{Sha384}
 use Rattle.sha384.specs.State.{added, ended}
 use Rattle.sha384.proofs.Pieces.{ended_once}

@@ -1,6 +1,6 @@
 -- `sha1::block_of` meets its contract.
 -- Assumes nothing.
-use Rattle.std.proofs.Common.{[], refl, ◌∙◌, arith, rules}
+use Rattle.std.proofs.Common.{[], refl, ◌∙◌, arith}
 use Rattle.put.proofs.Pieces.{put_of}
 use Rattle.hashing.proofs.Zeros.{zeroed_more}
 use Rattle.sha_1.proofs.block_of.Goals as goal

@@ -1,6 +1,6 @@
 -- `sha1::sha1_of` meets its contract.
 -- Assumes nothing.
-use Rattle.std.proofs.Common.{ap, ◌∙◌, rules}
+use Rattle.std.proofs.Common.{ap, ◌∙◌}
 use Rattle.sha_1.specs.declared.Sha1.{Sha1}
 use Rattle.sha_1.specs.State.{added, ended}
 use Rattle.sha_1.proofs.Pieces.{ended_once}

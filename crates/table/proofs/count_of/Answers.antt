@@ -6,7 +6,6 @@ use Rattle.format.specs.Kinds.{fields_of}
 use Rattle.table.specs.Table.{of_row}
 use Rattle.table.proofs.Rows.{past_rows}
 use Rattle.table.proofs.Arrays.{entry_fits, counts}
-use borrow.Author.Rules.{rules}
 use Rattle.table.proofs.count_of.Goals as goal
 
 pub overflow_cast-result : goal.overflow_cast-result

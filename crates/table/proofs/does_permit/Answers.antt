@@ -3,7 +3,6 @@
 use mathlib.Core.Path.{sym, ◌∙◌}
 use native.Mathlib.Omega.{arith}
 use Rattle.table.proofs.Codes.{SMMAN-codes, SMID-codes, KMCID-codes, no_permit}
-use borrow.Author.Rules.{rules}
 use Rattle.table.proofs.does_permit.Goals as goal
 
 pub returns-then-row-eq-SMMAN : goal.returns-then-row-eq-SMMAN

@@ -2,7 +2,6 @@
 -- Assumes nothing.
 use mathlib.Core.Path.{sym}
 use Rattle.table.proofs.Rows.{past_rows}
-use borrow.Author.Rules.{rules}
 use Rattle.table.proofs.is_called.Goals as goal
 
 pub returns : goal.returns

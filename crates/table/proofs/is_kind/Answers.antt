@@ -10,7 +10,6 @@ use Rattle.text.specs.Text.{Bytes, same}
 use Rattle.format.specs.Kinds.{name, mark}
 use Rattle.table.specs.Table.{row_count, of_row, mark_of, is_kind}
 use Rattle.table.proofs.Rows.{in_row}
-use borrow.Author.Rules.{rules}
 use Rattle.table.proofs.is_kind.Goals as goal
 
 -- the test of a row, by its name and its mark

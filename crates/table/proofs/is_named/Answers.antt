@@ -8,7 +8,6 @@ use Rattle.text.specs.Text.{same}
 use Rattle.format.specs.Kinds.{name}
 use Rattle.table.proofs.Rows.{in_row}
 use Rattle.table.proofs.Arrays.{entry_fits, starts, name_piece}
-use borrow.Author.Rules.{rules}
 use Rattle.table.proofs.is_named.Goals as goal
 
 pub overflow_cast-start : goal.overflow_cast-start

@@ -1,12 +1,10 @@
 -- `table::kind_named` meets its contract. The loop's invariant: the rows from here on decide.
 -- Assumes nothing.
 use Prim.Native.Nat.{◌-◌}
-use mathlib.Core.Path.{◌≡◌, refl, sym, ap, ◌∙◌}
+use mathlib.Core.Path.{◌≡◌}
 use lib.ListN.{drop}
 use Rattle.format.specs.Kinds.{all_kinds}
-use Rattle.table.specs.Table.{row_count, row_for, named}
-use Rattle.table.proofs.Search.{name_search, search_hit, search_on, search_past}
-use borrow.Author.Rules.{rules}
+use Rattle.table.specs.Table.{row_count, named}
 use Rattle.table.proofs.kind_named.Given as goal
 
 abbrev pub invariant-loop-row : goal.invariant-loop-row

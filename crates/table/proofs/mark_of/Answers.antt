@@ -4,7 +4,6 @@ use mathlib.Core.Path.{refl, sym}
 use Rattle.format.specs.Kinds.{mark}
 use Rattle.table.specs.Table.{of_row}
 use Rattle.table.proofs.Rows.{past_rows}
-use borrow.Author.Rules.{rules}
 use Rattle.table.proofs.mark_of.Goals as goal
 
 pub returns-then-row-lt-ROWS : goal.returns-then-row-lt-ROWS

@@ -2,7 +2,6 @@
 -- Assumes nothing.
 use mathlib.Core.Path.{◌∙◌}
 use Rattle.table.proofs.Codes.{empty_codes}
-use borrow.Author.Rules.{rules}
 use Rattle.table.proofs.may_be_empty.Goals as goal
 
 pub returns : goal.returns

@@ -6,7 +6,6 @@ use Rattle.format.specs.Kinds.{Kind}
 use Rattle.format.specs.Read.{kind_in}
 use Rattle.table.specs.Table.{row_for}
 use Rattle.table.proofs.Search.{range_below, range_above}
-use borrow.Author.Rules.{rules}
 use Rattle.table.proofs.record_kind.Goals as goal
 
 pub returns-then-from-lt-ECDSA : goal.returns-then-from-lt-ECDSA

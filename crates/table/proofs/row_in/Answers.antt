@@ -1,13 +1,8 @@
 -- `table::row_in` meets its contract. The loop's invariant: the rows from here on decide.
 -- Assumes nothing.
-use Prim.Native.Nat.{◌-◌}
-use mathlib.Core.Path.{◌≡◌, refl, sym, ap, ◌∙◌}
-use lib.ListN.{take, drop}
-use Rattle.format.specs.Kinds.{all_kinds}
-use Rattle.format.specs.Read.{kind_in}
-use Rattle.table.specs.Table.{row_count, row_for}
+use mathlib.Core.Path.{refl, sym, ap, ◌∙◌}
+use Rattle.table.specs.Table.{row_for}
 use Rattle.table.proofs.Search.{kind_search, search_hit, search_on, search_end, search_past}
-use borrow.Author.Rules.{rules}
 use Rattle.table.proofs.row_in.Goals as goal
 
 pub loop-row-init : goal.loop-row-init

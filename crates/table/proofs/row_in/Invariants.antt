@@ -1,13 +1,11 @@
 -- `table::row_in` meets its contract. The loop's invariant: the rows from here on decide.
 -- Assumes nothing.
 use Prim.Native.Nat.{◌-◌}
-use mathlib.Core.Path.{◌≡◌, refl, sym, ap, ◌∙◌}
+use mathlib.Core.Path.{◌≡◌}
 use lib.ListN.{take, drop}
 use Rattle.format.specs.Kinds.{all_kinds}
 use Rattle.format.specs.Read.{kind_in}
-use Rattle.table.specs.Table.{row_count, row_for}
-use Rattle.table.proofs.Search.{kind_search, search_hit, search_on, search_end, search_past}
-use borrow.Author.Rules.{rules}
+use Rattle.table.specs.Table.{row_count}
 use Rattle.table.proofs.row_in.Given as goal
 
 abbrev pub invariant-loop-row : goal.invariant-loop-row

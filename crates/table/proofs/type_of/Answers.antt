@@ -6,7 +6,6 @@ use native.Mathlib.Omega.{arith}
 use Rattle.table.specs.Table.{count_of}
 use Rattle.table.proofs.Codes.{code_of}
 use Rattle.table.proofs.Arrays.{row_there, type_within, type_here, type_past}
-use borrow.Author.Rules.{rules}
 use Rattle.table.proofs.type_of.Goals as goal
 
 pub returns-then-count_of-j : goal.returns-then-count_of-j

@@ -1,14 +1,11 @@
 -- `text::are_same` meets its contract. The loop's invariant: what is left decides.
 -- Assumes nothing.
-use Prim.Native.Nat.{◌-◌}
-use mathlib.Core.Path.{◌≡◌, refl, sym, ◌∙◌}
+use mathlib.Core.Path.{refl, sym, ◌∙◌}
 use native.Mathlib.Omega.{arith}
-use lib.ListN.{length, drop}
 use lib.Dec.{eqb}
 use borrow.Author.Tests.{eq-eqb, ne_eqb}
 use Rattle.text.specs.Text.{same}
 use Rattle.text.proofs.Loops.{same_pairwise, apart, pairwise_stop, pairwise_on, pairwise_end}
-use borrow.Author.Rules.{rules}
 use Rattle.text.proofs.are_same.Goals as goal
 
 pub returns-then-a-b : goal.returns-then-a-b

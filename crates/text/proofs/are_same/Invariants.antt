@@ -1,14 +1,9 @@
 -- `text::are_same` meets its contract. The loop's invariant: what is left decides.
 -- Assumes nothing.
 use Prim.Native.Nat.{◌-◌}
-use mathlib.Core.Path.{◌≡◌, refl, sym, ◌∙◌}
-use native.Mathlib.Omega.{arith}
+use mathlib.Core.Path.{◌≡◌}
 use lib.ListN.{length, drop}
-use lib.Dec.{eqb}
-use borrow.Author.Tests.{eq-eqb, ne_eqb}
 use Rattle.text.specs.Text.{same}
-use Rattle.text.proofs.Loops.{same_pairwise, apart, pairwise_stop, pairwise_on, pairwise_end}
-use borrow.Author.Rules.{rules}
 use Rattle.text.proofs.are_same.Given as goal
 
 abbrev pub invariant-loop-i : goal.invariant-loop-i

@@ -1,7 +1,6 @@
 -- `text::is_hex` meets its contract.
 -- Assumes nothing.
 use Rattle.text.specs.Text.{is_hex}
-use borrow.Author.Rules.{rules}
 use Rattle.text.proofs.is_hex.Goals as goal
 
 pub returns : goal.returns

@@ -9,7 +9,6 @@ use lib.ListN.{length}
 use Rattle.text.specs.Text.{every, ident_character, longest_ident, is_ident}
 use Rattle.text.proofs.Tests.{and_stop, and_on, true_T, between_low}
 use Rattle.text.proofs.Loops.{rest_all}
-use borrow.Author.Rules.{rules}
 use Rattle.text.proofs.is_ident.Goals as goal
 use Rattle.text.proofs.is_ident.Lts as lts
 use Rattle.text.proofs.is_ident.Tie.{the-claims}

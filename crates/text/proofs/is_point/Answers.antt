@@ -6,7 +6,6 @@ use borrow.Author.Tests.{not-true, not-false}
 use Rattle.text.specs.Text.{is_point}
 use Rattle.text.proofs.Tests.{and_stop, and_on, true_T}
 use Rattle.text.proofs.Types.{hex_length}
-use borrow.Author.Rules.{rules}
 use Rattle.text.proofs.is_point.Goals as goal
 
 pub returns-then-not-is_hex : goal.returns-then-not-is_hex

@@ -3,7 +3,6 @@
 use mathlib.Core.Path.{sym, ◌∙◌}
 use mathlib.Core.Bool.{true, false}
 use Rattle.reading.proofs.Whole.{signed_so, unsigned_so}
-use borrow.Author.Rules.{rules}
 use Rattle.reading.proofs.together.module_no.Goals as goal
 
 pub returns-then-signature-ne0 : goal.returns-then-signature-ne0

@@ -4,7 +4,6 @@ use mathlib.Core.Path.{◌∙◌}
 use mathlib.Core.Bool.{true, false}
 use borrow.Author.Tests.{eq-eqb, ne_eqb, not-true, not-false}
 use Rattle.reading.proofs.Whole.{pubkey_unpaired, pubkey_paired}
-use borrow.Author.Rules.{rules}
 use Rattle.reading.proofs.together.pubkey_no.Goals as goal
 
 pub returns-then-issuer-signature : goal.returns-then-issuer-signature

@@ -2,7 +2,6 @@
 -- Assumes nothing.
 use mathlib.Core.Path.{sym, ◌∙◌}
 use Rattle.reading.proofs.Whole.{pubkey-fields, list_field, whole_other}
-use borrow.Author.Rules.{rules}
 use Rattle.reading.proofs.together.whole_no.Goals as goal
 
 pub returns-then-is_pubkey : goal.returns-then-is_pubkey

@@ -1,7 +1,6 @@
 -- `sha384::blocks::compress` meets its contract.
 -- Assumes nothing.
 use Rattle.sha384.specs.Sha384.{compress}
-use Rattle.std.proofs.Common.{rules}
 use Rattle.sha384.proofs.blocks.compress.Goals as goal
 
 pub returns : goal.returns

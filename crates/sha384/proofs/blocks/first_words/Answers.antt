@@ -1,9 +1,9 @@
 -- `sha384::blocks::first_words` meets its contract.
 -- Assumes nothing.
-use Rattle.std.proofs.Common.{◌≡◌, ℕ, ◌-◌, ◌≤◌, [], take, sym, refl, ap, ◌∙◌, arith, rules}
+use Rattle.std.proofs.Common.{◌≡◌, ℕ, [], take, sym, refl, ap, ◌∙◌, arith, rules}
 use Rattle.hashing.specs.Turns.{turns, grown}
 use Rattle.sha384.specs.Sha384.{words}
-use Rattle.hashing.proofs.Turns.{Filled, grown_step}
+use Rattle.hashing.proofs.Turns.{grown_step}
 use Rattle.sha384.proofs.blocks.first_words.Goals as goal
 
 pub loop-t-init : goal.loop-t-init

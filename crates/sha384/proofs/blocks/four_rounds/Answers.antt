@@ -2,7 +2,6 @@
 -- Assumes nothing.
 use Rattle.hashing.proofs.Turns.{turns_four}
 use Rattle.sha384.specs.Sha384.{rounds}
-use Rattle.std.proofs.Common.{rules}
 use Rattle.sha384.proofs.blocks.four_rounds.Goals as goal
 
 pub returns : goal.returns

@@ -1,6 +1,6 @@
 -- `sha384::blocks::hash_by` meets its contract.
 -- Assumes nothing.
-use Rattle.std.proofs.Common.{◌≡◌, ◌-◌, ◌/◌, ◌≤◌, length, refl, ap, ◌∙◌, arith, length-drop, length-take, rules}
+use Rattle.std.proofs.Common.{◌≡◌, ◌/◌, length, refl, ap, ◌∙◌, arith, length-drop, length-take, rules}
 use Rattle.hashing.specs.Turns.{turns}
 use Rattle.hashing.specs.Blocks as blocks
 use Rattle.sha384.specs.Sha384.{compress, hashed}

@@ -1,10 +1,7 @@
 -- `sha384::blocks::hash_by` meets its contract.
 -- Assumes nothing.
-use Rattle.std.proofs.Common.{◌≡◌, ◌-◌, ◌/◌, ◌≤◌, length, refl, ap, ◌∙◌, arith, length-drop, length-take, rules}
-use Rattle.hashing.specs.Turns.{turns}
-use Rattle.hashing.specs.Blocks as blocks
-use Rattle.sha384.specs.Sha384.{compress, hashed}
-use Rattle.hashing.proofs.Blocks.{hashed_more}
+use Rattle.std.proofs.Common.{◌≡◌, ◌-◌, ◌/◌, ◌≤◌, length}
+use Rattle.sha384.specs.Sha384.{hashed}
 use Rattle.sha384.proofs.blocks.hash_by.Given as goal
 
 abbrev pub invariant-loop-i : goal.invariant-loop-i

@@ -1,6 +1,5 @@
 -- `sha384::blocks::next_word` meets its contract.
 -- Assumes nothing.
-use Rattle.std.proofs.Common.{rules}
 use Rattle.sha384.proofs.blocks.next_word.Goals as goal
 
 pub returns : goal.returns

@@ -1,6 +1,5 @@
 -- `sha384::blocks::round` meets its contract.
 -- Assumes nothing.
-use Rattle.std.proofs.Common.{rules}
 use Rattle.sha384.proofs.blocks.round.Goals as goal
 
 pub returns : goal.returns

@@ -1,7 +1,6 @@
 -- `sha384::blocks::rounds` meets its contract.
 -- Assumes nothing.
-use Rattle.std.proofs.Common.{◌≡◌, ◌-◌, ◌%◌, ◌≤◌, refl, ap, ◌∙◌, arith, rules}
-use Rattle.hashing.specs.Turns.{turns}
+use Rattle.std.proofs.Common.{◌≡◌, ◌-◌, ◌%◌, ◌≤◌}
 use Rattle.sha384.specs.Sha384.{rounds}
 use Rattle.sha384.proofs.blocks.rounds.Given as goal
 

@@ -1,10 +1,8 @@
 -- `sha384::blocks::schedule` meets its contract.
 -- Assumes nothing.
-use Rattle.std.proofs.Common.{◌≡◌, ◌+◌, ◌-◌, ◌≤◌, ap, ◌∙◌, arith, rules}
-use Rattle.hashing.specs.Turns.{turns, grown}
-use Rattle.sha384.specs.Sha384.{next, schedule}
-use Rattle.hashing.proofs.Turns.{Filled, schedule_step, filled_all}
-use Rattle.sha384.proofs.Rounds.{next_front}
+use Rattle.std.proofs.Common.{◌+◌, ◌-◌, ◌≤◌}
+use Rattle.sha384.specs.Sha384.{schedule}
+use Rattle.hashing.proofs.Turns.{Filled}
 use Rattle.sha384.proofs.blocks.schedule.Given as goal
 
 abbrev pub invariant-loop-n : goal.invariant-loop-n

@@ -1,7 +1,6 @@
 -- `sha384::ending::digest` meets its contract.
 -- Assumes nothing.
 use Rattle.sha384.proofs.Written.{digest_of}
-use Rattle.std.proofs.Common.{rules}
 use Rattle.sha384.proofs.ending.digest.Goals as goal
 
 pub returns : goal.returns

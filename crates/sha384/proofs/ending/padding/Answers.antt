@@ -1,6 +1,6 @@
 -- `sha384::ending::padding` meets its contract.
 -- Assumes nothing.
-use Rattle.std.proofs.Common.{ℕ, ◌+◌, ap, arith, rules}
+use Rattle.std.proofs.Common.{ℕ, ◌+◌, ap, arith}
 use Rattle.sha384.proofs.Written.{high_fits, padding_of}
 use Rattle.sha384.proofs.ending.padding.Goals as goal
 

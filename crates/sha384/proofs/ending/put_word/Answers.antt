@@ -1,6 +1,5 @@
 -- `sha384::ending::put_word` meets its contract.
 -- Assumes nothing.
-use Rattle.std.proofs.Common.{rules}
 use Rattle.sha384.proofs.ending.put_word.Goals as goal
 
 pub returns : goal.returns

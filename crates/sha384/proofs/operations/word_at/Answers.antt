@@ -1,6 +1,6 @@
 -- `sha384::operations::word_at` meets its contract.
 -- Assumes nothing.
-use Rattle.std.proofs.Common.{◌∙◌, arith, rules}
+use Rattle.std.proofs.Common.{◌∙◌, arith}
 use Rattle.sha384.specs.Sha384.{word}
 use Rattle.sha384.proofs.Bytes.{word_of}
 use Rattle.sha384.proofs.operations.word_at.Goals as goal

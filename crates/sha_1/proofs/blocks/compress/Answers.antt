@@ -1,7 +1,6 @@
 -- `sha1::blocks::compress` meets its contract.
 -- Assumes nothing.
 use Rattle.sha_1.specs.Sha1.{compress}
-use Rattle.std.proofs.Common.{rules}
 use Rattle.sha_1.proofs.blocks.compress.Goals as goal
 
 pub returns : goal.returns

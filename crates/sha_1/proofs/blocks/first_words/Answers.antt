@@ -1,9 +1,9 @@
 -- `sha1::blocks::first_words` meets its contract.
 -- Assumes nothing.
-use Rattle.std.proofs.Common.{◌≡◌, ℕ, ◌-◌, ◌≤◌, [], take, sym, refl, ap, ◌∙◌, arith, rules}
+use Rattle.std.proofs.Common.{◌≡◌, ℕ, [], take, sym, refl, ap, ◌∙◌, arith, rules}
 use Rattle.hashing.specs.Turns.{turns, grown}
 use Rattle.sha_1.specs.Sha1.{words}
-use Rattle.hashing.proofs.Turns.{Filled, grown_step}
+use Rattle.hashing.proofs.Turns.{grown_step}
 use Rattle.sha_1.proofs.blocks.first_words.Goals as goal
 
 pub loop-t-init : goal.loop-t-init

@@ -1,9 +1,8 @@
 -- `sha1::blocks::first_words` meets its contract.
 -- Assumes nothing.
-use Rattle.std.proofs.Common.{◌≡◌, ℕ, ◌-◌, ◌≤◌, [], take, sym, refl, ap, ◌∙◌, arith, rules}
-use Rattle.hashing.specs.Turns.{turns, grown}
+use Rattle.std.proofs.Common.{◌-◌, ◌≤◌}
 use Rattle.sha_1.specs.Sha1.{words}
-use Rattle.hashing.proofs.Turns.{Filled, grown_step}
+use Rattle.hashing.proofs.Turns.{Filled}
 use Rattle.sha_1.proofs.blocks.first_words.Given as goal
 
 abbrev pub invariant-loop-t : goal.invariant-loop-t

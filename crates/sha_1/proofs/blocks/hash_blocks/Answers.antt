@@ -1,6 +1,6 @@
 -- `sha1::blocks::hash_blocks` meets its contract.
 -- Assumes nothing.
-use Rattle.std.proofs.Common.{◌≡◌, ◌-◌, ◌/◌, ◌≤◌, length, refl, ap, ◌∙◌, arith, length-drop, length-take, rules}
+use Rattle.std.proofs.Common.{◌≡◌, ◌/◌, length, refl, ap, ◌∙◌, arith, length-drop, length-take, rules}
 use Rattle.hashing.specs.Turns.{turns}
 use Rattle.hashing.specs.Blocks as blocks
 use Rattle.sha_1.specs.Sha1.{compress, hashed}

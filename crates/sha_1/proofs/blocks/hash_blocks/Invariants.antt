@@ -1,10 +1,7 @@
 -- `sha1::blocks::hash_blocks` meets its contract.
 -- Assumes nothing.
-use Rattle.std.proofs.Common.{◌≡◌, ◌-◌, ◌/◌, ◌≤◌, length, refl, ap, ◌∙◌, arith, length-drop, length-take, rules}
-use Rattle.hashing.specs.Turns.{turns}
-use Rattle.hashing.specs.Blocks as blocks
-use Rattle.sha_1.specs.Sha1.{compress, hashed}
-use Rattle.hashing.proofs.Blocks.{hashed_more}
+use Rattle.std.proofs.Common.{◌≡◌, ◌-◌, ◌/◌, ◌≤◌, length}
+use Rattle.sha_1.specs.Sha1.{hashed}
 use Rattle.sha_1.proofs.blocks.hash_blocks.Given as goal
 
 abbrev pub invariant-loop-i : goal.invariant-loop-i

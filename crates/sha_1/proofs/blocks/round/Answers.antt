@@ -1,6 +1,5 @@
 -- `sha1::blocks::round` meets its contract.
 -- Assumes nothing.
-use Rattle.std.proofs.Common.{rules}
 use Rattle.sha_1.proofs.blocks.round.Goals as goal
 
 pub returns : goal.returns

@@ -1,6 +1,6 @@
 -- `sha1::blocks::rounds` meets its contract.
 -- Assumes nothing.
-use Rattle.std.proofs.Common.{refl, rules}
+use Rattle.std.proofs.Common.{refl}
 use Rattle.hashing.specs.Turns.{turns}
 use Rattle.sha_1.specs.Sha1.{rounds}
 use Rattle.sha_1.proofs.blocks.rounds.Goals as goal

@@ -1,10 +1,8 @@
 -- `sha1::blocks::schedule` meets its contract.
 -- Assumes nothing.
-use Rattle.std.proofs.Common.{◌≡◌, ◌+◌, ◌-◌, ◌≤◌, ap, ◌∙◌, arith, rules}
-use Rattle.hashing.specs.Turns.{turns, grown}
-use Rattle.sha_1.specs.Sha1.{next, schedule}
-use Rattle.hashing.proofs.Turns.{Filled, schedule_step, filled_all}
-use Rattle.sha_1.proofs.Rounds.{next_front}
+use Rattle.std.proofs.Common.{◌+◌, ◌-◌, ◌≤◌}
+use Rattle.sha_1.specs.Sha1.{schedule}
+use Rattle.hashing.proofs.Turns.{Filled}
 use Rattle.sha_1.proofs.blocks.schedule.Given as goal
 
 abbrev pub invariant-loop-n : goal.invariant-loop-n

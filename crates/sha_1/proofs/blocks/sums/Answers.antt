@@ -1,6 +1,5 @@
 -- `sha1::blocks::sums` meets its contract.
 -- Assumes nothing.
-use Rattle.std.proofs.Common.{rules}
 use Rattle.sha_1.proofs.blocks.sums.Goals as goal
 
 pub returns : goal.returns

@@ -1,8 +1,7 @@
 -- `sha1::blocks::twenty_rounds` meets its contract.
 -- Assumes nothing.
-use Rattle.std.proofs.Common.{◌≡◌, ◌+◌, ◌-◌, ◌≤◌, ap, ◌∙◌, arith, rules}
+use Rattle.std.proofs.Common.{◌≡◌, ◌+◌, ap, ◌∙◌, arith, rules}
 use Rattle.hashing.proofs.Turns.{turns_more}
-use Rattle.sha_1.specs.declared.Words.{Words}
 use Rattle.sha_1.specs.Sha1.{rounds}
 use Rattle.sha_1.proofs.blocks.twenty_rounds.Goals as goal
 

@@ -1,7 +1,6 @@
 -- `sha1::ending::digest` meets its contract.
 -- Assumes nothing.
 use Rattle.sha_1.proofs.Written.{digest_of}
-use Rattle.std.proofs.Common.{rules}
 use Rattle.sha_1.proofs.ending.digest.Goals as goal
 
 pub returns : goal.returns

@@ -1,6 +1,6 @@
 -- `sha1::ending::padding` meets its contract.
 -- Assumes nothing.
-use Rattle.std.proofs.Common.{ℕ, ◌+◌, ap, rules}
+use Rattle.std.proofs.Common.{ℕ, ◌+◌, ap}
 use Rattle.sha_1.proofs.Written.{padding_of}
 use Rattle.sha_1.proofs.ending.padding.Goals as goal
 

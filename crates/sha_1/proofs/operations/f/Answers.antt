@@ -1,6 +1,6 @@
 -- `sha1::operations::f` meets its contract.
 -- Assumes nothing.
-use Rattle.std.proofs.Common.{sym, ◌∙◌, rules}
+use Rattle.std.proofs.Common.{sym, ◌∙◌}
 use Rattle.sha_1.proofs.Rounds.{in_first, in_second, in_third, in_fourth}
 use Rattle.sha_1.proofs.operations.f.Goals as goal
 

@@ -1,6 +1,6 @@
 -- `sha1::operations::word_at` meets its contract.
 -- Assumes nothing.
-use Rattle.std.proofs.Common.{◌^◌, ◌∙◌, arith, rules}
+use Rattle.std.proofs.Common.{◌^◌, ◌∙◌, arith}
 use Rattle.hashing.proofs.Bytes.{low_word}
 use Rattle.sha_1.specs.Sha1.{word}
 use Rattle.sha_1.proofs.operations.word_at.Goals as goal

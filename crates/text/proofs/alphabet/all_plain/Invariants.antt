@@ -1,14 +1,10 @@
 -- `text::alphabet::all_plain` meets its contract. The loop's invariant: what is left decides.
 -- Assumes nothing.
 use Prim.Native.Nat.{◌-◌}
-use mathlib.Core.Path.{◌≡◌, refl, sym, ◌∙◌}
-use mathlib.Core.Bool.{true}
+use mathlib.Core.Path.{◌≡◌}
 use lib.ListN.{length, drop}
-use borrow.Author.Tests.{not-true, not-false}
 use Rattle.text.specs.Text.{every}
 use Rattle.text.specs.Steps.{belongs}
-use Rattle.text.proofs.Loops.{every_on, every_end}
-use borrow.Author.Rules.{rules}
 use Rattle.text.proofs.alphabet.all_plain.Given as goal
 
 abbrev pub invariant-loop-i : goal.invariant-loop-i

@@ -1,13 +1,8 @@
 -- `text::alphabet::all_wide` meets its contract. The loop's invariant: all says what holds of the bytes passed, and what is left decides.
 -- Assumes nothing.
-use Prim.Native.Nat.{◌-◌}
-use mathlib.Core.Path.{◌≡◌, refl}
-use mathlib.Core.Bool.{◌&&◌}
-use lib.ListN.{length, drop}
-use Rattle.text.specs.Text.{every}
+use mathlib.Core.Path.{refl}
 use Rattle.text.specs.Steps.{belongs}
 use Rattle.text.proofs.Loops.{every_on, every_end}
-use borrow.Author.Rules.{rules}
 use Rattle.text.proofs.alphabet.all_wide.Goals as goal
 
 pub loop-i-init : goal.loop-i-init

@@ -1,13 +1,11 @@
 -- `text::alphabet::all_wide` meets its contract. The loop's invariant: all says what holds of the bytes passed, and what is left decides.
 -- Assumes nothing.
 use Prim.Native.Nat.{◌-◌}
-use mathlib.Core.Path.{◌≡◌, refl}
+use mathlib.Core.Path.{◌≡◌}
 use mathlib.Core.Bool.{◌&&◌}
 use lib.ListN.{length, drop}
 use Rattle.text.specs.Text.{every}
 use Rattle.text.specs.Steps.{belongs}
-use Rattle.text.proofs.Loops.{every_on, every_end}
-use borrow.Author.Rules.{rules}
 use Rattle.text.proofs.alphabet.all_wide.Given as goal
 
 abbrev pub invariant-loop-i : goal.invariant-loop-i

@@ -2,7 +2,6 @@
 -- Assumes nothing.
 use mathlib.Core.Path.{sym, ap, ◌∙◌}
 use Rattle.text.specs.Steps.{belongs}
-use borrow.Author.Rules.{rules}
 use Rattle.text.proofs.alphabet.does_belong.Goals as goal
 
 pub returns-in-Hexadecimal : goal.returns-in-Hexadecimal

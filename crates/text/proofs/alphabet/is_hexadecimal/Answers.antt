@@ -2,7 +2,6 @@
 -- Assumes nothing.
 use mathlib.Core.Path.{sym, ◌∙◌}
 use Rattle.text.proofs.Tests.{or_stop, or_on}
-use borrow.Author.Rules.{rules}
 use Rattle.text.proofs.alphabet.is_hexadecimal.Goals as goal
 
 pub returns-then-is_decimal : goal.returns-then-is_decimal

@@ -5,7 +5,6 @@ use mathlib.Core.Bool.{or-false}
 use borrow.Author.Tests.{eq-eqb, ne_eqb}
 use Rattle.text.specs.Text.{ident_character, one_of, ascii}
 use Rattle.text.proofs.Tests.{or_stop, or_on}
-use borrow.Author.Rules.{rules}
 use Rattle.text.proofs.alphabet.is_ident_character.Goals as goal
 use Rattle.text.proofs.alphabet.is_ident_character.Lts as lts
 use Rattle.text.proofs.alphabet.is_ident_character.Tie.{the-claims}

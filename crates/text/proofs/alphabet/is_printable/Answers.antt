@@ -3,7 +3,6 @@
 use mathlib.Core.Path.{sym, ◌∙◌}
 use Rattle.text.proofs.Tests.{and_stop, and_on}
 use borrow.Author.Tests.{not-true, not-false}
-use borrow.Author.Rules.{rules}
 use Rattle.text.proofs.alphabet.is_printable.Goals as goal
 
 pub returns-then-not-is_from_to : goal.returns-then-not-is_from_to

@@ -3,7 +3,6 @@
 use mathlib.Core.Path.{sym, ◌∙◌}
 use borrow.Author.Tests.{eq-eqb, ne_eqb}
 use Rattle.text.proofs.Tests.{and_stop, and_on}
-use borrow.Author.Rules.{rules}
 use Rattle.text.proofs.alphabet.is_sized.Goals as goal
 
 pub returns-then-s-n : goal.returns-then-s-n

@@ -1,7 +1,6 @@
 -- `text::base16::check_text` meets its contract.
 -- Assumes nothing.
 use Rattle.text.specs.Base16.{check_text}
-use borrow.Author.Rules.{rules}
 use Rattle.text.proofs.base16.check_text.Goals as goal
 
 pub returns : goal.returns

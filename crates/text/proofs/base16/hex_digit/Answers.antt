@@ -2,7 +2,6 @@
 -- Assumes nothing.
 use borrow.Author.Tests.{lt-ltb, le-ltb}
 use Rattle.text.specs.Base16.{hex_digit}
-use borrow.Author.Rules.{rules}
 use Rattle.text.proofs.base16.hex_digit.Goals as goal
 
 pub returns-then-value-lt10 : goal.returns-then-value-lt10

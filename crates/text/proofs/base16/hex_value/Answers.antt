@@ -3,7 +3,6 @@
 use mathlib.Core.Path.{sym, ◌∙◌}
 use Rattle.text.proofs.Tests.{true_T, between_low}
 use Rattle.text.proofs.Hexadecimal.{value_decimal, value_letter, value_none}
-use borrow.Author.Rules.{rules}
 use Rattle.text.proofs.base16.hex_value.Goals as goal
 
 pub overflow_sub-result : goal.overflow_sub-result

@@ -4,7 +4,6 @@ use Prim.Native.Nat.{ℕ, ◌+◌, ◌-◌}
 use mathlib.Core.Path.{ap₂}
 use native.Mathlib.Omega.{arith}
 use Rattle.text.specs.Calendar.{days_before}
-use borrow.Author.Rules.{rules}
 use Rattle.text.proofs.calendar.days_before.Goals as goal
 
 pub returns : goal.returns

@@ -2,7 +2,6 @@
 -- Assumes nothing.
 use mathlib.Core.Path.{sym, ◌∙◌}
 use mathlib.Core.Bool.{true, false}
-use borrow.Author.Rules.{rules}
 use Rattle.text.proofs.Days.{february, thirty, thirty_one}
 use Rattle.text.proofs.calendar.days_of_month.Goals as goal
 

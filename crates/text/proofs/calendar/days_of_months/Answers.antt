@@ -4,7 +4,6 @@ use mathlib.Core.Path.{sym, ◌∙◌}
 use native.Mathlib.Omega.{arith}
 use borrow.Author.Tests.{lt-ltb, le-ltb}
 use Rattle.text.proofs.Counting.{months-closed}
-use borrow.Author.Rules.{rules}
 use Rattle.text.proofs.calendar.days_of_months.Goals as goal
 
 pub returns-then-n-lt2 : goal.returns-then-n-lt2

@@ -3,7 +3,6 @@
 use mathlib.Core.Path.{sym}
 use native.Mathlib.Omega.{arith}
 use Rattle.text.proofs.Counting.{years_closed}
-use borrow.Author.Rules.{rules}
 use Rattle.text.proofs.calendar.days_of_years.Goals as goal
 
 pub returns : goal.returns

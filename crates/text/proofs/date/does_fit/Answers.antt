@@ -2,7 +2,6 @@
 -- Assumes nothing.
 use mathlib.Core.Path.{◌∙◌}
 use borrow.Author.Tests.{eq-eqb, ne_eqb}
-use borrow.Author.Rules.{rules}
 use Rattle.text.proofs.date.does_fit.Goals as goal
 
 pub returns-then-p-eq84 : goal.returns-then-p-eq84

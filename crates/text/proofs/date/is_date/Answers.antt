@@ -10,7 +10,6 @@ use Rattle.text.specs.Text.{Bytes, fits, looks, all_of, timestamp_tests, is_time
 use Rattle.text.proofs.Tests.{and_stop, and_on, true_T}
 use Rattle.text.proofs.Loops.{looks_pairwise, pairwise_length}
 use Rattle.text.proofs.Types.{stamp}
-use borrow.Author.Rules.{rules}
 use Rattle.text.proofs.date.is_date.Goals as goal
 use Rattle.text.proofs.date.is_date.Lts as lts
 use Rattle.text.proofs.date.is_date.Tie.{the-claims}

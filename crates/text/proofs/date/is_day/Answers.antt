@@ -4,7 +4,6 @@ use Prim.Native.Nat.{ℕ}
 use mathlib.Core.Path.{ap, ap₂, ◌∙◌}
 use Rattle.text.specs.Calendar.{days_of_month}
 use Rattle.text.specs.Text.{between, day}
-use borrow.Author.Rules.{rules}
 use Rattle.text.proofs.date.is_day.Goals as goal
 
 pub returns : goal.returns

@@ -2,7 +2,6 @@
 -- Assumes nothing.
 use mathlib.Core.Path.{ap, ◌∙◌}
 use Rattle.text.specs.Text.{between}
-use borrow.Author.Rules.{rules}
 use Rattle.text.proofs.date.is_two_between.Goals as goal
 
 pub returns : goal.returns

@@ -1,13 +1,10 @@
 -- `text::date::looks_like` meets its contract. The loop's invariant: what is left decides.
 -- Assumes nothing.
-use Prim.Native.Nat.{◌-◌}
-use mathlib.Core.Path.{◌≡◌, refl, sym, ◌∙◌}
+use mathlib.Core.Path.{refl, sym, ◌∙◌}
 use native.Mathlib.Omega.{arith}
-use lib.ListN.{length, drop}
 use borrow.Author.Tests.{not-true, not-false}
 use Rattle.text.specs.Text.{fits, looks}
 use Rattle.text.proofs.Loops.{looks_pairwise, apart, pairwise_stop, pairwise_on, pairwise_end}
-use borrow.Author.Rules.{rules}
 use Rattle.text.proofs.date.looks_like.Goals as goal
 
 pub returns-then-pattern-s : goal.returns-then-pattern-s

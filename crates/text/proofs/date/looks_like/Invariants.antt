@@ -1,13 +1,9 @@
 -- `text::date::looks_like` meets its contract. The loop's invariant: what is left decides.
 -- Assumes nothing.
 use Prim.Native.Nat.{◌-◌}
-use mathlib.Core.Path.{◌≡◌, refl, sym, ◌∙◌}
-use native.Mathlib.Omega.{arith}
+use mathlib.Core.Path.{◌≡◌}
 use lib.ListN.{length, drop}
-use borrow.Author.Tests.{not-true, not-false}
-use Rattle.text.specs.Text.{fits, looks}
-use Rattle.text.proofs.Loops.{looks_pairwise, apart, pairwise_stop, pairwise_on, pairwise_end}
-use borrow.Author.Rules.{rules}
+use Rattle.text.specs.Text.{looks}
 use Rattle.text.proofs.date.looks_like.Given as goal
 
 abbrev pub invariant-loop-i : goal.invariant-loop-i

@@ -2,7 +2,6 @@
 -- Assumes nothing.
 use native.Mathlib.Omega.{arith}
 use Rattle.text.proofs.Loops.{number_two}
-use borrow.Author.Rules.{rules}
 use Rattle.text.proofs.date.two.Goals as goal
 
 pub returns : goal.returns

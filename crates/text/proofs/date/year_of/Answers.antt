@@ -3,7 +3,6 @@
 use Prim.Native.Nat.{ℕ, ◌+◌, ◌*◌}
 use mathlib.Core.Path.{sym, ap₂, ◌∙◌}
 use Rattle.text.proofs.Loops.{year_twice}
-use borrow.Author.Rules.{rules}
 use Rattle.text.proofs.date.year_of.Goals as goal
 
 pub returns : goal.returns

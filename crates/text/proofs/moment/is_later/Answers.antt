@@ -4,7 +4,6 @@ use mathlib.Core.Path.{ap₂}
 use lib.Signed.{lt_z}
 use Rattle.text.specs.Later.{later}
 use Rattle.text.proofs.Seconds.{moment_back}
-use borrow.Author.Rules.{rules}
 use Rattle.text.proofs.moment.is_later.Goals as goal
 
 pub returns : goal.returns

@@ -3,7 +3,6 @@
 use mathlib.Core.Path.{ap, ◌∙◌}
 use Rattle.text.specs.declared.moment.Moment.{Moment}
 use Rattle.text.proofs.Seconds.{moment_valid}
-use borrow.Author.Rules.{rules}
 use Rattle.text.proofs.moment.is_timestamp.Goals as goal
 
 pub returns : goal.returns

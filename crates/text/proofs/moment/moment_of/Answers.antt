@@ -9,7 +9,6 @@ use mir.ValLaws.{to_z-of_z}
 use borrow.Author.Tests.{not-true, not-false}
 use Rattle.text.specs.Seconds.{since_year_one, start, seconds, moment_of}
 use Rattle.text.proofs.Tests.{true_T}
-use borrow.Author.Rules.{rules}
 use Rattle.text.proofs.moment.moment_of.Goals as goal
 
 pub returns-then-not-is_date : goal.returns-then-not-is_date

@@ -4,7 +4,6 @@ use mathlib.Core.Path.{ap, ◌∙◌}
 use mir.Syntax.{w64}
 use mir.ValLaws.{to_z-of_z}
 use Rattle.text.specs.Seconds.{twos_complement, big_endian, seconds_bytes}
-use borrow.Author.Rules.{rules}
 use Rattle.text.proofs.moment.seconds_bytes.Goals as goal
 
 pub returns : goal.returns

@@ -1,7 +1,6 @@
 -- `text::moment::since_start` meets its contract.
 -- Assumes nothing.
 use Rattle.text.proofs.Seconds.{difference_fits, difference_is}
-use borrow.Author.Rules.{rules}
 use Rattle.text.proofs.moment.since_start.Goals as goal
 
 pub overflow_sub-result : goal.overflow_sub-result

@@ -10,7 +10,6 @@ use Rattle.text.specs.Seconds.{since_year_one}
 use Rattle.text.proofs.Types.{timestamp_length}
 use Rattle.text.proofs.Counting.{month_most}
 use Rattle.text.proofs.Seconds.{parts}
-use borrow.Author.Rules.{rules}
 use Rattle.text.proofs.moment.since_year_one.Goals as goal
 use Rattle.text.proofs.moment.since_year_one.Lts as lts
 use Rattle.text.proofs.moment.since_year_one.Tie.{the-claims}

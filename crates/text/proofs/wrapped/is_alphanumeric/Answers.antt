@@ -1,7 +1,6 @@
 -- `text::wrapped::is_alphanumeric` meets its contract.
 -- Assumes nothing.
 use Rattle.text.specs.Text.{is_alphanumeric}
-use borrow.Author.Rules.{rules}
 use Rattle.text.proofs.wrapped.is_alphanumeric.Goals as goal
 
 pub returns : goal.returns

@@ -1,7 +1,6 @@
 -- `text::wrapped::is_digits` meets its contract.
 -- Assumes nothing.
 use Rattle.text.specs.Text.{is_digits}
-use borrow.Author.Rules.{rules}
 use Rattle.text.proofs.wrapped.is_digits.Goals as goal
 
 pub returns : goal.returns

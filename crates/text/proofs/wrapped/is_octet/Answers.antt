@@ -10,7 +10,6 @@ use Rattle.text.specs.Text.{is_octet, number}
 use Rattle.text.proofs.Tests.{and_stop, and_on, true_T}
 use Rattle.text.proofs.Loops.{number_three}
 use Rattle.text.proofs.Types.{digits_length}
-use borrow.Author.Rules.{rules}
 use Rattle.text.proofs.wrapped.is_octet.Goals as goal
 use Rattle.text.proofs.wrapped.is_octet.Lts as lts
 use Rattle.text.proofs.wrapped.is_octet.Tie.{the-claims}

@@ -4,7 +4,6 @@ use mathlib.Core.Path.{sym, ◌∙◌}
 use borrow.Author.Tests.{le-leb, lt-leb}
 use Rattle.text.specs.Text.{is_printable}
 use Rattle.text.proofs.Tests.{and_stop, and_on}
-use borrow.Author.Rules.{rules}
 use Rattle.text.proofs.wrapped.is_printable.Goals as goal
 
 pub returns-then-s-lt1 : goal.returns-then-s-lt1

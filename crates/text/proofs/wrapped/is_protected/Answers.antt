@@ -5,7 +5,6 @@ use mathlib.Core.Bool.{and-true}
 use borrow.Author.Tests.{not-true, not-false, eq-eqb, ne_eqb}
 use Rattle.text.specs.Text.{is_protected}
 use Rattle.text.proofs.Tests.{and_stop, and_on}
-use borrow.Author.Rules.{rules}
 use Rattle.text.proofs.wrapped.is_protected.Goals as goal
 
 pub returns-then-not-is_between : goal.returns-then-not-is_between
