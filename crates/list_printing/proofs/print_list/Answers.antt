@@ -5,7 +5,6 @@ use native.Mathlib.Nat.{sub-zero}
 use native.Mathlib.Omega.{arith}
 use Rattle.put.specs.declared.Written.{Written}
 use Rattle.list_text.proofs.Whole.{list-said, list_inside, list_front}
-use borrow.Author.Rules.{rules}
 use Rattle.list_printing.proofs.print_list.Goals as goal
 
 pub slice_bounds-hand_over-end : goal.slice_bounds-hand_over-end
