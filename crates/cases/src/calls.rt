@@ -1,5 +1,6 @@
 // The other calls, by their numbers in the case file.
 use crate::{confirmations, hashes, say};
+use std::io;
 
 pub(crate) fn test(op: usize, n: usize, a: &[u8]) -> bool {
     match op {
@@ -24,27 +25,34 @@ fn check_by_state(a: &[u8]) -> u16 {
     crc.end()
 }
 
-fn print_each(numbers: &[usize; 7]) {
+fn print_each(rt: &impl Print, numbers: &[usize; 7]) -> io::Result<()> {
     let mut i: usize = 0;
     while i < 7 {
-        say::number(numbers[i]);
+        say::number(rt, numbers[i])?;
         i += 1;
     }
+    Ok(())
 }
 
 // The answer, then the starts of all fields, their lengths, and the kinds of the identities among them.
-fn print_answer(read: reading::Answer) {
-    say::outcome(read.no, read.field, read.kind);
+fn print_answer(rt: &impl Print, read: reading::Answer) -> io::Result<()> {
+    say::outcome(rt, read.no, read.field, read.kind)?;
     let starts = read.starts;
-    print_each(&starts);
+    print_each(rt, &starts)?;
     let lens = read.lens;
-    print_each(&lens);
+    print_each(rt, &lens)?;
     let kinds = read.kinds;
-    print_each(&kinds);
+    print_each(rt, &kinds)
 }
 
 // The calls that hand back a part: a field's text, the answer, and the part's length and check.
-fn print_part<'a>(op: usize, n: usize, a: &'a [u8], b: &'a [u8]) {
+fn print_part<'a>(
+    rt: &impl Print,
+    op: usize,
+    n: usize,
+    a: &'a [u8],
+    b: &'a [u8],
+) -> io::Result<()> {
     let mut no: u8 = 0;
     let mut field: u8 = 0;
     let part = match op {
@@ -54,40 +62,46 @@ fn print_part<'a>(op: usize, n: usize, a: &'a [u8], b: &'a [u8]) {
         _ => newer::newer(a, b, &mut no, &mut field),
     };
     if op < 14 {
-        say::text(part);
+        say::text(rt, part)?;
     }
-    say::outcome(no, field, part.len());
-    say::number(crc16::crc_of(part) as usize);
+    say::outcome(rt, no, field, part.len())?;
+    say::number(rt, crc16::crc_of(part) as usize)
 }
 
 // The calls that hand back an attribute of a wrapped key: its text, the answer, and its length and check.
-fn print_attribute<'a>(op: usize, n: usize, a: &'a [u8], b: &[u8]) {
+fn print_attribute<'a>(
+    rt: &impl Print,
+    op: usize,
+    n: usize,
+    a: &'a [u8],
+    b: &[u8],
+) -> io::Result<()> {
     let mut no: u8 = 0;
     let mut field: u8 = 0;
     let part = match op {
         28 => fields::attribute(a, n, &mut no, &mut field),
         _ => fields::attribute_named(a, b, &mut no, &mut field),
     };
-    say::text(part);
-    say::outcome(no, field, part.len());
-    say::number(crc16::crc_of(part) as usize);
+    say::text(rt, part)?;
+    say::outcome(rt, no, field, part.len())?;
+    say::number(rt, crc16::crc_of(part) as usize)
 }
 
-pub(crate) fn print_place(at: fields::Place) {
-    say::outcome(at.no, at.field, at.start);
-    say::number(at.len);
+pub(crate) fn print_place(rt: &impl Print, at: fields::Place) -> io::Result<()> {
+    say::outcome(rt, at.no, at.field, at.start)?;
+    say::number(rt, at.len)
 }
 
-// The first line, by a reader. It holds the file, so this function is proved by hand.
+// The first line, by a reader.
 fn first_line(file: &[u8]) -> files::Line {
     let mut reader = files::Reader::new(file);
     reader.step()
 }
 
 // A place alone where the file is finished.
-fn print_line(line: files::Line) {
+fn print_line(rt: &impl Print, line: files::Line) -> io::Result<()> {
     match line {
-        files::Line::Finished { place } => say::number(place),
+        files::Line::Finished { place } => say::number(rt, place),
         files::Line::Read {
             no,
             field,
@@ -96,55 +110,61 @@ fn print_line(line: files::Line) {
             len,
             next,
         } => {
-            say::outcome(no, field, kind);
-            say::number(start);
-            say::number(len);
-            say::number(next);
+            say::outcome(rt, no, field, kind)?;
+            say::number(rt, start)?;
+            say::number(rt, len)?;
+            say::number(rt, next)
         }
     }
 }
 
-fn print_totals(totals: files::Totals) {
-    say::number(totals.lines);
-    say::number(totals.accepted);
+fn print_totals(rt: &impl Print, totals: files::Totals) -> io::Result<()> {
+    say::number(rt, totals.lines)?;
+    say::number(rt, totals.accepted)
 }
 
-pub(crate) fn run<'a>(op: usize, n: usize, a: &'a [u8], b: &'a [u8]) {
+pub(crate) fn run<'a>(
+    rt: &impl Print,
+    op: usize,
+    n: usize,
+    a: &'a [u8],
+    b: &'a [u8],
+) -> io::Result<()> {
     match op {
-        1..=7 => say::number(test(op, n, a) as usize),
-        8 => say::number(crc16::crc_of(a) as usize),
-        9 => say::number(check_by_state(a) as usize),
-        10 => print_answer(reading::read_identity(a)),
-        11 => print_answer(reading::read_record(a)),
-        12..=15 => print_part(op, n, a, b),
-        16 => print_place(fields::identity_place(a, n)),
-        17 => print_place(fields::record_place(a, n)),
+        1..=7 => say::number(rt, test(op, n, a) as usize),
+        8 => say::number(rt, crc16::crc_of(a) as usize),
+        9 => say::number(rt, check_by_state(a) as usize),
+        10 => print_answer(rt, reading::read_identity(a)),
+        11 => print_answer(rt, reading::read_record(a)),
+        12..=15 => print_part(rt, op, n, a, b),
+        16 => print_place(rt, fields::identity_place(a, n)),
+        17 => print_place(rt, fields::record_place(a, n)),
         18 => {
             let at = items::item_place(a, n);
-            say::outcome(at.no, 0, at.start);
-            say::number(at.len);
+            say::outcome(rt, at.no, 0, at.start)?;
+            say::number(rt, at.len)
         }
         19 => {
             let chosen = newer::newer_of(a, b);
-            say::outcome(chosen.no, chosen.field, chosen.which as usize);
+            say::outcome(rt, chosen.no, chosen.field, chosen.which as usize)
         }
-        20 => print_line(files::line_at(a, n)),
-        21 => print_line(files::step_from(a, n)),
-        22 => print_line(first_line(a)),
-        23 => print_totals(files::count(a)),
-        28 => print_attribute(op, n, a, b),
-        29 => print_place(fields::attribute_place(a, n)),
-        30 => print_attribute(op, n, a, b),
-        31 => print_place(fields::attribute_named_place(a, b)),
-        32 => hashes::print_sha384(a),
-        33 => hashes::print_sha384_by_state(n, a),
-        34 => hashes::print_check(a),
-        36 => confirmations::print_hmac(a, b),
-        39 => hashes::print_sha1(a),
-        40 => hashes::print_sha1_by_state(n, a),
-        41 => print_answer(trailed::read_trailed(a)),
-        42 => print_line(trailed::trailed_at(a, n)),
-        43 => print_totals(trailed::count_trailed(a)),
-        _ => {}
+        20 => print_line(rt, files::line_at(a, n)),
+        21 => print_line(rt, files::step_from(a, n)),
+        22 => print_line(rt, first_line(a)),
+        23 => print_totals(rt, files::count(a)),
+        28 => print_attribute(rt, op, n, a, b),
+        29 => print_place(rt, fields::attribute_place(a, n)),
+        30 => print_attribute(rt, op, n, a, b),
+        31 => print_place(rt, fields::attribute_named_place(a, b)),
+        32 => hashes::print_sha384(rt, a),
+        33 => hashes::print_sha384_by_state(rt, n, a),
+        34 => hashes::print_check(rt, a),
+        36 => confirmations::print_hmac(rt, a, b),
+        39 => hashes::print_sha1(rt, a),
+        40 => hashes::print_sha1_by_state(rt, n, a),
+        41 => print_answer(rt, trailed::read_trailed(a)),
+        42 => print_line(rt, trailed::trailed_at(a, n)),
+        43 => print_totals(rt, trailed::count_trailed(a)),
+        _ => Ok(()),
     }
 }

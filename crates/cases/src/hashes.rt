@@ -2,20 +2,22 @@
 ghost use Rattle.std.specs.Prelude.{◌<◌};
 
 use crate::say;
+use std::io;
 
 // Past every text of the case file.
 const WHOLE: usize = 131072;
 
-fn print_byte(byte: u8) {
-    say::number(byte as usize);
+fn print_byte(rt: &impl Print, byte: u8) -> io::Result<()> {
+    say::number(rt, byte as usize)
 }
 
-pub(crate) fn print_bytes(bytes: &[u8]) {
+pub(crate) fn print_bytes(rt: &impl Print, bytes: &[u8]) -> io::Result<()> {
     let mut i: usize = 0;
     while i < bytes.len() {
-        print_byte(bytes[i]);
+        print_byte(rt, bytes[i])?;
         i += 1;
     }
+    Ok(())
 }
 
 // How many bytes a piece has; with 0 it has all.
@@ -60,30 +62,30 @@ fn give(n: usize, a: &[u8]) -> Given {
     add(given, &a[at..])
 }
 
-pub(crate) fn print_sha384(a: &[u8]) {
+pub(crate) fn print_sha384(rt: &impl Print, a: &[u8]) -> io::Result<()> {
     let digest = sha384::sha384_of(a);
-    print_bytes(&digest);
+    print_bytes(rt, &digest)
 }
 
-pub(crate) fn print_sha384_by_state(n: usize, a: &[u8]) {
+pub(crate) fn print_sha384_by_state(rt: &impl Print, n: usize, a: &[u8]) -> io::Result<()> {
     let state = give(n, a).sha384;
     let digest = state.end();
-    print_bytes(&digest);
+    print_bytes(rt, &digest)
 }
 
-pub(crate) fn print_sha1(a: &[u8]) {
+pub(crate) fn print_sha1(rt: &impl Print, a: &[u8]) -> io::Result<()> {
     let digest = sha_1::sha1_of(a);
-    print_bytes(&digest);
+    print_bytes(rt, &digest)
 }
 
-pub(crate) fn print_sha1_by_state(n: usize, a: &[u8]) {
+pub(crate) fn print_sha1_by_state(rt: &impl Print, n: usize, a: &[u8]) -> io::Result<()> {
     let state = give(n, a).sha1;
     let digest = state.end();
-    print_bytes(&digest);
+    print_bytes(rt, &digest)
 }
 
-pub(crate) fn print_check(a: &[u8]) {
+pub(crate) fn print_check(rt: &impl Print, a: &[u8]) -> io::Result<()> {
     let said = fingerprint::check_fingerprint(a);
-    say::number(said.no as usize);
-    say::number(said.field as usize);
+    say::number(rt, said.no as usize)?;
+    say::number(rt, said.field as usize)
 }

@@ -1,17 +1,18 @@
 // A TIMESTAMP and the Expiry of a public key as numbers of seconds.
 use crate::{input, say};
+use std::io;
 
-pub(crate) fn print_moment(a: &[u8]) {
+pub(crate) fn print_moment(rt: &impl Print, a: &[u8]) -> io::Result<()> {
     let moment = text::moment_of(a);
-    say::number(moment.valid as usize);
-    say::signed(moment.seconds);
+    say::number(rt, moment.valid as usize)?;
+    say::signed(rt, moment.seconds)
 }
 
-pub(crate) fn print_expiry(a: &[u8]) {
+pub(crate) fn print_expiry(rt: &impl Print, a: &[u8]) -> io::Result<()> {
     let said = expiry::expiry_of(a);
-    say::number(said.no as usize);
-    say::number(said.field as usize);
-    say::signed(said.seconds);
+    say::number(rt, said.no as usize)?;
+    say::number(rt, said.field as usize)?;
+    say::signed(rt, said.seconds)
 }
 
 // What the last seven of the eight bytes of a number of seconds say.

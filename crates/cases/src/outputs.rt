@@ -2,6 +2,7 @@
 ghost use Rattle.std.specs.Prelude.{◌≡◌, length};
 
 use crate::{input, say};
+use std::io;
 
 // Room for the longest output that is lent, which has more bytes than a number of two bytes can say, and more than a key
 // cabinet.
@@ -41,19 +42,33 @@ fn write_to(op: usize, a: &[u8], b: &[u8], c: &[u8], out: &mut [u8]) -> put::Wri
 }
 
 // A record that was built or read, a line or a block that was written, the answer, and the check of the whole output.
-fn print(op: usize, made: put::Written, space: &[u8; 66560], room: usize) {
+fn print(
+    rt: &impl Print,
+    op: usize,
+    made: put::Written,
+    space: &[u8; 66560],
+    room: usize,
+) -> io::Result<()> {
     if op == 27 || op >= 44 {
-        say::text(input::cut(space, 0, made.len));
+        say::text(rt, input::cut(space, 0, made.len))?;
     }
-    say::outcome(made.no, made.field, made.len);
-    say::number(crc16::crc_of(input::cut(space, 0, room)) as usize);
+    say::outcome(rt, made.no, made.field, made.len)?;
+    say::number(rt, crc16::crc_of(input::cut(space, 0, room)) as usize)
 }
 
 // The call is lent an output of n bytes that holds `before`, and behind it zeros.
-pub(crate) fn write(op: usize, a: &[u8], b: &[u8], c: &[u8], n: usize, before: &[u8]) {
+pub(crate) fn write(
+    rt: &impl Print,
+    op: usize,
+    a: &[u8],
+    b: &[u8],
+    c: &[u8],
+    n: usize,
+    before: &[u8],
+) -> io::Result<()> {
     let mut space = zeros();
     put::put(&mut space, 0, before);
     let room = n % 66561;
     let made = write_to(op, a, b, c, &mut space[..room]);
-    print(op, made, &space, room);
+    print(rt, op, made, &space, room)
 }

@@ -1,5 +1,6 @@
 // Calls that are made for every byte value in one place of a text, by their numbers in the case file.
 use crate::{calls, filing, input, moments, say};
+use std::io;
 
 fn pair(no: u8, field: u8) -> usize {
     (no as usize) * 100 + (field as usize)
@@ -65,7 +66,14 @@ fn answer_of(op: usize, n: usize, a: &[u8], byte: u8, b: &[u8], check: &[u8]) ->
 
 // Every byte value between a and b, and behind them its own four bytes of c, the check that it makes right. Where the answer is
 // not that of the value before, the value and the answer are printed.
-pub(crate) fn sweep(op: usize, n: usize, a: &[u8], b: &[u8], c: &[u8]) {
+pub(crate) fn sweep(
+    rt: &impl Print,
+    op: usize,
+    n: usize,
+    a: &[u8],
+    b: &[u8],
+    c: &[u8],
+) -> io::Result<()> {
     let mut last: usize = 65536;
     let mut byte: usize = 0;
     while byte < 256 {
@@ -78,10 +86,11 @@ pub(crate) fn sweep(op: usize, n: usize, a: &[u8], b: &[u8], c: &[u8]) {
             input::cut(c, byte * 4, byte * 4 + 4),
         );
         if said != last {
-            say::number(byte);
-            say::number(said);
+            say::number(rt, byte)?;
+            say::number(rt, said)?;
         }
         last = said;
         byte += 1;
     }
+    Ok(())
 }

@@ -22,12 +22,12 @@ use Rattle.format.specs.Kinds.{mark, record_kinds}
 use Rattle.format.specs.Build.{Built}
 use Rattle.format.specs.Read.{last_or, read_record}
 use Rattle.format.specs.Files.{walk}
-use Rattle.format.specs.Damage.{Accepted, Refused, DamagedOver, WithinTwo, Flipped, InCheck, Catches, AllCaught}
+use Rattle.format.specs.Damage.{Accepted, Refused, DamagedBy, Damaged, WithinTwo, Flipped, InCheck, Catches, CatchesBy, AllCaught}
 use Rattle.format.proofs.Table.{all_among}
 use Rattle.format.proofs.Parts.{last_at, built_last, built_check}
 use Rattle.format.proofs.Outcomes.{NeverZero, honest_map}
 use Rattle.format.proofs.Exactly.{record_exact, record_says, built_length}
-use Rattle.format.proofs.DamagedLines.{part_law, part_bytes, not_accepted, all_lines_caught}
+use Rattle.format.proofs.DamagedLines.{damaged_by_two, catches_by_two, part_law, part_bytes, not_accepted, all_lines_caught}
 
 -- s is n bytes, of which the last is m, and then their check
 abbrev Checked : ℕ → ℕ → Bytes → Type 0
@@ -102,13 +102,16 @@ module _ (x y : Bytes) (bx : AreBytes x) (by : AreBytes y) (long : length x ≡ 
   not_both : Flipped x y → ⊥
   not_both f = never_flipped x y bx by long (code "|") front (accepted_short x ax) checked_x checked_y (f.before_check ∙ rw long) f.odd_or_two
 
-pub record_catches : Catches read_record WithinTwo
-record_catches x y bx by long (i, near) ax ay = two_same x y bx by long ax ay i near
+pub record_catches : Catches read_record
+record_catches x y bx by long i near ax ay = two_same x y bx by long ax ay i near
 
-pub flips_refused : Catches read_record Flipped
+pub record_catches_by_two : CatchesBy read_record WithinTwo
+record_catches_by_two = catches_by_two read_record record_catches
+
+pub flips_refused : CatchesBy read_record Flipped
 flips_refused x y bx by long f ax ay = absurd (not_both x y bx by long ax ay f)
 
-pub checks_refused : Catches read_record InCheck
+pub checks_refused : CatchesBy read_record InCheck
 checks_refused x y bx by long e ax ay = fronts_decide x y bx by long ax ay (e ∙ rw long)
 
 pub record_never_zero : NeverZero read_record
@@ -119,5 +122,9 @@ pub flipped_refused : (x y : Bytes) → AreBytes x → AreBytes y → length x �
 flipped_refused x y bx by long f ax = not_accepted read_record record_never_zero y (λ ay. not_both x y bx by long ax ay f)
 
 -- in files of plain records
-pub damage_caught : (Harm : Bytes → Bytes → Type 0) → Catches read_record Harm → (a b : Bytes) → DamagedOver read_record Harm a b → AllCaught a b (walk a) (walk b)
-damage_caught Harm = all_lines_caught read_record Harm record_never_zero
+pub damage_caught_by : (Harm : Bytes → Bytes → Type 0) → CatchesBy read_record Harm → (a b : Bytes) → DamagedBy read_record Harm a b → AllCaught a b (walk a) (walk b)
+damage_caught_by Harm = all_lines_caught read_record Harm record_never_zero
+
+-- demand 3
+pub damage_caught : (a b : Bytes) → Damaged a b → AllCaught a b (walk a) (walk b)
+damage_caught a b d = damage_caught_by WithinTwo record_catches_by_two a b (damaged_by_two read_record a b d)

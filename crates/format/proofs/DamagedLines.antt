@@ -17,7 +17,7 @@ use Rattle.text.proofs.Tests.{by_test, less_or, T_true, T_false}
 use Rattle.numbers.specs.Numbers.{unfinished}
 use Rattle.format.specs.Read.{Outcome, accepted, refused}
 use Rattle.format.specs.Files.{line_feed, up_to, Line, walk_from_over, walk_over}
-use Rattle.format.specs.Damage.{Differ, Inside, Accepted, Refused, bytes_in, DamagedOver, WithinTwo, Either, Catches, Caught, AllCaught}
+use Rattle.format.specs.Damage.{Differ, Inside, Accepted, Refused, bytes_in, DamagedOver, DamagedBy, WithinTwo, Either, Catches, CatchesBy, Caught, AllCaught}
 use Rattle.format.proofs.Outcomes.{Numbered, NeverZero}
 use Rattle.format.proofs.Lines.{Feed, line_to, at_end, at_line, at_unfinished, by_place}
 
@@ -97,7 +97,22 @@ not_accepted call never-zero s = go (call s) (never-zero s)
 
 -- ---- the lines of two files
 
-module _ (call : Bytes → Outcome) (Harm : Bytes → Bytes → Type 0) (never-zero : NeverZero call) (catches : Catches call Harm) (a b : Bytes) (d : DamagedOver call Harm a b) where
+-- damage within two neighbouring places of the file is damage within two of each line
+pub damaged_by_two : (call : Bytes → Outcome) (a b : Bytes) → DamagedOver call a b → DamagedBy call WithinTwo a b
+damaged_by_two call a b d = record {
+  bytes_a = d.bytes_a;
+  bytes_b = d.bytes_b;
+  long = d.long;
+  no-feed = d.no-feed;
+  in_accepted = d.in_accepted;
+  harmed = λ l m p h differ. (within_line a b l).1 (d.within_two l m);
+}
+
+-- and a call that catches two neighbouring bytes catches it
+pub catches_by_two : (call : Bytes → Outcome) → Catches call → CatchesBy call WithinTwo
+catches_by_two call catches x y bx by long (i, near) = catches x y bx by long i near
+
+module _ (call : Bytes → Outcome) (Harm : Bytes → Bytes → Type 0) (never-zero : NeverZero call) (catches : CatchesBy call Harm) (a b : Bytes) (d : DamagedBy call Harm a b) where
   feed_same : (p e : ℕ) → Feed a p e → Feed b p e
   feed_same p e f =
       f ∙ ap (◌+◌ p) (up_to_length line_feed (drop p a) (drop p b) (simp (length-drop, d.long))
@@ -145,5 +160,5 @@ module _ (call : Bytes → Outcome) (Harm : Bytes → Bytes → Type 0) (never-z
   unfolding walk_over
   all_lines_caught = rw (← d.long) (all_caught (length a) 0 (λ l m. m))
 
-pub either_caught : (call : Bytes → Outcome) (P Q : Bytes → Bytes → Type 0) → Catches call P → Catches call Q → Catches call (Either P Q)
+pub either_caught : (call : Bytes → Outcome) (P Q : Bytes → Bytes → Type 0) → CatchesBy call P → CatchesBy call Q → CatchesBy call (Either P Q)
 either_caught call P Q p q x y bx by long = ⊎_elim (p x y bx by long) (q x y bx by long)

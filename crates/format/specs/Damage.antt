@@ -27,8 +27,25 @@ Refused o = (n i : ℕ) × (o ≡ refused n i) × (n ≢ 0)
 abbrev pub bytes_in : Line → Bytes → Bytes
 bytes_in l file = part l.start l.size file
 
--- b is a with damage, where `call` is asked about each line, and `Harm` says how the bytes of a damaged line stand to what it was
-pub record DamagedOver (call : Bytes → Outcome) (Harm : Bytes → Bytes → Type 0) (a b : Bytes) : Type 0 where
+-- b is a with damage that must be caught, where `call` is asked about each line
+pub record DamagedOver (call : Bytes → Outcome) (a b : Bytes) : Type 0 where
+  pub bytes_a : AreBytes a
+  pub bytes_b : AreBytes b
+  -- two record files of equal length
+  pub long : length a ≡ length b
+  -- no differing byte a line feed in either file
+  pub no-feed : (p : ℕ) → Differ a b p → (get_or a p 0 ≢ line_feed) × (get_or b p 0 ≢ line_feed)
+  -- they differ only inside lines which the first accepts
+  pub in_accepted : (l : Line) → Memᴰ l (walk_over call a) → (p : ℕ) → Inside l p → Differ a b p → Accepted l.said
+  -- in each such line within two neighbouring places
+  pub within_two : (l : Line) → Memᴰ l (walk_over call a) → (i : ℕ) × ((p : ℕ) → Inside l p → Differ a b p → (p ≡ i) ⊎ (p ≡ i + 1))
+
+-- in plain files
+abbrev pub Damaged : Bytes → Bytes → Type 0
+Damaged = DamagedOver read_record
+
+-- the same where `Harm` says how a line is damaged: b is a with damage, where `call` is asked about each line, and `Harm` says how the bytes of a damaged line stand to what it was
+pub record DamagedBy (call : Bytes → Outcome) (Harm : Bytes → Bytes → Type 0) (a b : Bytes) : Type 0 where
   pub bytes_a : AreBytes a
   pub bytes_b : AreBytes b
   -- two record files of equal length
@@ -40,7 +57,7 @@ pub record DamagedOver (call : Bytes → Outcome) (Harm : Bytes → Bytes → Ty
   -- in each such line so
   pub harmed : (l : Line) → Memᴰ l (walk_over call a) → (p : ℕ) → Inside l p → Differ a b p → Harm (bytes_in l a) (bytes_in l b)
 
--- within two neighbouring places: demand 3
+-- within two neighbouring places: such damage is that of `DamagedOver`
 abbrev pub WithinTwo : Bytes → Bytes → Type 0
 WithinTwo x y = (i : ℕ) × Near i x y
 
@@ -57,13 +74,14 @@ InCheck x y = body x ≡ body y
 abbrev pub Either : (Bytes → Bytes → Type 0) → (Bytes → Bytes → Type 0) → Bytes → Bytes → Type 0
 Either P Q x y = P x y ⊎ Q x y
 
--- demand 3 in plain files
-abbrev pub Damaged : Bytes → Bytes → Type 0
-Damaged = DamagedOver read_record WithinTwo
+-- what makes a call catch it: of two lines of one length that differ at most in two neighbouring bytes it accepts only one, unless they are the same
+abbrev pub Catches : (Bytes → Outcome) → Type 0
+Catches call =
+    (x y : Bytes) → AreBytes x → AreBytes y → length x ≡ length y → (i : ℕ) → Near i x y → Accepted (call x) → Accepted (call y) → x ≡ y
 
--- what makes a call catch it: of two lines of one length, of which the second is the first so harmed, it accepts only one, unless they are the same
-abbrev pub Catches : (Bytes → Outcome) → (Bytes → Bytes → Type 0) → Type 0
-Catches call Harm = (x y : Bytes) → AreBytes x → AreBytes y → length x ≡ length y → Harm x y → Accepted (call x) → Accepted (call y) → x ≡ y
+-- the same of a harm: of two lines of one length, of which the second is the first so harmed, it accepts only one, unless they are the same
+abbrev pub CatchesBy : (Bytes → Outcome) → (Bytes → Bytes → Type 0) → Type 0
+CatchesBy call Harm = (x y : Bytes) → AreBytes x → AreBytes y → length x ≡ length y → Harm x y → Accepted (call x) → Accepted (call y) → x ≡ y
 
 -- the line l of a, and the line m of b
 pub record Caught (a b : Bytes) (l m : Line) : Type 0 where

@@ -4,11 +4,13 @@
 
 ghost use Rattle.std.specs.Prelude.{◌≡◌, length};
 
-use libc::STDOUT_FILENO;
+use std::io;
+use std::io::Stdout;
 
-fn list(title: &[u8], file: &[u8]) {
-    io::write_all(STDOUT_FILENO, title);
-    list_printing::print_list(file);
+fn list(output: Stdout, title: &[u8], file: &[u8]) -> io::Result<()> {
+    output.write_all(title)?;
+    list_printing::print_list(output, file);
+    Ok(())
 }
 
 // One byte more than is listed. The length is stated because a proof that looked at this many zeros would be slow.
@@ -27,14 +29,16 @@ fn front<'a>(file: &'a [u8], len: usize) -> &'a [u8] {
     &file[0..len]
 }
 
-fn main() {
+fn main(rt: HostRuntime) -> io::Result<()> {
+    let output = rt.stdout();
     let zeros = zeros();
-    list(b"01's example\n", b"\nPK.ECDH.2|x\nabc");
-    list(b"no bytes\n", b"");
-    list(b"three line feeds\n", b"\n\n\n");
+    list(output, b"01's example\n", b"\nPK.ECDH.2|x\nabc")?;
+    list(output, b"no bytes\n", b"")?;
+    list(output, b"three line feeds\n", b"\n\n\n")?;
     list(
+        output,
         b"as many bytes as are taken\n",
         front(&zeros, list_text::MOST),
-    );
-    list(b"one byte more\n", &zeros);
+    )?;
+    list(output, b"one byte more\n", &zeros)
 }

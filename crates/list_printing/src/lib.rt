@@ -6,7 +6,7 @@ ghost use Rattle.std.specs.Prelude.{◌≡◌, length};
 ghost use Rattle.list_text.specs.Listing.{list_room, list_text};
 ghost use Rattle.list_printing.specs.Printing.{print_list};
 
-use libc::STDOUT_FILENO;
+use std::io::Stdout;
 
 // Room for any list. The length is stated because a proof that looked at this many zeros would be slow.
 fn room() -> [u8; list_text::ROOM]
@@ -24,19 +24,19 @@ pub struct Printed {
 
 // Hands a text to the kernel, and answers whether all of it was taken, of which no contract can speak. It has to be the list
 // of the file: so says the `requires`.
-fn hand_over(file: &[u8], text: &[u8]) -> bool
+fn hand_over(output: Stdout, file: &[u8], text: &[u8]) -> bool
     requires { text.now ≡ list_text file.now }
 {
-    io::write_all(STDOUT_FILENO, text)
+    output.write_all(text).is_ok()
 }
 
 // Prints the list of a file, or "too big". A write that fails is not tried again.
-pub fn print_list(file: &[u8]) -> Printed
+pub fn print_list(output: Stdout, file: &[u8]) -> Printed
     ensures { result.len ≡ print_list file.now }
 {
     let mut text = room();
     let made = list_text::write_list(file, &mut text);
     let len = made.len;
-    let taken = hand_over(file, &text[0..len]);
+    let taken = hand_over(output, file, &text[0..len]);
     Printed { len, taken }
 }

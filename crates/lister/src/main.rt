@@ -1,16 +1,16 @@
-// Prints what stands in a file of records on standard input: document 01, "Files of records and the newer key". A program of
-// Rattle has no exit status of its own, so a list that could not be written is a line on standard error, of which `./list`
-// makes one.
+// Prints what stands in a file of records on standard input: document 01, "Files of records and the newer key". A list that
+// could not be written is a line on standard error, of which `./list` makes an exit status.
 #![tactic(auto)]
 
-use libc::{STDERR_FILENO, STDIN_FILENO};
+use std::io;
 
 // One byte more than is listed is asked for, which tells a file that is too big.
-fn main() {
+fn main(rt: HostRuntime) -> io::Result<()> {
     let mut data = [0u8; list_text::MOST + 1];
-    let n = io::read_full(STDIN_FILENO, &mut data);
-    let printed = list_printing::print_list(&data[..n]);
+    let n = standard_input::read_full(&mut rt.stdin(), &mut data)?;
+    let printed = list_printing::print_list(rt.stdout(), &data[..n]);
     if !printed.taken {
-        io::write_all(STDERR_FILENO, b"lister: the list could not be written\n");
+        eprintln!(rt; "lister: the list could not be written")?;
     }
+    Ok(())
 }

@@ -28,7 +28,7 @@ use Rattle.given.proofs.Given.{said_own, said_short, said_whole, said_zero, refu
 use Rattle.agreement.specs.Texts.{text_made, shared_info, module_text, centre_text}
 use Rattle.agreement.proofs.Request.{one_built}
 use Rattle.agreement.proofs.Texts.{items_concat, qe_length}
-use Rattle.promises.specs.Agreement.{TextSaid, ItemSaid, ItemPlaceSaid, Agreement}
+use Rattle.promises.proofs.Statements.Agreement.{TextSaid, ItemSaid, ItemPlaceSaid, Agreement}
 
 -- ---- a text
 

@@ -26,7 +26,7 @@ use Rattle.fields.specs.Attributes.{list_said, cards_said, attribute_part, attri
 use Rattle.fields.specs.declared.Place.{Place}
 use Rattle.fields.proofs.Wanted.{outside}
 use Rattle.promises.proofs.Reading.{nothing, nowhere_refused, own_first}
-use Rattle.promises.specs.Attributes.{Wrapped, card_start, IsCard, CardAt, Attributes}
+use Rattle.promises.proofs.Statements.Attributes.{Wrapped, card_start, IsCard, CardAt, Attributes}
 
 -- ---- names
 

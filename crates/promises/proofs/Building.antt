@@ -19,7 +19,7 @@ use Rattle.put.specs.declared.Written.{Written}
 use Rattle.building.specs.Building.{run, build_of, record_made, build}
 use Rattle.places.specs.Places.{lengths}
 use Rattle.building.proofs.Exact.{build_exact, build_honest, build_permitted, rebuilt}
-use Rattle.promises.specs.Building.{BuildSaid, Building}
+use Rattle.promises.proofs.Statements.Building.{BuildSaid, Building}
 
 number : (o : Outcome) → (says (record_made o)).no ≡ answer o
 number (accepted k fs) = refl

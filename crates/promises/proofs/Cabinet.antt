@@ -50,8 +50,8 @@ use Rattle.cabinet.proofs.Bridge.{first_none}
 use Rattle.cabinet.proofs.Bytes.{tvp_alone}
 use Rattle.cabinet.proofs.Calls.{dated_so}
 use Rattle.cabinet.proofs.Cabinets.{places_are, width_is, Read, its, all_read, read_all, distinct_so, cabinet_so, none_there, some_there}
-use Rattle.promises.specs.Cabinet.{place_in, first_tvp, IsTvp, place_of, Filled, Old, Share, Shared, IsCabinet, with_place, with_tvp, PutSaid, There, RemoveSaid, Module, AdmitSaid, FindSaid, Step, Ran, Gives, answer_to, Answers, Remembers, begun, Cabinet}
-use Rattle.promises.specs.Cabinet as said
+use Rattle.promises.proofs.Statements.Cabinet.{place_in, first_tvp, IsTvp, place_of, Filled, Old, Share, Shared, IsCabinet, with_place, with_tvp, PutSaid, There, RemoveSaid, Module, AdmitSaid, FindSaid, Step, Ran, Gives, answer_to, Answers, Remembers, begun, Cabinet}
+use Rattle.promises.proofs.Statements.Cabinet as said
 
 -- ---- a public key's names, and what a place holds
 

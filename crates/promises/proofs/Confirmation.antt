@@ -37,8 +37,8 @@ use Rattle.hmac.specs.State.{hmac_begun, hmac_ended}
 use Rattle.hmac.proofs.Tags.{tag_size, tag_bytes}
 use Rattle.confirm.specs.Confirm.{kdf, derived, mac_key, kek, module_tag, centre_tag, request_tag, response_tag, answers, Confirmation, keys, denies, says_of, mac_key_of, kek_of, request_by, response_by, Confirms, confirm_request, confirm_response}
 use Rattle.confirm.specs.declared.Confirmed.{Confirmed}
-use Rattle.promises.specs.Refusals.{of_loads}
-use Rattle.promises.specs.Confirmation.{plain, Asked, RequestSaid, Answered, ResponseSaid, SameButTag, Confirmations}
+use Rattle.promises.proofs.Statements.Refusals.{of_loads}
+use Rattle.promises.proofs.Statements.Confirmation.{plain, Asked, RequestSaid, Answered, ResponseSaid, SameButTag, Confirmations}
 use Rattle.promises.proofs.Refusals.{load_given}
 
 -- ---- three tests in a row, as both calls have them: 16, then y, which is 10 or 17, then 18

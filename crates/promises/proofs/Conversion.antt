@@ -5,7 +5,7 @@ use Rattle.text.specs.Text.{hexadecimal, one_of}
 use Rattle.text.specs.Base16.{hex_digit, hex_value}
 use Rattle.text.proofs.Tests.{one-of, all_below, below}
 use Rattle.text.proofs.Hexadecimal.{value_digit, valued}
-use Rattle.promises.specs.Conversion.{sixteen, Conversion}
+use Rattle.promises.proofs.Statements.Conversion.{sixteen, Conversion}
 
 pub conversion : Conversion
 unfolding hex_digit all_below

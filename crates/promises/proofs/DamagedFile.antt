@@ -24,9 +24,10 @@ use Rattle.format.specs.Build.{with_check, record_of}
 use Rattle.format.specs.Read.{Outcome, accepted, check, read_record}
 use Rattle.format.specs.Files as format
 use Rattle.format.specs.Files.{line_feed, read, line_at, walk_over, walk, lines_from_over, lines_from}
-use Rattle.format.specs.Damage.{Differ, Inside, Accepted, bytes_in, DamagedOver, WithinTwo, Flipped, Damaged}
+use Rattle.format.specs.Damage.{Differ, Inside, Accepted, bytes_in, DamagedOver, DamagedBy, WithinTwo, Flipped, Damaged}
 use Rattle.format.proofs.Exactly.{record_exact}
 use Rattle.format.proofs.DamagedLines.{within_line}
+use Rattle.format.proofs.Damage.{record_catches_by_two}
 use Rattle.format.proofs.Lines.{rest_walk, walk_lines}
 use Rattle.reading.specs.Reading.{answer_of}
 use Rattle.files.specs.declared.Line.{Line}
@@ -36,12 +37,12 @@ use Rattle.hashing.specs.Turns.{turns, grown}
 use Rattle.hashing.specs.Blocks.{block, hashed}
 use Rattle.sha_1.specs.Sha1 as short
 use Rattle.trailed.specs.Trailed.{trailer, trailed, record_in, InRecord, read_trailed, trailed_at, walk_trailed}
-use Rattle.trailed.proofs.Trailed.{trailed_read}
-use Rattle.promises.specs.Files.{PlainSays}
-use Rattle.promises.specs.Trailed.{TrailedSays}
-use Rattle.promises.specs.Demand3.{Called, none, more, AllCaughtSaid, DamageCaught}
+use Rattle.trailed.proofs.Trailed.{trailed_read, trailed_within_two}
+use Rattle.promises.proofs.Statements.Files.{PlainSays}
+use Rattle.promises.proofs.Statements.Trailed.{TrailedSays}
+use Rattle.promises.proofs.Statements.Demand3.{Called, none, more, AllCaughtSaid, DamageCaughtBy}
 use Rattle.promises.specs.Worked.{module_id_fields, module_id, centre_id_fields, centre_id, centre_key_fields, centre_key, response_fields, response, fields_of_worked, sound_lines, sound_file, damaged_file, flipped_file, trailed_file, damaged_trailed_file, flipped_trailed_file}
-use Rattle.promises.proofs.Demand3.{demand3}
+use Rattle.promises.proofs.Demand3.{plain_caught, trailed_caught}
 use Rattle.promises.proofs.FlippedBits.{flipped_bits}
 use Rattle.promises.proofs.Permitted.{permitted, unsigned, built_of}
 
@@ -88,7 +89,7 @@ module _ (a : Bytes) (i j x y : ℕ) where
     abbrev HarmedThere : List format.Line → Type 0
     HarmedThere ls = (l : format.Line) → Memᴰ l ls → (p : ℕ) → Inside l p → (p ≡ i) ⊎ (p ≡ j) → Accepted l.said × Harm (bytes_in l a) (bytes_in l changed)
 
-    two_changed : AreBytes a → x < 256 → y < 256 → T no_feed → HarmedThere (walk_over call a) → DamagedOver call Harm a changed
+    two_changed : AreBytes a → x < 256 → y < 256 → T no_feed → HarmedThere (walk_over call a) → DamagedBy call Harm a changed
     two_changed bytes small-x small-y t there = record {
       bytes_a = bytes;
       bytes_b = set_bytes (set a i x) j y small-y (set_bytes a i x small-x bytes);
@@ -101,6 +102,17 @@ module _ (a : Bytes) (i j x y : ℕ) where
         go : (p : ℕ) → (p ≡ i) ⊎ (p ≡ j) → (get_or a p 0 ≢ line_feed) × (get_or changed p 0 ≢ line_feed)
         go p (inl e) = rw e (no_feed_at t 0, no_feed_at t 2)
         go p (inr e) = rw e (no_feed_at t 1, no_feed_at t 3)
+
+-- two neighbouring places of the whole file are two of each line
+over_two : (call : Bytes → Outcome) (a b : Bytes) → DamagedBy call WithinTwo a b → (i : ℕ) → ((p : ℕ) → Differ a b p → (p ≡ i) ⊎ (p ≡ i + 1)) → DamagedOver call a b
+over_two call a b d i near = record {
+  bytes_a = d.bytes_a;
+  bytes_b = d.bytes_b;
+  long = d.long;
+  no-feed = d.no-feed;
+  in_accepted = d.in_accepted;
+  within_two = λ l m. (i, λ p h differ. near p differ);
+}
 
 -- ---- a plain file
 
@@ -155,7 +167,7 @@ module _ (Harm : Bytes → Bytes → Type 0) (i j x y : ℕ) (there : (p : ℕ) 
   abbrev after : Bytes
   after = changed sound_file i j x y
 
-  second_damaged : x < 256 → y < 256 → T (no_feed sound_file i j x y) → Harm (bytes_in second sound_file) (bytes_in second after) → DamagedOver read_record Harm sound_file after
+  second_damaged : x < 256 → y < 256 → T (no_feed sound_file i j x y) → Harm (bytes_in second sound_file) (bytes_in second after) → DamagedBy read_record Harm sound_file after
   unfolding second
   second_damaged small-x small-y t harm =
       two_changed sound_file i j x y read_record Harm sound_bytes small-x small-y t
@@ -163,7 +175,7 @@ module _ (Harm : Bytes → Bytes → Type 0) (i j x y : ℕ) (there : (p : ℕ) 
       let is = the_second l (rw listed at m) p h (there p e).0 (there p e).1 in
       ((ECDH, centre_key_fields, ap (λ (z : format.Line). z.said) is ∙ read_second), rw is harm))
 
-  second_caught : DamageCaught read_record Harm PlainSays → DamagedOver read_record Harm sound_file after → Differ sound_file after i → (f g : Bor Bytes) → f.now ≡ sound_file → g.now ≡ after
+  second_caught : DamageCaughtBy read_record Harm PlainSays → DamagedBy read_record Harm sound_file after → Differ sound_file after i → (f g : Bor Bytes) → f.now ≡ sound_file → g.now ≡ after
       → (l l' m m' : Line) → Called PlainSays f 0 (l ∷ l' ∷ []) → Called PlainSays g 0 (m ∷ m' ∷ []) → (number_of l ≡ 0) × (number_of l' ≡ 0) × (l ≡ m) × (number_of m' ≢ 0)
   unfolding AllCaughtSaid first second
   second_caught all_caught d differ f g e e' l l' m m' (more a (more b none)) q =
@@ -191,16 +203,20 @@ near_there : T (no_feed sound_file 240 241 (code "?") (code "?")) × T (not (eqb
 unfolding damaged_file sound_file sound_lines response response_fields centre_id centre_id_fields record_of with_check check_text module_id module_id_fields centre_key centre_key_fields
 near_there = (tt, tt)
 
-pub damaged : Damaged sound_file damaged_file
+damaged_near : DamagedBy read_record WithinTwo sound_file damaged_file
 unfolding damaged_file
-damaged =
+damaged_near =
     second_damaged WithinTwo 240 241 (code "?") (code "?") near (omega arith) (omega arith) near_there.0
     ((within_line sound_file damaged_file second).1 (240, λ p h d. differ_there sound_file 240 241 (code "?") (code "?") p d))
+
+pub damaged : Damaged sound_file damaged_file
+unfolding damaged_file
+damaged = over_two read_record sound_file damaged_file damaged_near 240 (λ p d. differ_there sound_file 240 241 (code "?") (code "?") p d)
 
 pub caught : (f g : Bor Bytes) → f.now ≡ sound_file → g.now ≡ damaged_file → (l l' m m' : Line) → Called PlainSays f 0 (l ∷ l' ∷ []) → Called PlainSays g 0 (m ∷ m' ∷ [])
     → (number_of l ≡ 0) × (number_of l' ≡ 0) × (l ≡ m) × (number_of m' ≢ 0)
 unfolding damaged_file
-caught = second_caught WithinTwo 240 241 (code "?") (code "?") near demand3.in_plain damaged (eqb_no near_there.1)
+caught = second_caught WithinTwo 240 241 (code "?") (code "?") near (plain_caught WithinTwo record_catches_by_two) damaged_near (eqb_no near_there.1)
 
 -- E12: two flipped bits, far apart
 far : (p : ℕ) → (p ≡ 240) ⊎ (p ≡ 500) → (220 ≤ p) × (p < 522)
@@ -211,7 +227,7 @@ far_there : T (no_feed sound_file 240 500 (code "r") (code "1")) × T (not (eqb 
 unfolding first second flipped_file sound_file sound_lines response response_fields centre_id centre_id_fields record_of with_check check_text hex_digit module_id module_id_fields centre_key centre_key_fields crc_of add_all add bit_steps bit_step flips ones
 far_there = (tt, tt, refl, refl)
 
-pub flipped : DamagedOver read_record Flipped sound_file flipped_file
+pub flipped : DamagedBy read_record Flipped sound_file flipped_file
 unfolding flipped_file
 flipped =
     second_damaged Flipped 240 500 (code "r") (code "1") far (omega arith) (omega arith) far_there.0
@@ -245,7 +261,7 @@ module _ (Harm : Bytes → Bytes → Type 0) (i j x y : ℕ) where
   after_trailed = changed trailed_file i j x y
 
   only_damaged : x < 256 → y < 256 → T (no_feed trailed_file i j x y) → Harm (bytes_in only trailed_file) (bytes_in only after_trailed)
-      → DamagedOver read_trailed Harm trailed_file after_trailed
+      → DamagedBy read_trailed Harm trailed_file after_trailed
   unfolding only lines_from_over
   only_damaged small-x small-y t harm =
       two_changed trailed_file i j x y read_trailed Harm (are_bytes trailed_file computed.1) small-x small-y t
@@ -253,7 +269,7 @@ module _ (Harm : Bytes → Bytes → Type 0) (i j x y : ℕ) where
       let is : l ≡ only = ⊎_elim (λ q. q) (λ q. absurd (Memᴰ.not-nil q)) (Memᴰ.cases_cons (rw listed_trailed at m)) in
       ((RESP, response_fields, ap (λ (z : format.Line). z.said) is ∙ read_only), rw is harm))
 
-  only_caught : DamageCaught read_trailed Harm TrailedSays → DamagedOver read_trailed Harm trailed_file after_trailed → i < 260 → Differ trailed_file after_trailed i
+  only_caught : DamageCaughtBy read_trailed Harm TrailedSays → DamagedBy read_trailed Harm trailed_file after_trailed → i < 260 → Differ trailed_file after_trailed i
       → (f g : Bor Bytes) → f.now ≡ trailed_file → g.now ≡ after_trailed → (l m : Line) → Called TrailedSays f 0 (l ∷ []) → Called TrailedSays g 0 (m ∷ []) → (number_of l ≡ 0) × (number_of m ≢ 0)
   unfolding AllCaughtSaid only lines_from_over
   only_caught all_caught d inside differ f g e e' l m (more a none) q =
@@ -269,16 +285,20 @@ across : T (no_feed trailed_file 218 219 (code "?") (code "?")) × T (not (eqb (
 unfolding damaged_trailed_file trailed_file trailed trailer response response_fields module_id module_id_fields centre_id centre_id_fields record_of with_check check_text hex_digit crc_of add_all add bit_steps bit_step
 across = (tt, tt)
 
-pub damaged_trailed : DamagedOver read_trailed WithinTwo trailed_file damaged_trailed_file
+trailed_near : DamagedBy read_trailed WithinTwo trailed_file damaged_trailed_file
 unfolding damaged_trailed_file
-damaged_trailed =
+trailed_near =
     only_damaged WithinTwo 218 219 (code "?") (code "?") (omega arith) (omega arith) across.0
     ((within_line trailed_file damaged_trailed_file only).1 (218, λ p h d. differ_there trailed_file 218 219 (code "?") (code "?") p d))
+
+pub damaged_trailed : DamagedOver read_trailed trailed_file damaged_trailed_file
+unfolding damaged_trailed_file
+damaged_trailed = over_two read_trailed trailed_file damaged_trailed_file trailed_near 218 (λ p d. differ_there trailed_file 218 219 (code "?") (code "?") p d)
 
 pub caught_trailed : (f g : Bor Bytes) → f.now ≡ trailed_file → g.now ≡ damaged_trailed_file → (l m : Line) → Called TrailedSays f 0 (l ∷ []) → Called TrailedSays g 0 (m ∷ [])
     → (number_of l ≡ 0) × (number_of m ≢ 0)
 unfolding damaged_trailed_file
-caught_trailed = only_caught WithinTwo 218 219 (code "?") (code "?") demand3.in_trailed damaged_trailed (omega arith) (eqb_no across.1)
+caught_trailed = only_caught WithinTwo 218 219 (code "?") (code "?") (trailed_caught WithinTwo trailed_within_two) trailed_near (omega arith) (eqb_no across.1)
 
 -- E12: three flipped bits of its record
 scattered : T (no_feed trailed_file 22 210 (code "p") (code "9")) × T (not (eqb (get_or trailed_file 22 0) (get_or flipped_trailed_file 22 0)))
@@ -286,7 +306,7 @@ scattered : T (no_feed trailed_file 22 210 (code "p") (code "9")) × T (not (eqb
 unfolding only flipped_trailed_file trailed_file trailed trailer turns grown block hashed short.by_twenty short.padding short.padded short.H₀ short.word short.words short.schedule short.rounds short.compress short.joined short.sha1 response response_fields module_id module_id_fields centre_id centre_id_fields record_of with_check check_text hex_digit crc_of add_all add bit_steps bit_step flips ones
 scattered = (tt, tt, refl, refl)
 
-pub flipped_trailed : DamagedOver read_trailed (InRecord Flipped) trailed_file flipped_trailed_file
+pub flipped_trailed : DamagedBy read_trailed (InRecord Flipped) trailed_file flipped_trailed_file
 unfolding flipped_trailed_file
 flipped_trailed =
     only_damaged (InRecord Flipped) 22 210 (code "p") (code "9") (omega arith) (omega arith) scattered.0

@@ -28,8 +28,8 @@ use Rattle.expiry.proofs.Expiries.{expiry_stamp, expiry_accepted}
 use Rattle.shelf.specs.Cabinet.{tvp_at}
 use Rattle.shelf.proofs.Readings.{fitting, reads_accepted}
 use Rattle.shelf.proofs.Images.{length_zeros}
-use Rattle.promises.specs.Cabinet.{Filled}
-use Rattle.promises.specs.Dates.{DayAfter, SameDay, clock, Dates}
+use Rattle.promises.proofs.Statements.Cabinet.{Filled}
+use Rattle.promises.proofs.Statements.Dates.{DayAfter, SameDay, clock, Dates}
 
 -- ---- how they are counted
 

@@ -10,20 +10,20 @@ use Rattle.text.specs.Text.{Bytes}
 use Rattle.format.specs.Read.{Outcome, read_record}
 use Rattle.format.specs.Files as format
 use Rattle.format.specs.Files.{read, line_at_over, walk_over}
-use Rattle.format.specs.Damage.{WithinTwo, Catches, Caught, AllCaught}
+use Rattle.format.specs.Damage.{WithinTwo, CatchesBy, Caught, AllCaught}
 use Rattle.format.proofs.Lines.{at_end, rest, rest_walk}
-use Rattle.format.proofs.DamagedLines.{part_same, within_line}
-use Rattle.format.proofs.Damage.{record_catches, damage_caught}
+use Rattle.format.proofs.DamagedLines.{part_same, within_line, damaged_by_two}
+use Rattle.format.proofs.Damage.{record_catches_by_two, damage_caught_by}
 use Rattle.reading.specs.Reading.{answer_of}
 use Rattle.files.specs.declared.Line.{Line}
 use Rattle.files.specs.declared.Line.TheVariants.{Finished}
 use Rattle.files.specs.Walk.{line_said}
 use Rattle.files.proofs.Stepping.{none_left, first_left}
 use Rattle.trailed.specs.Trailed.{read_trailed}
-use Rattle.trailed.proofs.Trailed.{trailed_within_two, trailed_damage_caught}
-use Rattle.promises.specs.Files.{PlainSays}
-use Rattle.promises.specs.Trailed.{TrailedSays}
-use Rattle.promises.specs.Demand3.{Called, none, more, CaughtSaid, AllCaughtSaid, DamageCaught, Demand3}
+use Rattle.trailed.proofs.Trailed.{trailed_within_two, trailed_damage_caught_by}
+use Rattle.promises.proofs.Statements.Files.{PlainSays}
+use Rattle.promises.proofs.Statements.Trailed.{TrailedSays}
+use Rattle.promises.proofs.Statements.Demand3.{Called, none, more, CaughtSaid, AllCaughtSaid, DamageCaughtBy, Demand3}
 
 -- ---- a line of each file
 
@@ -68,6 +68,8 @@ module _ (call : Bytes → Outcome) (Says : Bor Bytes → ℕ → Line → Type 
         rw (here, there) (end_caught f.now g.now long place),
         calls_caught place [] [] r t c ls ms (rw here at ps) (rw there at qs) (omega (arith, e)),
       )
+  calls_caught place [] (y ∷ ys) r t c (l ∷ ls) (m ∷ ms) p q e = elim c [ ]
+  calls_caught place (x ∷ xs) [] r t c (l ∷ ls) (m ∷ ms) p q e = elim c [ ]
   calls_caught place (x ∷ xs) (y ∷ ys) r t c (l ∷ ls) (m ∷ ms) (more p ps) (more q qs) e =
       let (is, left) = first_left call f.now place x xs r in
       let (is', left') = first_left call g.now place y ys t in
@@ -82,15 +84,15 @@ module _ (call : Bytes → Outcome) (Says : Bor Bytes → ℕ → Line → Type 
   in_files = calls_caught 0 (walk_over call f.now) (walk_over call g.now) (rest_walk call f.now) (rest_walk call g.now)
 
 -- what a call catches in a line is caught in the files whose lines it is asked about
-pub plain_caught : (Harm : Bytes → Bytes → Type 0) → Catches read_record Harm → DamageCaught read_record Harm PlainSays
-plain_caught Harm catches f g d = in_files read_record PlainSays (λ lent place r (κs, (s, p)). p) f g d.long (damage_caught Harm catches f.now g.now d)
+pub plain_caught : (Harm : Bytes → Bytes → Type 0) → CatchesBy read_record Harm → DamageCaughtBy read_record Harm PlainSays
+plain_caught Harm catches f g d = in_files read_record PlainSays (λ lent place r (κs, (s, p)). p) f g d.long (damage_caught_by Harm catches f.now g.now d)
 
-pub trailed_caught : (Harm : Bytes → Bytes → Type 0) → Catches read_trailed Harm → DamageCaught read_trailed Harm TrailedSays
-trailed_caught Harm catches f g d = in_files read_trailed TrailedSays (λ lent place r (κs, (s, p)). p) f g d.long (trailed_damage_caught Harm catches f.now g.now d)
+pub trailed_caught : (Harm : Bytes → Bytes → Type 0) → CatchesBy read_trailed Harm → DamageCaughtBy read_trailed Harm TrailedSays
+trailed_caught Harm catches f g d = in_files read_trailed TrailedSays (λ lent place r (κs, (s, p)). p) f g d.long (trailed_damage_caught_by Harm catches f.now g.now d)
 
 pub demand3 : Demand3
 demand3 = record {
-  in_plain = plain_caught WithinTwo record_catches;
-  in_trailed = trailed_caught WithinTwo trailed_within_two;
+  in_plain = λ f g d. plain_caught WithinTwo record_catches_by_two f g (damaged_by_two read_record f.now g.now d);
+  in_trailed = λ f g d. trailed_caught WithinTwo trailed_within_two f g (damaged_by_two read_trailed f.now g.now d);
   in_file = within_line;
 }

@@ -8,7 +8,7 @@ use Rattle.text.specs.Text.{Bytes}
 use Rattle.text.specs.Part.{Part}
 use Rattle.table.proofs.Codes.{one_code}
 use Rattle.newer.specs.Newer.{Decision, theFirst, theSecond, no_choice, IsChosen, Chosen}
-use Rattle.promises.specs.Determined.{Determined}
+use Rattle.promises.proofs.Statements.Determined.{Determined}
 
 -- two states with one number are one state
 one_state : (x y : Crc) (n : ℕ) → x.state ≡ n → y.state ≡ n → x ≡ y

@@ -13,12 +13,13 @@ use Rattle.format.specs.declared.Rules.TheVariants.{Today}
 use Rattle.format.proofs.Refusals.{naming, Names, judged_names, over_names}
 use Rattle.table.specs.Table.{kinds_from}
 use Rattle.fields.specs.Attributes.{attribute_no}
-use Rattle.agreement.specs.Texts.{shared_info, module_text, centre_text}
+use Rattle.items.specs.Items.{lv_concat}
+use Rattle.agreement.specs.Texts.{shared_items, module_items, centre_items, shared_info, module_text, centre_text}
 use Rattle.fingerprint.specs.Fingerprint.{check_fingerprint, write_fingerprint}
 use Rattle.confirm.specs.Confirm.{confirm_request, confirm_response}
 use Rattle.trailed.specs.Trailed.{record_in, read_trailed, write_trailed}
 use Rattle.mail.specs.Mail.{write_mail}
-use Rattle.promises.specs.FieldNumbers.{FieldNumbers}
+use Rattle.promises.proofs.Statements.FieldNumbers.{FieldNumbers}
 use Rattle.promises.proofs.Answered.{answered, wanted_answered, attribute_answered, given_answered, judge_answered, build_answered, line_answered, last_answered, trailed_answered, mail_answered, make_answered, cabinet_answered, put_answered, remove_answered, admit_answered, find_answered, newer_answered, expiry_answered, check_answered, request_answered, response_answered}
 
 identity_names : (s : Bytes) → Names (read_identity s)
@@ -63,9 +64,9 @@ field_numbers = record {
   attribute = λ κs a r s p. rw (p.its_no, p.its_field) (attribute_names a.0.now a.1.0);
   attribute-named = λ κs a r s p. rw (p.its_no, p.its_field) (attribute_names a.0.now _);
   build = λ κs a r s p. rw p.said (build_answered NamesAt refl (judged_names Today read_identity) refl refl refl refl a.0.now a.1.0.now a.1.1.0.now (length a.1.1.1.0.now));
-  shared-info = λ κs a r s p. rw p.said (given_answered NamesAt refl _ (length a.1.0.now) (read_of (REQ ∷ []) a.0.now) (read_names (REQ ∷ []) a.0.now) refl);
-  module-text = λ κs a r s p. rw p.said (given_answered NamesAt refl _ (length a.1.0.now) (read_of (REQ ∷ []) a.0.now) (read_names (REQ ∷ []) a.0.now) refl);
-  centre-text = λ κs a r s p. rw p.said (given_answered NamesAt refl _ (length a.1.0.now) (read_of (REQ ∷ []) a.0.now) (read_names (REQ ∷ []) a.0.now) refl);
+  shared-info = λ κs a r s p. rw p.said (given_answered NamesAt refl (λ k fs. lv_concat (shared_items fs)) (length a.1.0.now) (read_of (REQ ∷ []) a.0.now) (read_names (REQ ∷ []) a.0.now) refl);
+  module-text = λ κs a r s p. rw p.said (given_answered NamesAt refl (λ k fs. lv_concat (module_items fs)) (length a.1.0.now) (read_of (REQ ∷ []) a.0.now) (read_names (REQ ∷ []) a.0.now) refl);
+  centre-text = λ κs a r s p. rw p.said (given_answered NamesAt refl (λ k fs. lv_concat (centre_items fs)) (length a.1.0.now) (read_of (REQ ∷ []) a.0.now) (read_names (REQ ∷ []) a.0.now) refl);
   line-at = λ κs a r s p. rw p (line_answered NamesAt refl read_record record_names refl a.0.now a.1.0);
   step_from = λ κs a r s p. rw p (line_answered NamesAt refl read_record record_names refl a.0.now a.1.0);
   last_line = λ κs a r s p. rw p (last_answered NamesAt refl refl a.0 a.1.0);

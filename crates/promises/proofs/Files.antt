@@ -22,7 +22,7 @@ use Rattle.files.specs.declared.Line.{Line}
 use Rattle.files.specs.declared.Totals.{Totals}
 use Rattle.files.proofs.Answers.{says_finished, number_said, finished_only, starts_here, finished_values}
 use Rattle.files.proofs.Stepping.{reader_walks, begin_same, step_same}
-use Rattle.promises.specs.Files.{line_from, LineExactly, Walked, Files}
+use Rattle.promises.proofs.Statements.Files.{line_from, LineExactly, Walked, Files}
 use Rattle.promises.proofs.Reading.{exactly}
 
 module _ (call : Bytes → Outcome) (IsLine : Bytes → Kind → List Bytes → Type 0) (exact : (l : Bytes) (k : Kind) (fs : List Bytes) → (call l ≡ accepted k fs) ↔ IsLine l k fs) (never-zero : NeverZero call) where

@@ -26,8 +26,8 @@ use Rattle.given.proofs.Given.{said_own, said_short, said_whole, refusal_leaves}
 use Rattle.fingerprint.specs.Fingerprint.{print_of, right_print, check_by, check_fingerprint, write_fingerprint}
 use Rattle.fingerprint.specs.declared.Checked.{Checked}
 use Rattle.fingerprint.proofs.Prints.{print_length}
-use Rattle.promises.specs.Refusals.{of_pubkeys}
-use Rattle.promises.specs.Fingerprint.{standing, right, CheckSaid, WriteSaid, Fingerprints}
+use Rattle.promises.proofs.Statements.Refusals.{of_pubkeys}
+use Rattle.promises.proofs.Statements.Fingerprint.{standing, right, CheckSaid, WriteSaid, Fingerprints}
 use Rattle.promises.proofs.Refusals.{pubkey_given}
 use Rattle.sha384.proofs.Digest.{digest_bytes}
 

@@ -11,18 +11,18 @@ use Rattle.text.specs.Base16.{hex_digit, check_text}
 use Rattle.format.specs.Kinds.{SMID, KMCID, RESP, record_kinds}
 use Rattle.format.specs.Build.{with_check, record_of, Fits, FitAll, longest_record, Permitted}
 use Rattle.format.specs.Read.{read_record}
-use Rattle.format.specs.Damage.{Accepted, WithinTwo, Flipped, InCheck, Either, Catches}
+use Rattle.format.specs.Damage.{Accepted, WithinTwo, Flipped, InCheck, Either, CatchesBy}
 use Rattle.format.proofs.Exactly.{record_exact}
 use Rattle.format.proofs.DamagedLines.{either_caught}
-use Rattle.format.proofs.Damage.{accepted_short, record_catches, flips_refused, checks_refused, flipped_refused}
+use Rattle.format.proofs.Damage.{accepted_short, record_catches_by_two, flips_refused, checks_refused, flipped_refused}
 use Rattle.trailed.specs.Trailed.{InRecord, read_trailed}
-use Rattle.trailed.proofs.Trailed.{trailed_catches, trailed_within_two}
+use Rattle.trailed.proofs.Trailed.{trailed_catches_by, trailed_within_two}
 use Rattle.promises.specs.Worked.{module_id_fields, module_id, centre_id_fields, centre_id, response_fields, response, response_of, four_flipped, three_flipped, later_response, two_flipped}
-use Rattle.promises.specs.FlippedBits.{NoLimit, FlippedBits, FlipsPass}
+use Rattle.promises.proofs.Statements.FlippedBits.{NoLimit, FlippedBits, FlipsPass}
 use Rattle.promises.proofs.Demand3.{plain_caught, trailed_caught}
 use Rattle.promises.proofs.Permitted.{is_sm, is_kmc, built_of}
 
-flips_or_check : Catches read_record (Either Flipped InCheck)
+flips_or_check : CatchesBy read_record (Either Flipped InCheck)
 flips_or_check = either_caught read_record Flipped InCheck flips_refused checks_refused
 
 never_long : NoLimit
@@ -31,11 +31,11 @@ never_long x accepted = omega (arith, accepted_short x accepted)
 pub flipped_bits : FlippedBits
 flipped_bits = record {
   in_plain = plain_caught Flipped flips_refused;
-  in_trailed = trailed_caught (InRecord Flipped) (trailed_catches Flipped flips_refused);
+  in_trailed = trailed_caught (InRecord Flipped) (trailed_catches_by Flipped flips_refused);
   no_limit = never_long;
   of-records = flipped_refused;
-  each_plain = plain_caught _ (either_caught read_record WithinTwo (Either Flipped InCheck) record_catches flips_or_check);
-  each_trailed = trailed_caught _ (either_caught read_trailed WithinTwo (InRecord (Either Flipped InCheck)) trailed_within_two (trailed_catches (Either Flipped InCheck) flips_or_check));
+  each_plain = plain_caught _ (either_caught read_record WithinTwo (Either Flipped InCheck) record_catches_by_two flips_or_check);
+  each_trailed = trailed_caught _ (either_caught read_trailed WithinTwo (InRecord (Either Flipped InCheck)) trailed_within_two (trailed_catches_by (Either Flipped InCheck) flips_or_check));
 }
 
 -- ---- records that pass

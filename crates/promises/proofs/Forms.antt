@@ -4,7 +4,7 @@ use mathlib.Core.Path.{subst}
 use mathlib.Core.Bool.{Bool}
 use native.Mathlib.Omega.{arith}
 use lib.Dec.{T}
-use Rattle.promises.specs.Forms.{Forms}
+use Rattle.promises.proofs.Statements.Forms.{Forms}
 
 pub forms : Forms
 forms = record {

@@ -4,7 +4,7 @@ use Rattle.sha384.proofs.Digest.{digest_bytes, digest_size}
 use Rattle.sha384.proofs.Pieces.{ended_all}
 use Rattle.sha_1.proofs.Digest as short-digest
 use Rattle.sha_1.proofs.Pieces as short
-use Rattle.promises.specs.Hash.{Hash}
+use Rattle.promises.proofs.Statements.Hash.{Hash}
 
 pub hash : Hash
 hash = record {

@@ -11,7 +11,7 @@ use Rattle.exports.specs.declared.hashes.Digest.{Digest}
 use Rattle.exports.specs.declared.trailing.Sha1Digest.{Sha1Digest}
 use Rattle.exports.specs.declared.walking.Found.{Found}
 use Rattle.exports.specs.Exports.{found}
-use Rattle.promises.specs.Interface.{Interface}
+use Rattle.promises.proofs.Statements.Interface.{Interface}
 
 found_next : (l : Line) → (found l).next ≡ next_of l
 found_next (Finished place) = refl

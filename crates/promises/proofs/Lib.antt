@@ -1,3 +1,5 @@
+mod Statements
+mod OfCalls
 pub mod Starred
 pub mod Determined
 pub mod Check

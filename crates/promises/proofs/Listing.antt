@@ -5,7 +5,7 @@ use Rattle.put.specs.declared.Written.{Written}
 use Rattle.list_text.proofs.Writing.{list_lines}
 use Rattle.list_text.proofs.Whole.{says_too_big, list-said, list_left, list_denied, list_kept}
 use Rattle.list_text.proofs.Values.{example, no_bytes}
-use Rattle.promises.specs.Listing.{Listing}
+use Rattle.promises.proofs.Statements.Listing.{Listing}
 
 pub listing : Listing
 listing = record {

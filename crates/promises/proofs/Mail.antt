@@ -34,8 +34,8 @@ use Rattle.mail.proofs.Guards.{begins_rectype, begins_is}
 use Rattle.mail.proofs.Blocks.{opened_past, closed_rows, rows_found, before_passed}
 use Rattle.mail.proofs.Records.{name_ident, named_read, built_read, other_read, block_read, mail_back}
 use Rattle.mail.proofs.Writing.{block-length}
-use Rattle.promises.specs.Refusals.{of_records}
-use Rattle.promises.specs.Mail.{FoldedRows, WriteSaid, Unopened, Opened, Unended, Closed, ReadSaid, Mail}
+use Rattle.promises.proofs.Statements.Refusals.{of_records}
+use Rattle.promises.proofs.Statements.Mail.{FoldedRows, WriteSaid, Unopened, Opened, Unended, Closed, ReadSaid, Mail}
 use Rattle.promises.proofs.Answered.{given_answered}
 use Rattle.promises.proofs.Refusals.{read_given, further}
 

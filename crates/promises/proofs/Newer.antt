@@ -17,7 +17,7 @@ use Rattle.newer.specs.Newer as newer
 use Rattle.newer.specs.Newer.{Decision, theFirst, theSecond, no_choice, choice_no, choice_said, choice_which, IsChosen, Chosen}
 use Rattle.newer.proofs.Choosing.{newer_keys}
 use Rattle.newer.proofs.Chosen.{agreed_exactly, decided, decided_equal}
-use Rattle.promises.specs.Newer.{NewerSaid, ChoiceSaid, Newer}
+use Rattle.promises.proofs.Statements.Newer.{NewerSaid, ChoiceSaid, Newer}
 
 -- ---- which of the two
 

@@ -31,7 +31,7 @@ use Rattle.reading.proofs.Answers.{told}
 use Rattle.fields.specs.Fields.{wanted_part, wanted_no, wanted_start, start_in, PartSaid, PlaceSaid, FieldSaid, Placed}
 use Rattle.fields.specs.declared.Place.{Place}
 use Rattle.fields.proofs.Wanted.{no_field}
-use Rattle.promises.specs.Reading.{Reading}
+use Rattle.promises.proofs.Statements.Reading.{Reading}
 
 -- a call whose outcome is accepted exactly for what is built, and whose refusals have another number than 0
 module _ (o : Outcome) (B : Kind → List Bytes → Type 0) (exact : (k : Kind) (fs : List Bytes) → (o ≡ accepted k fs) ↔ B k fs)

@@ -30,8 +30,8 @@ use Rattle.fields.specs.declared.Place.{Place}
 use Rattle.put.specs.Made.{Made, made, says, leaves}
 use Rattle.put.specs.declared.Written.{Written}
 use Rattle.building.specs.Building.{build}
-use Rattle.promises.specs.Rebuilding as asked
-use Rattle.promises.specs.Rebuilding.{Asked, IdentityField, RecordField, IdentityPlace, RecordPlace, BuildsAgain, Rebuilding}
+use Rattle.promises.proofs.Statements.Rebuilding as asked
+use Rattle.promises.proofs.Statements.Rebuilding.{Asked, IdentityField, RecordField, IdentityPlace, RecordPlace, BuildsAgain, Rebuilding}
 use Rattle.promises.proofs.Building.{again}
 
 -- ---- the fields, asked for one after another

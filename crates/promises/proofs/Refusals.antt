@@ -19,16 +19,16 @@ use Rattle.table.specs.Table.{kinds_from}
 use Rattle.fields.specs.Attributes.{attribute_no}
 use Rattle.put.specs.Made as put
 use Rattle.put.specs.Made.{made, says}
-use Rattle.items.specs.Items.{text_item}
+use Rattle.items.specs.Items.{lv_concat, text_item}
 use Rattle.items.specs.Place.{place_from}
-use Rattle.agreement.specs.Texts.{shared_info, module_text, centre_text}
+use Rattle.agreement.specs.Texts.{shared_items, module_items, centre_items, shared_info, module_text, centre_text}
 use Rattle.fingerprint.specs.Fingerprint.{check_fingerprint, write_fingerprint}
 use Rattle.confirm.specs.Confirm.{confirm_request, confirm_response}
 use Rattle.list_text.specs.Listing.{list_text, list_room, write_list}
 use Rattle.trailed.specs.Trailed.{record_in, read_trailed, write_trailed}
 use Rattle.mail.specs.Mail.{write_mail}
 use Rattle.shelf.specs.Cabinet.{check_cabinet}
-use Rattle.promises.specs.Refusals.{of_identities, of_records, of_pubkeys, of_keys, of_loads, of_texts, Refusals}
+use Rattle.promises.proofs.Statements.Refusals.{of_identities, of_records, of_pubkeys, of_keys, of_loads, of_texts, Refusals}
 use Rattle.promises.proofs.Answered.{answered, wanted_answered, attribute_answered, given_answered, judge_answered, build_answered, line_answered, last_answered, trailed_answered, mail_answered, make_answered, cabinet_answered, put_answered, remove_answered, admit_answered, find_answered, newer_answered, expiry_answered, check_answered, request_answered, response_answered}
 
 -- n is one of ns, whatever the field's number
@@ -168,9 +168,9 @@ refusals = record {
   attribute = λ κs a r s p. rw p.its_no (attribute_given a.0.now a.1.0);
   attribute-named = λ κs a r s p. rw p.its_no (attribute_given a.0.now _);
   build = λ κs a r s p. rw p.said (build_answered (In of_building) tt building_given tt tt tt tt a.0.now a.1.0.now a.1.1.0.now (length a.1.1.1.0.now));
-  shared-info = λ κs a r s p. rw p.said (given_answered (In of_texts) tt _ (length a.1.0.now) (read_of (REQ ∷ []) a.0.now) (request_given a.0.now) tt);
-  module-text = λ κs a r s p. rw p.said (given_answered (In of_texts) tt _ (length a.1.0.now) (read_of (REQ ∷ []) a.0.now) (request_given a.0.now) tt);
-  centre-text = λ κs a r s p. rw p.said (given_answered (In of_texts) tt _ (length a.1.0.now) (read_of (REQ ∷ []) a.0.now) (request_given a.0.now) tt);
+  shared-info = λ κs a r s p. rw p.said (given_answered (In of_texts) tt (λ k fs. lv_concat (shared_items fs)) (length a.1.0.now) (read_of (REQ ∷ []) a.0.now) (request_given a.0.now) tt);
+  module-text = λ κs a r s p. rw p.said (given_answered (In of_texts) tt (λ k fs. lv_concat (module_items fs)) (length a.1.0.now) (read_of (REQ ∷ []) a.0.now) (request_given a.0.now) tt);
+  centre-text = λ κs a r s p. rw p.said (given_answered (In of_texts) tt (λ k fs. lv_concat (centre_items fs)) (length a.1.0.now) (read_of (REQ ∷ []) a.0.now) (request_given a.0.now) tt);
   item-place = λ κs a r s p. rw p.said (place_given _ (text_item a.0.now a.1.0));
   text-item = λ κs a r s p. rw p.number_so (place_given _ (text_item a.0.now a.1.0));
   line-at = λ κs a r s p. rw p (line_answered (In (11 ∷ of_records)) tt read_record line_given tt a.0.now a.1.0);

@@ -14,7 +14,7 @@ use Rattle.format.specs.declared.Rules.TheVariants.{UpToE10, Today}
 use Rattle.format.proofs.Exactly.{under_exact, under_says}
 use Rattle.format.proofs.Earlier.{earlier_accepts, still_refuses, no_more_accepts, unsigned_ended, unsigned_is}
 use Rattle.table.specs.Table.{kinds_from}
-use Rattle.promises.specs.Rulings.{UnsignedModule, Rulings}
+use Rattle.promises.proofs.Statements.Rulings.{UnsignedModule, Rulings}
 use Rattle.promises.proofs.Reading.{exactly}
 
 permitted_earlier : (k : Kind) (fs : List Bytes) → PermittedUnder Today k fs → PermittedUnder UpToE10 k fs

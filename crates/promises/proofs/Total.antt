@@ -1,7 +1,7 @@
 -- No public call and no function of the C interface has a `requires`.
 -- Assumes nothing.
 use borrow.Author.Rules.{rules}
-use Rattle.promises.specs.Total.{Total}
+use Rattle.promises.proofs.Statements.Total.{Total}
 
 pub total : Total
 total = record {

@@ -24,8 +24,8 @@ use Rattle.put.specs.declared.Written.{Written}
 use Rattle.given.proofs.Given.{said_own, said_short, said_whole, refusal_leaves}
 use Rattle.trailed.specs.Trailed.{trailer, trailed, record_in, trailer_in, is_trailer, only_if, read_trailed, write_trailed}
 use Rattle.trailed.proofs.Trailed.{trailed_sound, trailed_length, trailed_read, trailed_exact, trailed_never_zero}
-use Rattle.promises.specs.Refusals.{of_records}
-use Rattle.promises.specs.Trailed.{TrailedLine, LineSaid, WriteSaid, Trailed}
+use Rattle.promises.proofs.Statements.Refusals.{of_records}
+use Rattle.promises.proofs.Statements.Trailed.{TrailedLine, LineSaid, WriteSaid, Trailed}
 use Rattle.promises.proofs.Reading.{exactly, no_places}
 use Rattle.promises.proofs.Files.{walked}
 use Rattle.promises.proofs.Refusals.{record_given}

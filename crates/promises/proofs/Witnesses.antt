@@ -11,7 +11,7 @@ use native.Mathlib.Omega.{arith}
 use lib.ListN.{length, drop, get_or, replicate, length-drop, length-replicate}
 use lib.Seq.{drop-cons}
 use borrow.Author.Tests.{le-leb, lt-leb}
-use denote.Ref.{Bor}
+use denote.Ref.{Bor, MutBor}
 use lib.Dec.{T, eqb}
 use mir.Facts.{yes_and, yes_eqb}
 use Rattle.text.specs.Calendar.{days_before, sum_to}
@@ -42,22 +42,22 @@ use Rattle.newer.specs.Newer.{theFirst, theSecond, newer}
 use Rattle.newer.specs.Keys.{Key, Agreed}
 use Rattle.newer.proofs.Choosing.{newer_keys}
 use Rattle.fields.specs.Fields.{wanted_part, wanted_no, wanted_start}
-use Rattle.promises.specs.Rebuilding as asked
-use Rattle.promises.specs.Rebuilding.{Asked, IdentityField, RecordField}
+use Rattle.promises.proofs.Statements.Rebuilding as asked
+use Rattle.promises.proofs.Statements.Rebuilding.{Asked, IdentityField, RecordField}
 use Rattle.trailed.specs.Trailed.{read_trailed}
 use Rattle.mail.specs.Mail.{is_begins, PassedOver}
-use Rattle.promises.specs.Dates.{Follows}
-use Rattle.promises.specs.Files.{PlainSays}
-use Rattle.promises.specs.Trailed.{TrailedSays}
-use Rattle.promises.specs.Demand3.{Called, none, more}
+use Rattle.promises.proofs.Statements.Dates.{Follows}
+use Rattle.promises.proofs.Statements.Files.{PlainSays}
+use Rattle.promises.proofs.Statements.Trailed.{TrailedSays}
+use Rattle.promises.proofs.Statements.Demand3.{Called, none, more}
 use Rattle.promises.proofs.Cabinet.{empty_cabinet, first_done, again, admitted_once, refused_then, old_image, old_cabinet, old_counted, old_missed, old_unknown, old_not_later, old_own, old_removed}
-use Rattle.promises.specs.Cabinet.{IsCabinet}
+use Rattle.promises.proofs.Statements.Cabinet.{IsCabinet}
 use Rattle.promises.specs.Worked.{module_id_fields, module_id, module_key_fields, module_key, centre_id_fields, centre_id, centre_key_fields, centre_key, request_fields, request, key_attributes, key_fields, key, fields_of_worked, later_id_fields, later_key_fields, later_key, unsigned_module_fields, unsigned_module_key}
-use Rattle.promises.specs.Attributes.{Wrapped}
+use Rattle.promises.proofs.Statements.Attributes.{Wrapped}
 use Rattle.promises.proofs.Attributes.{wrapped}
 use Rattle.promises.proofs.Permitted.{names_permitted, is_sm, permitted, unsigned, unsigned-module, later_permitted, built_of}
 use Rattle.promises.proofs.DamagedFile.{damaged, caught, damaged_trailed, caught_trailed, flipped, flipped_caught, flipped_trailed, flipped_caught_trailed}
-use Rattle.promises.specs.Witnesses.{Witnesses}
+use Rattle.promises.proofs.Statements.Witnesses.{Witnesses}
 
 -- ---- a text of each type
 
@@ -196,8 +196,8 @@ part_of : Bor Bytes → ℕ → Bytes → Bor Bytes
 part_of lent start bytes = record { ref_ptr = (lent.ref_ptr.0, start + lent.ref_ptr.1); now = bytes }
 
 -- a number behind a pointer
-behind_it : ℕ → Bor ℕ
-behind_it n = record { ref_ptr = (0, 0); now = n }
+behind_it : ℕ → MutBor ℕ
+behind_it n = record { ref_ptr = (0, 0); ghost_name = 0; now = n }
 
 -- a field call that says what reading says, o, hands back any field
 module _ (lent : Bor Bytes) (n : ℕ) where

@@ -6,101 +6,100 @@
 
 ghost use Rattle.std.specs.Prelude.{◌≡◌, length};
 
-use libc::{STDIN_FILENO, STDOUT_FILENO};
+use std::io;
 
-fn print(text: &[u8]) {
-    io::write_all(STDOUT_FILENO, text);
+fn print(rt: &impl Print, text: &[u8]) -> io::Result<()> {
+    rt.write_all(text)
 }
 
-fn space() {
-    print(b" ");
+fn space(rt: &impl Print) -> io::Result<()> {
+    print(rt, b" ")
 }
 
 // A space and a number.
-fn then(n: usize) {
-    space();
-    io::print_decimal(STDOUT_FILENO, n as u64);
+fn then(rt: &impl Print, n: usize) -> io::Result<()> {
+    space(rt)?;
+    rt.print(n)
 }
 
-fn print_answer(call: &[u8], answer: reading::Answer) {
-    print(call);
-    then(answer.no as usize);
-    then(answer.field as usize);
-    then(answer.kind);
+fn print_answer(rt: &impl Print, call: &[u8], answer: reading::Answer) -> io::Result<()> {
+    print(rt, call)?;
+    then(rt, answer.no as usize)?;
+    then(rt, answer.field as usize)?;
+    then(rt, answer.kind)
 }
 
-fn print_field(n: usize, field: &[u8]) {
-    space();
-    then(n);
-    space();
-    print(field);
-    print(b"\n");
+fn print_field(rt: &impl Print, n: usize, field: &[u8]) -> io::Result<()> {
+    space(rt)?;
+    then(rt, n)?;
+    space(rt)?;
+    print(rt, field)?;
+    print(rt, b"\n")
 }
 
 // Field n of an identity and of a record, where there is one.
-fn print_fields(n: usize, s: &[u8]) {
+fn print_fields(rt: &impl Print, n: usize, s: &[u8]) -> io::Result<()> {
     let mut no: u8 = 0;
     let mut field: u8 = 0;
     let of_identity = fields::identity_field(s, n, &mut no, &mut field);
     if no == numbers::ACCEPTED {
-        print_field(n, of_identity);
+        print_field(rt, n, of_identity)?;
     }
     let of_record = fields::record_field(s, n, &mut no, &mut field);
     if no == numbers::ACCEPTED {
-        print_field(n, of_record);
+        print_field(rt, n, of_record)?;
     }
+    Ok(())
 }
 
 // The names stand in one text, since each text that a function holds makes its proof longer.
-fn print_test(n: usize, accepted: bool) {
-    print(frame::part(
-        b'/',
-        b"\n  IDENT /, TIMESTAMP /, HEX /, POINT /, SIG /, MAC /, PRINT ",
-        n,
-    ));
-    print(frame::part(b'/', b"no/yes", accepted as usize));
+fn print_test(rt: &impl Print, n: usize, accepted: bool) -> io::Result<()> {
+    print(
+        rt,
+        frame::part(
+            b'/',
+            b"\n  IDENT /, TIMESTAMP /, HEX /, POINT /, SIG /, MAC /, PRINT ",
+            n,
+        ),
+    )?;
+    print(rt, frame::part(b'/', b"no/yes", accepted as usize))
 }
 
-fn show_text(s: &[u8]) {
-    print_test(0, text::is_ident(s));
-    print_test(1, text::is_timestamp(s));
-    print_test(2, text::is_hex(s.len(), s));
-    print_test(3, text::is_point(s));
-    print_test(4, text::is_sig(s));
-    print_test(5, text::is_mac(s));
-    print_test(6, text::is_print(s));
-    print(b", check ");
-    print(&text::check_text(crc16::crc_of(s)));
+fn show_text(rt: &impl Print, s: &[u8]) -> io::Result<()> {
+    print_test(rt, 0, text::is_ident(s))?;
+    print_test(rt, 1, text::is_timestamp(s))?;
+    print_test(rt, 2, text::is_hex(s.len(), s))?;
+    print_test(rt, 3, text::is_point(s))?;
+    print_test(rt, 4, text::is_sig(s))?;
+    print_test(rt, 5, text::is_mac(s))?;
+    print_test(rt, 6, text::is_print(s))?;
+    print(rt, b", check ")?;
+    print(rt, &text::check_text(crc16::crc_of(s)))
 }
 
 // The value of a single character, and the character of that value.
-fn show_value(s: &[u8]) {
+fn show_value(rt: &impl Print, s: &[u8]) -> io::Result<()> {
     if s.len() != 1 {
-        return;
+        return Ok(());
     }
     let value = text::hex_value(s[0]);
-    print(b"\n  value");
-    then(value as usize);
-    print(b", character");
-    then(text::hex_digit(value) as usize);
+    print(rt, b"\n  value")?;
+    then(rt, value as usize)?;
+    print(rt, b", character")?;
+    then(rt, text::hex_digit(value) as usize)
 }
 
-fn show(label: &[u8], s: &[u8]) {
-    print(label);
-    show_text(s);
-    show_value(s);
-    print_answer(b"\n  identity", reading::read_identity(s));
-    print_answer(b", record", reading::read_record(s));
-    print(b"\n");
-    print_fields(0, s);
-    print_fields(1, s);
-    print_fields(2, s);
-    print_fields(3, s);
-    print_fields(4, s);
-    print_fields(5, s);
-    print_fields(6, s);
-    print_fields(7, s);
-    print_fields(8, s);
+fn show(rt: &impl Print, label: &[u8], s: &[u8]) -> io::Result<()> {
+    print(rt, label)?;
+    show_text(rt, s)?;
+    show_value(rt, s)?;
+    print_answer(rt, b"\n  identity", reading::read_identity(s))?;
+    print_answer(rt, b", record", reading::read_record(s))?;
+    print(rt, b"\n")?;
+    for n in 0..9 {
+        print_fields(rt, n, s)?;
+    }
+    Ok(())
 }
 
 // Room for the input, which has no more lines than it has bytes. The length is stated because a proof that looked at this
@@ -114,20 +113,21 @@ fn room() -> [u8; ROOM]
 }
 
 // A pair with no label ends the list.
-fn show_all(input: &[u8]) {
+fn show_all(rt: &impl Print, input: &[u8]) -> io::Result<()> {
     let mut line: usize = 0;
     while line < ROOM {
         let label = frame::part(b'\n', input, line);
         if label.len() == 0 {
             break;
         }
-        show(label, frame::part(b'\n', input, line + 1));
+        show(rt, label, frame::part(b'\n', input, line + 1))?;
         line += 2;
     }
+    Ok(())
 }
 
-fn main() {
+fn main(rt: HostRuntime) -> io::Result<()> {
     let mut buffer = room();
-    let n = io::read_full(STDIN_FILENO, &mut buffer);
-    show_all(&buffer[..n]);
+    let n = standard_input::read_full(&mut rt.stdin(), &mut buffer)?;
+    show_all(&rt, &buffer[..n])
 }

@@ -22,11 +22,11 @@ use Rattle.numbers.specs.Numbers.{missing_trailer, wrong_hash}
 use Rattle.format.specs.Kinds.{Kind, record_kinds}
 use Rattle.format.specs.Build.{Built}
 use Rattle.format.specs.Read.{Outcome, accepted, refused, provided, read_record}
-use Rattle.format.specs.Damage.{DamagedOver, WithinTwo, Catches, AllCaught}
+use Rattle.format.specs.Damage.{DamagedOver, DamagedBy, WithinTwo, Catches, CatchesBy, AllCaught}
 use Rattle.format.proofs.Outcomes.{never, Numbered, NeverZero}
 use Rattle.format.proofs.Exactly.{record_exact}
-use Rattle.format.proofs.DamagedLines.{part_bytes, within_part, all_lines_caught}
-use Rattle.format.proofs.Damage.{record_catches, record_never_zero}
+use Rattle.format.proofs.DamagedLines.{damaged_by_two, part_bytes, within_part, all_lines_caught}
+use Rattle.format.proofs.Damage.{record_catches_by_two, record_never_zero}
 use Rattle.trailed.specs.Trailed.{sharp, hash_text, trailer, trailed, record_in, trailer_in, is_trailer, only_if, InRecord, read_trailed, walk_trailed}
 
 -- ---- a test that passes changes nothing
@@ -101,8 +101,8 @@ trailed_never_zero s = go (is_trailer (trailer_in s)) (same (trailer_in s) (trai
     go false c o h = tt
 
 -- what the record call catches in the record is caught in the line
-pub trailed_catches : (Harm : Bytes → Bytes → Type 0) → Catches read_record Harm → Catches read_trailed (InRecord Harm)
-trailed_catches Harm catches x y bx by long harm (j, gs, ax) (k, fs, ay) =
+pub trailed_catches_by : (Harm : Bytes → Bytes → Type 0) → CatchesBy read_record Harm → CatchesBy read_trailed (InRecord Harm)
+trailed_catches_by Harm catches x y bx by long harm (j, gs, ax) (k, fs, ay) =
     let (own_x, is_x) = trailed_sound x j gs ax in
     let (own-y, is_y) = trailed_sound y k fs ay in
     let records : record_in x ≡ record_in y =
@@ -110,10 +110,17 @@ trailed_catches Harm catches x y bx by long harm (j, gs, ax) (k, fs, ay) =
     is_x ∙ ap trailed records ∙ sym is_y
 
 -- two neighbouring bytes of a line are at most two of its record
-pub trailed_within_two : Catches read_trailed WithinTwo
+pub trailed_within_two : CatchesBy read_trailed WithinTwo
 trailed_within_two x y bx by long harm =
-    trailed_catches WithinTwo record_catches x y bx by long (rw (← long) (within_part 0 (length x - 41) x y harm))
+    trailed_catches_by WithinTwo record_catches_by_two x y bx by long (rw (← long) (within_part 0 (length x - 41) x y harm))
 
 -- in files of such lines
-pub trailed_damage_caught : (Harm : Bytes → Bytes → Type 0) → Catches read_trailed Harm → (a b : Bytes) → DamagedOver read_trailed Harm a b → AllCaught a b (walk_trailed a) (walk_trailed b)
-trailed_damage_caught Harm = all_lines_caught read_trailed Harm trailed_never_zero
+pub trailed_damage_caught_by : (Harm : Bytes → Bytes → Type 0) → CatchesBy read_trailed Harm → (a b : Bytes) → DamagedBy read_trailed Harm a b → AllCaught a b (walk_trailed a) (walk_trailed b)
+trailed_damage_caught_by Harm = all_lines_caught read_trailed Harm trailed_never_zero
+
+-- demand 3
+pub trailed_catches : Catches read_trailed
+trailed_catches x y bx by long i near = trailed_within_two x y bx by long (i, near)
+
+pub trailed_damage_caught : (a b : Bytes) → DamagedOver read_trailed a b → AllCaught a b (walk_trailed a) (walk_trailed b)
+trailed_damage_caught a b d = trailed_damage_caught_by WithinTwo trailed_within_two a b (damaged_by_two read_trailed a b d)

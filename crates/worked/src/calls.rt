@@ -1,6 +1,7 @@
 // The calls that a step names. Each prints what the library hands back, and answers up to which place the value known
 // agrees.
 use crate::{confirmations, dates, filing, say, writing};
+use std::io;
 
 // ---- building from the fields that reading hands back
 
@@ -33,7 +34,14 @@ fn front<'a>(lens: &'a [usize], count: usize) -> &'a [usize] {
 }
 
 // A record of the kind of s, of these fields.
-fn build(known: &[u8], s: &[u8], lens: &[usize], fields: &[u8; 1024], len: usize) -> usize {
+fn build(
+    rt: &impl Print,
+    known: &[u8],
+    s: &[u8],
+    lens: &[usize],
+    fields: &[u8; 1024],
+    len: usize,
+) -> io::Result<usize> {
     let mut made = [0u8; 1024];
     let w = building::build(
         frame::title_of(s),
@@ -41,15 +49,16 @@ fn build(known: &[u8], s: &[u8], lens: &[usize], fields: &[u8; 1024], len: usize
         lens,
         &mut made,
     );
-    say::part(known, w.no, say::cut(&made, 0, w.len))
+    say::part(rt, known, w.no, say::cut(&made, 0, w.len))
 }
 
-fn rebuild(known: &[u8], s: &[u8], read: reading::Answer) -> usize {
+fn rebuild(rt: &impl Print, known: &[u8], s: &[u8], read: reading::Answer) -> io::Result<usize> {
     let starts = read.starts;
     let lens = read.lens;
     let mut fields = [0u8; 1024];
     let len = gather(s, &starts, &lens, &mut fields);
     build(
+        rt,
         known,
         s,
         front(&lens, table::count_of(read.kind)),
@@ -59,10 +68,15 @@ fn rebuild(known: &[u8], s: &[u8], read: reading::Answer) -> usize {
 }
 
 // The same of a public key, with Issuer and Signature, its fourth and fifth field, left empty.
-fn rebuild_unsigned(known: &[u8], s: &[u8], mut read: reading::Answer) -> usize {
+fn rebuild_unsigned(
+    rt: &impl Print,
+    known: &[u8],
+    s: &[u8],
+    mut read: reading::Answer,
+) -> io::Result<usize> {
     read.lens[3] = 0;
     read.lens[4] = 0;
-    rebuild(known, s, read)
+    rebuild(rt, known, s, read)
 }
 
 // ---- texts
@@ -75,24 +89,31 @@ fn write_text(call: usize, request: &[u8], made: &mut [u8]) -> put::Written {
     }
 }
 
-fn agreement_text(known: &[u8], call: usize, request: &[u8]) -> usize {
+fn agreement_text(rt: &impl Print, known: &[u8], call: usize, request: &[u8]) -> io::Result<usize> {
     let mut made = [0u8; 512];
     let w = write_text(call, request, &mut made);
-    say::hex(known, w.no, say::cut(&made, 0, w.len))
+    say::hex(rt, known, w.no, say::cut(&made, 0, w.len))
 }
 
 // An item of the module text.
-fn module_item(known: &[u8], request: &[u8], n: usize) -> usize {
+fn module_item(rt: &impl Print, known: &[u8], request: &[u8], n: usize) -> io::Result<usize> {
     let mut made = [0u8; 512];
     let w = agreement::module_text(request, &mut made);
     let mut no: u8 = 0;
     let item = items::text_item(say::cut(&made, 0, w.len), n, &mut no);
-    say::hex(known, no, item)
+    say::hex(rt, known, no, item)
 }
 
 // ---- a part of what is lent
 
-fn part<'a>(known: &[u8], call: usize, n: usize, a: &'a [u8], b: &'a [u8]) -> usize {
+fn part<'a>(
+    rt: &impl Print,
+    known: &[u8],
+    call: usize,
+    n: usize,
+    a: &'a [u8],
+    b: &'a [u8],
+) -> io::Result<usize> {
     let mut no: u8 = 0;
     let mut field: u8 = 0;
     let part = match call {
@@ -102,11 +123,11 @@ fn part<'a>(known: &[u8], call: usize, n: usize, a: &'a [u8], b: &'a [u8]) -> us
         ATTRIBUTE => fields::attribute(a, n, &mut no, &mut field),
         _ => fields::attribute_named(a, b, &mut no, &mut field),
     };
-    say::part(known, no, part)
+    say::part(rt, known, no, part)
 }
 
 // Every attribute of a wrapped key by its number, each with its ';' again; no list has as many as bytes are read.
-fn attributes(known: &[u8], key: &[u8]) -> usize {
+fn attributes(rt: &impl Print, known: &[u8], key: &[u8]) -> io::Result<usize> {
     let mut no: u8 = 0;
     let mut field: u8 = 0;
     let mut at: usize = 0;
@@ -116,10 +137,10 @@ fn attributes(known: &[u8], key: &[u8]) -> usize {
         if no != numbers::ACCEPTED {
             break;
         }
-        at = say::piece(known, say::piece(known, at, card), b";");
+        at = say::piece(rt, known, say::piece(rt, known, at, card)?, b";")?;
         n += 1;
     }
-    at
+    Ok(at)
 }
 
 // ---- a file of records, or of records with trailers
@@ -139,7 +160,7 @@ fn count(call: usize, file: &[u8]) -> files::Totals {
 }
 
 // The numbers of the lines of a file, of eight at the most.
-fn line_numbers(known: &[u8], call: usize, file: &[u8]) -> usize {
+fn line_numbers(rt: &impl Print, known: &[u8], call: usize, file: &[u8]) -> io::Result<usize> {
     let mut at: usize = 0;
     let mut place: usize = 0;
     let mut k: usize = 0;
@@ -147,19 +168,29 @@ fn line_numbers(known: &[u8], call: usize, file: &[u8]) -> usize {
         let files::Line::Read { no, next, .. } = line_at(call, file, place) else {
             break;
         };
-        at = say::piece(known, say::number(known, at, no as usize), b" ");
+        at = say::piece(rt, known, say::number(rt, known, at, no as usize)?, b" ")?;
         place = next;
         k += 1;
     }
-    at
+    Ok(at)
 }
 
 // Those, how many lines there are, and how many are accepted.
-fn lines(known: &[u8], call: usize, file: &[u8]) -> usize {
-    let mut at = line_numbers(known, call, file);
+fn lines(rt: &impl Print, known: &[u8], call: usize, file: &[u8]) -> io::Result<usize> {
+    let mut at = line_numbers(rt, known, call, file)?;
     let totals = count(call, file);
-    at = say::number(known, say::piece(known, at, b"lines "), totals.lines);
-    say::number(known, say::piece(known, at, b" accepted "), totals.accepted)
+    at = say::number(
+        rt,
+        known,
+        say::piece(rt, known, at, b"lines ")?,
+        totals.lines,
+    )?;
+    say::number(
+        rt,
+        known,
+        say::piece(rt, known, at, b" accepted ")?,
+        totals.accepted,
+    )
 }
 
 // The parts of a step from the third on, each with a line feed behind it; answers how many bytes they are.
@@ -178,35 +209,41 @@ fn put_lines(step: &[u8], file: &mut [u8; 2048]) -> usize {
     end
 }
 
-fn of_file(known: &[u8], call: usize, file: &[u8; 2048], len: usize) -> usize {
+fn of_file(
+    rt: &impl Print,
+    known: &[u8],
+    call: usize,
+    file: &[u8; 2048],
+    len: usize,
+) -> io::Result<usize> {
     let bytes = say::cut(file, 0, len);
     match call {
-        SHA1_FILE => sha1(known, bytes),
-        _ => lines(known, call, bytes),
+        SHA1_FILE => sha1(rt, known, bytes),
+        _ => lines(rt, known, call, bytes),
     }
 }
 
 // Of the file of these lines, without its last n bytes.
-fn file(known: &[u8], call: usize, n: usize, step: &[u8]) -> usize {
+fn file(rt: &impl Print, known: &[u8], call: usize, n: usize, step: &[u8]) -> io::Result<usize> {
     let mut file = [0u8; 2048];
     let end = put_lines(step, &mut file);
-    of_file(known, call, &file, std::num::wrapping_sub_usize(end, n))
+    of_file(rt, known, call, &file, std::num::wrapping_sub_usize(end, n))
 }
 
 // ---- hashes
 
-fn hash(known: &[u8], bytes: &[u8]) -> usize {
+fn hash(rt: &impl Print, known: &[u8], bytes: &[u8]) -> io::Result<usize> {
     let digest = sha384::sha384_of(bytes);
-    say::hex(known, numbers::ACCEPTED, &digest)
+    say::hex(rt, known, numbers::ACCEPTED, &digest)
 }
 
-fn sha1(known: &[u8], bytes: &[u8]) -> usize {
+fn sha1(rt: &impl Print, known: &[u8], bytes: &[u8]) -> io::Result<usize> {
     let digest = sha_1::sha1_of(bytes);
-    say::hex(known, numbers::ACCEPTED, &digest)
+    say::hex(rt, known, numbers::ACCEPTED, &digest)
 }
 
 // SHA-1, or else SHA-384, of the bytes a thousand times, one behind the other.
-fn thousandfold(known: &[u8], is_sha1: bool, bytes: &[u8]) -> usize {
+fn thousandfold(rt: &impl Print, known: &[u8], is_sha1: bool, bytes: &[u8]) -> io::Result<usize> {
     let mut long = sha384::Sha384::begin();
     let mut short = sha_1::Sha1::begin();
     let mut k: usize = 0;
@@ -217,16 +254,16 @@ fn thousandfold(known: &[u8], is_sha1: bool, bytes: &[u8]) -> usize {
     }
     if is_sha1 {
         let digest = short.end();
-        return say::hex(known, numbers::ACCEPTED, &digest);
+        return say::hex(rt, known, numbers::ACCEPTED, &digest);
     }
     let digest = long.end();
-    say::hex(known, numbers::ACCEPTED, &digest)
+    say::hex(rt, known, numbers::ACCEPTED, &digest)
 }
 
-fn fingerprint(known: &[u8], key: &[u8]) -> usize {
+fn fingerprint(rt: &impl Print, known: &[u8], key: &[u8]) -> io::Result<usize> {
     let mut made = [0u8; 16];
     let w = fingerprint::write_fingerprint(key, &mut made);
-    say::part(known, w.no, say::cut(&made, 0, w.len))
+    say::part(rt, known, w.no, say::cut(&made, 0, w.len))
 }
 
 // ---- by name
@@ -338,6 +375,7 @@ pub(crate) fn call_of(name: &[u8]) -> usize {
 }
 
 pub(crate) fn run<'a>(
+    rt: &impl Print,
     name: &[u8],
     n: usize,
     a: &'a [u8],
@@ -345,37 +383,42 @@ pub(crate) fn run<'a>(
     c: &[u8],
     step: &[u8],
     known: &[u8],
-) -> usize {
+) -> io::Result<usize> {
     let call = call_of(name);
     match call {
-        FILE | TRAILED_FILE | SHA1_FILE => file(known, call, n, step),
-        SHARED_INFO..=CENTRE_TEXT => agreement_text(known, call, a),
-        MODULE_ITEM => module_item(known, a, n),
-        READ_IDENTITY => say::part(known, reading::read_identity(a).no, b"accepted"),
-        READ_RECORD => say::part(known, reading::read_record(a).no, b"accepted"),
-        ATTRIBUTES => attributes(known, a),
-        HASH => hash(known, a),
-        THOUSANDFOLD => thousandfold(known, false, a),
-        FINGERPRINT => fingerprint(known, a),
-        CHECK_FINGERPRINT => say::part(known, fingerprint::check_fingerprint(a).no, b"accepted"),
-        HMAC => confirmations::hmac(known, n, a, b),
-        MODULE_TAG => confirmations::module_tag(known, a, b),
-        CENTRE_TAG => confirmations::centre_tag(known, a, b),
-        MAC_KEY => confirmations::key(known, false, n, a, b),
-        KEK => confirmations::key(known, true, n, a, b),
-        CONFIRM_REQUEST => confirmations::confirm_request(known, a, b),
-        CONFIRM_RESPONSE => confirmations::confirm_response(known, a, b, c),
-        SHA1 => sha1(known, a),
-        SHA1_THOUSANDFOLD => thousandfold(known, true, a),
-        READ_TRAILED => say::part(known, trailed::read_trailed(a).no, b"accepted"),
-        BUILD_TRAILED => rebuild(known, a, trailed::read_trailed(a)),
-        WRITE_TRAILED => writing::write(known, call, a, b),
-        WRITE_MAIL | READ_MAIL => writing::by_mail(known, call, a, step),
-        MOMENT_OF => dates::moment(known, a),
-        EXPIRY_OF => dates::expiry(known, a),
-        CABINET => filing::go(known, n, step),
-        BUILD_UNSIGNED => rebuild_unsigned(known, a, read(a)),
-        BUILD => rebuild(known, a, read(a)),
-        _ => part(known, call, n, a, b),
+        FILE | TRAILED_FILE | SHA1_FILE => file(rt, known, call, n, step),
+        SHARED_INFO..=CENTRE_TEXT => agreement_text(rt, known, call, a),
+        MODULE_ITEM => module_item(rt, known, a, n),
+        READ_IDENTITY => say::part(rt, known, reading::read_identity(a).no, b"accepted"),
+        READ_RECORD => say::part(rt, known, reading::read_record(a).no, b"accepted"),
+        ATTRIBUTES => attributes(rt, known, a),
+        HASH => hash(rt, known, a),
+        THOUSANDFOLD => thousandfold(rt, known, false, a),
+        FINGERPRINT => fingerprint(rt, known, a),
+        CHECK_FINGERPRINT => say::part(
+            rt,
+            known,
+            fingerprint::check_fingerprint(a).no,
+            b"accepted",
+        ),
+        HMAC => confirmations::hmac(rt, known, n, a, b),
+        MODULE_TAG => confirmations::module_tag(rt, known, a, b),
+        CENTRE_TAG => confirmations::centre_tag(rt, known, a, b),
+        MAC_KEY => confirmations::key(rt, known, false, n, a, b),
+        KEK => confirmations::key(rt, known, true, n, a, b),
+        CONFIRM_REQUEST => confirmations::confirm_request(rt, known, a, b),
+        CONFIRM_RESPONSE => confirmations::confirm_response(rt, known, a, b, c),
+        SHA1 => sha1(rt, known, a),
+        SHA1_THOUSANDFOLD => thousandfold(rt, known, true, a),
+        READ_TRAILED => say::part(rt, known, trailed::read_trailed(a).no, b"accepted"),
+        BUILD_TRAILED => rebuild(rt, known, a, trailed::read_trailed(a)),
+        WRITE_TRAILED => writing::write(rt, known, call, a, b),
+        WRITE_MAIL | READ_MAIL => writing::by_mail(rt, known, call, a, step),
+        MOMENT_OF => dates::moment(rt, known, a),
+        EXPIRY_OF => dates::expiry(rt, known, a),
+        CABINET => filing::go(rt, known, n, step),
+        BUILD_UNSIGNED => rebuild_unsigned(rt, known, a, read(a)),
+        BUILD => rebuild(rt, known, a, read(a)),
+        _ => part(rt, known, call, n, a, b),
     }
 }

@@ -15,7 +15,7 @@ mod writing;
 
 ghost use Rattle.std.specs.Prelude.{◌≡◌, length};
 
-use libc::STDIN_FILENO;
+use std::io;
 
 // The number that a word of one digit is; 0 for any other word.
 fn digit(word: &[u8]) -> usize {
@@ -26,10 +26,11 @@ fn digit(word: &[u8]) -> usize {
 }
 
 // 1 where the step agrees, else 0.
-fn run_step(title: &[u8], step: &[u8], known: &[u8]) -> usize {
-    say::text(title);
-    say::text(b"\n  ");
+fn run_step(rt: &impl Print, title: &[u8], step: &[u8], known: &[u8]) -> io::Result<usize> {
+    say::text(rt, title)?;
+    say::text(rt, b"\n  ")?;
     let agrees_to = calls::run(
+        rt,
         frame::part(b'\t', step, 0),
         digit(frame::part(b'\t', step, 1)),
         frame::part(b'\t', step, 2),
@@ -37,13 +38,13 @@ fn run_step(title: &[u8], step: &[u8], known: &[u8]) -> usize {
         frame::part(b'\t', step, 4),
         step,
         known,
-    );
+    )?;
     if agrees_to == known.len() {
-        say::text(b"\n  agrees\n");
-        return 1;
+        say::text(rt, b"\n  agrees\n")?;
+        return Ok(1);
     }
-    say::text(b"\n  DIFFERS\n");
-    0
+    say::text(rt, b"\n  DIFFERS\n")?;
+    Ok(0)
 }
 
 // Room for the input, which has no more lines than it has bytes. The length is stated because a proof that looked at this
@@ -57,7 +58,7 @@ fn room() -> [u8; ROOM]
 }
 
 // A step with no title ends the list.
-fn run_all(input: &[u8]) {
+fn run_all(rt: &impl Print, input: &[u8]) -> io::Result<()> {
     let mut agree: usize = 0;
     let mut line: usize = 0;
     while line < ROOM {
@@ -67,14 +68,14 @@ fn run_all(input: &[u8]) {
         }
         let step = frame::part(b'\n', input, line + 1);
         let known = frame::part(b'\n', input, line + 2);
-        agree = std::num::wrapping_add_usize(agree, run_step(title, step, known));
+        agree = std::num::wrapping_add_usize(agree, run_step(rt, title, step, known)?);
         line += 3;
     }
-    say::totals(agree, std::num::wrapping_sub_usize(line / 3, agree));
+    say::totals(rt, agree, std::num::wrapping_sub_usize(line / 3, agree))
 }
 
-fn main() {
+fn main(rt: HostRuntime) -> io::Result<()> {
     let mut buffer = room();
-    let n = io::read_full(STDIN_FILENO, &mut buffer);
-    run_all(&buffer[..n]);
+    let n = standard_input::read_full(&mut rt.stdin(), &mut buffer)?;
+    run_all(&rt, &buffer[..n])
 }

@@ -2,18 +2,15 @@
 // characters, or `refused` and the number. It is printed piece by piece and held against the value known: a function is told
 // up to which place that agrees, and answers up to which it agrees then. A place past the end of the value known stands for
 // none.
-use libc::STDOUT_FILENO;
+use std::io;
 
-pub(crate) fn text(s: &[u8]) {
-    io::write_all(STDOUT_FILENO, s);
+pub(crate) fn text(rt: &impl Print, s: &[u8]) -> io::Result<()> {
+    rt.write_all(s)
 }
 
-pub(crate) fn totals(agree: usize, differ: usize) {
-    text(b"steps that agree: ");
-    io::print_decimal(STDOUT_FILENO, agree as u64);
-    text(b"\nsteps that differ: ");
-    io::print_decimal(STDOUT_FILENO, differ as u64);
-    text(b"\n");
+pub(crate) fn totals(rt: &impl Print, agree: usize, differ: usize) -> io::Result<()> {
+    println!(rt; "steps that agree: {agree}")?;
+    println!(rt; "steps that differ: {differ}")
 }
 
 // The bytes from a place to another, and none where they are not all there.
@@ -26,18 +23,19 @@ pub(crate) fn cut<'a>(s: &'a [u8], from: usize, to: usize) -> &'a [u8] {
     &s[0..0]
 }
 
-pub(crate) fn piece(known: &[u8], at: usize, piece: &[u8]) -> usize {
-    text(piece);
+pub(crate) fn piece(rt: &impl Print, known: &[u8], at: usize, piece: &[u8]) -> io::Result<usize> {
+    text(rt, piece)?;
     let end = std::num::wrapping_add_usize(at, piece.len());
     if text::are_same(piece, cut(known, at, end)) {
-        return end;
+        return Ok(end);
     }
-    std::num::wrapping_add_usize(known.len(), 1)
+    Ok(std::num::wrapping_add_usize(known.len(), 1))
 }
 
 // Two decimal digits.
-pub(crate) fn number(known: &[u8], at: usize, n: usize) -> usize {
+pub(crate) fn number(rt: &impl Print, known: &[u8], at: usize, n: usize) -> io::Result<usize> {
     piece(
+        rt,
         known,
         at,
         &[
@@ -48,35 +46,47 @@ pub(crate) fn number(known: &[u8], at: usize, n: usize) -> usize {
 }
 
 // The number, and the field's where one is named.
-pub(crate) fn answer(known: &[u8], at: usize, no: u8, field: u8) -> usize {
-    let end = number(known, at, no as usize);
+pub(crate) fn answer(
+    rt: &impl Print,
+    known: &[u8],
+    at: usize,
+    no: u8,
+    field: u8,
+) -> io::Result<usize> {
+    let end = number(rt, known, at, no as usize)?;
     if field == 0 {
-        return end;
+        return Ok(end);
     }
-    number(known, piece(known, end, b" field "), field as usize)
+    number(
+        rt,
+        known,
+        piece(rt, known, end, b" field ")?,
+        field as usize,
+    )
 }
 
-pub(crate) fn part(known: &[u8], no: u8, part: &[u8]) -> usize {
+pub(crate) fn part(rt: &impl Print, known: &[u8], no: u8, part: &[u8]) -> io::Result<usize> {
     if no != numbers::ACCEPTED {
-        return number(known, piece(known, 0, b"refused "), no as usize);
+        return number(rt, known, piece(rt, known, 0, b"refused ")?, no as usize);
     }
-    piece(known, 0, part)
+    piece(rt, known, 0, part)
 }
 
-pub(crate) fn hex(known: &[u8], no: u8, bytes: &[u8]) -> usize {
+pub(crate) fn hex(rt: &impl Print, known: &[u8], no: u8, bytes: &[u8]) -> io::Result<usize> {
     if no != numbers::ACCEPTED {
-        return part(known, no, bytes);
+        return part(rt, known, no, bytes);
     }
     let mut at: usize = 0;
     let mut i: usize = 0;
     while i < bytes.len() {
         let byte = bytes[i];
         at = piece(
+            rt,
             known,
             at,
             &[text::hex_digit(byte / 16), text::hex_digit(byte % 16)],
-        );
+        )?;
         i += 1;
     }
-    at
+    Ok(at)
 }

@@ -12,6 +12,6 @@ pub returns : goal.returns
 returns c =
     let long = before_length c.args.mark c.args.n in
     let d = c.decimal-k in
-    let e = decimal_part d.new.out c.args.n d.result c.ranges.n.fits d.ensures.1.0 d.ensures.1.1 in
+    let e = decimal_part d.new.out c.args.n d.result c.ranges.n.fits d.ensures.len d.ensures.digits in
     let first = put_as e (put_of (omega (arith, ap length e, long, c.requires)) c.put-next.ensures) in
     put_then first (put_of (omega (arith, first.next, put_length first, long, c.requires)) c.put_byte.ensures)

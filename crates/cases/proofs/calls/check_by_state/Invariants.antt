@@ -2,7 +2,6 @@
 -- Assumes nothing.
 use Prim.Native.Nat.{◌-◌}
 use lib.ListN.{length}
-use borrow.Author.Rules.{rules}
 use Rattle.cases.proofs.calls.check_by_state.Given as goal
 
 abbrev pub invariant-loop-i : goal.invariant-loop-i

@@ -1,9 +1,7 @@
 -- `cases::input::number` ends.
 -- Assumes nothing.
 use Prim.Native.Nat.{◌-◌}
-use native.Mathlib.Omega.{arith}
 use lib.ListN.{length}
-use borrow.Author.Rules.{rules}
 use Rattle.cases.proofs.input.number.Given as goal
 
 abbrev pub invariant-loop-i : goal.invariant-loop-i

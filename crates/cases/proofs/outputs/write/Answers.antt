@@ -3,8 +3,7 @@
 use mathlib.Core.Path.{sym}
 use native.Mathlib.Omega.{arith}
 use lib.Seq.{length-take-le}
-use borrow.Author.Rules.{rules}
 use Rattle.cases.proofs.outputs.write.Goals as goal
 
 pub slice_bounds-write_to-end : goal.slice_bounds-write_to-end
-slice_bounds-write_to-end c = sym (length-take-le _ _ (omega arith))
+slice_bounds-write_to-end g c = sym (length-take-le _ _ (omega arith))

@@ -3,7 +3,6 @@
 use mathlib.Core.Path.{sym}
 use native.Mathlib.Omega.{arith}
 use lib.Seq.{length-take-le}
-use borrow.Author.Rules.{rules}
 use Rattle.cases.proofs.outputs.write_to.Goals as goal
 
 pub slice_bounds-build-end : goal.slice_bounds-build-end

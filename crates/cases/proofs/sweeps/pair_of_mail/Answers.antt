@@ -3,7 +3,6 @@
 use mathlib.Core.Path.{sym}
 use native.Mathlib.Omega.{arith}
 use lib.Seq.{length-take-le}
-use borrow.Author.Rules.{rules}
 use Rattle.cases.proofs.sweeps.pair_of_mail.Goals as goal
 
 pub slice_bounds-read_mail-end : goal.slice_bounds-read_mail-end

@@ -1,11 +1,10 @@
 -- `cases::sweeps::sweep` ends.
 -- Assumes nothing.
 use Prim.Native.Nat.{◌-◌}
-use borrow.Author.Rules.{rules}
 use Rattle.cases.proofs.sweeps.sweep.Given as goal
 
 abbrev pub invariant-loop-byte : goal.invariant-loop-byte
-invariant-loop-byte l = Unit {0}
+invariant-loop-byte g l = Unit {0}
 
 abbrev pub decreases-loop-byte : goal.decreases-loop-byte
-decreases-loop-byte l = 256 - l.byte
+decreases-loop-byte g l = 256 - l.byte

@@ -1,10 +1,10 @@
 -- `worked::calls::attributes` ends.
 -- Assumes nothing.
-use Rattle.std.proofs.Common.{◌-◌, rules}
+use Rattle.std.proofs.Common.{◌-◌}
 use Rattle.worked.proofs.calls.attributes.Given as goal
 
 abbrev pub invariant-loop-n : goal.invariant-loop-n
-invariant-loop-n l = Unit {0}
+invariant-loop-n g l = Unit {0}
 
 abbrev pub decreases-loop-n : goal.decreases-loop-n
-decreases-loop-n l = 1024 - l.n
+decreases-loop-n g l = 1024 - l.n

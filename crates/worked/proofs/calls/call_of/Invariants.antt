@@ -1,6 +1,6 @@
 -- `worked::calls::call_of` ends.
 -- Assumes nothing.
-use Rattle.std.proofs.Common.{◌-◌, rules}
+use Rattle.std.proofs.Common.{◌-◌}
 use Rattle.worked.proofs.calls.call_of.Given as goal
 
 abbrev pub invariant-loop-k : goal.invariant-loop-k

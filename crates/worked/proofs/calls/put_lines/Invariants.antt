@@ -1,6 +1,6 @@
 -- `worked::calls::put_lines` ends.
 -- Assumes nothing.
-use Rattle.std.proofs.Common.{◌-◌, rules}
+use Rattle.std.proofs.Common.{◌-◌}
 use Rattle.worked.proofs.calls.put_lines.Given as goal
 
 abbrev pub invariant-loop-k : goal.invariant-loop-k

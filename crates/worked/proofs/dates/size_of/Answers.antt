@@ -1,7 +1,6 @@
 -- `worked::dates::size_of` is safe: a number that is not negative is an `u64`, and so is -1 less a negative one.
 -- Assumes nothing.
 use Rattle.text.proofs.Seconds.{minus_fits, minus_casts, casts}
-use Rattle.std.proofs.Common.{rules}
 use Rattle.worked.proofs.dates.size_of.Goals as goal
 
 pub overflow_sub-x : goal.overflow_sub-x

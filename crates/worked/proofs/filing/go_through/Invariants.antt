@@ -1,10 +1,10 @@
 -- `worked::filing::go_through` ends.
 -- Assumes nothing.
-use Rattle.std.proofs.Common.{◌≡◌, ◌-◌, length, rules}
+use Rattle.std.proofs.Common.{◌≡◌, ◌-◌, length}
 use Rattle.worked.proofs.filing.go_through.Given as goal
 
 abbrev pub invariant-loop-k : goal.invariant-loop-k
-invariant-loop-k l = length l.lent ≡ length l.initial.lent
+invariant-loop-k g l = length l.lent ≡ length l.initial.lent
 
 abbrev pub decreases-loop-k : goal.decreases-loop-k
-decreases-loop-k l = 102 - l.k
+decreases-loop-k g l = 102 - l.k

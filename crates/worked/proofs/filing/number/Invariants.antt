@@ -1,6 +1,6 @@
 -- `worked::filing::number` ends.
 -- Assumes nothing.
-use Rattle.std.proofs.Common.{◌-◌, length, rules}
+use Rattle.std.proofs.Common.{◌-◌, length}
 use Rattle.worked.proofs.filing.number.Given as goal
 
 abbrev pub invariant-loop-i : goal.invariant-loop-i

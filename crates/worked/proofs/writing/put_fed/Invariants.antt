@@ -1,6 +1,6 @@
 -- `worked::writing::put_fed` ends.
 -- Assumes nothing.
-use Rattle.std.proofs.Common.{◌-◌, length, rules}
+use Rattle.std.proofs.Common.{◌-◌, length}
 use Rattle.worked.proofs.writing.put_fed.Given as goal
 
 abbrev pub invariant-loop-at : goal.invariant-loop-at

@@ -9,9 +9,9 @@ use Rattle.text.specs.Text.{Bytes}
 use Rattle.format.specs.Read.{body, check, read_record}
 use Rattle.format.specs.Damage.{Accepted, Refused, WithinTwo, Flipped, InCheck, Either}
 use Rattle.trailed.specs.Trailed.{InRecord, read_trailed}
-use Rattle.promises.specs.Files.{PlainSays}
-use Rattle.promises.specs.Trailed.{TrailedSays}
-use Rattle.promises.specs.Demand3.{DamageCaught}
+use Rattle.promises.proofs.Statements.Files.{PlainSays}
+use Rattle.promises.proofs.Statements.Trailed.{TrailedSays}
+use Rattle.promises.proofs.Statements.Demand3.{DamageCaughtBy}
 use Rattle.promises.specs.Worked.{response, four_flipped, three_flipped, later_response, two_flipped}
 
 -- the check tells two flips apart in at most 32,767 bits (`two` in Check.antt), and no accepted record has more: it has at most 1,024 bytes
@@ -19,15 +19,15 @@ abbrev pub NoLimit : Type 0
 NoLimit = (x : Bytes) → Accepted (read_record x) → 8 * length x ≤ most_bits
 
 pub record FlippedBits : Type 0 where
-  pub in_plain : DamageCaught read_record Flipped PlainSays
+  pub in_plain : DamageCaughtBy read_record Flipped PlainSays
   -- the flips lie in the record in front of the '#'
-  pub in_trailed : DamageCaught read_trailed (InRecord Flipped) TrailedSays
+  pub in_trailed : DamageCaughtBy read_trailed (InRecord Flipped) TrailedSays
   pub no_limit : NoLimit
   -- so of every accepted record: after such flips it is refused
   pub of-records : (x y : Bytes) → AreBytes x → AreBytes y → length x ≡ length y → Flipped x y → Accepted (read_record x) → Refused (read_record y)
   -- each line may be damaged in its own way: as demand 3 says, by such flips, or in the last four bytes of the record alone, however
-  pub each_plain : DamageCaught read_record (Either WithinTwo (Either Flipped InCheck)) PlainSays
-  pub each_trailed : DamageCaught read_trailed (Either WithinTwo (InRecord (Either Flipped InCheck))) TrailedSays
+  pub each_plain : DamageCaughtBy read_record (Either WithinTwo (Either Flipped InCheck)) PlainSays
+  pub each_trailed : DamageCaughtBy read_trailed (Either WithinTwo (InRecord (Either Flipped InCheck))) TrailedSays
 
 -- ---- where the promise ends
 

@@ -10,7 +10,7 @@ use Rattle.format.specs.Build.{record_of, Permitted, Built}
 use Rattle.format.specs.Read.{accepted, read_identity, read_record}
 use Rattle.format.specs.Attributes.{cards_in}
 use Rattle.format.specs.Files.{line_feed}
-use Rattle.format.specs.Damage.{DamagedOver, WithinTwo, Flipped, Damaged}
+use Rattle.format.specs.Damage.{DamagedOver, DamagedBy, Flipped, Damaged}
 use Rattle.places.specs.Places.{lengths}
 use Rattle.building.specs.Building.{run, Builds}
 use Rattle.files.specs.declared.Line.{Line}
@@ -19,16 +19,16 @@ use Rattle.files.specs.Walk.{number_of}
 use Rattle.files.specs.Steps.{Steps}
 use Rattle.newer.specs.Keys.{Agreed}
 use Rattle.newer.specs.Newer.{theFirst, theSecond, newer}
-use Rattle.promises.specs.Attributes.{Wrapped}
+use Rattle.promises.proofs.Statements.Attributes.{Wrapped}
 use Rattle.trailed.specs.Trailed.{InRecord, read_trailed}
 use Rattle.mail.specs.Mail.{PassedOver}
 use Rattle.shelf.specs.Cabinet.{put_key, remove_key, admit, find_key, count_keys}
-use Rattle.promises.specs.Cabinet.{IsCabinet}
-use Rattle.promises.specs.Dates.{Follows}
-use Rattle.promises.specs.Files.{PlainSays}
-use Rattle.promises.specs.Trailed.{TrailedSays}
-use Rattle.promises.specs.Demand3.{Called}
-use Rattle.promises.specs.Rebuilding.{Asked, IdentityField, RecordField}
+use Rattle.promises.proofs.Statements.Cabinet.{IsCabinet}
+use Rattle.promises.proofs.Statements.Dates.{Follows}
+use Rattle.promises.proofs.Statements.Files.{PlainSays}
+use Rattle.promises.proofs.Statements.Trailed.{TrailedSays}
+use Rattle.promises.proofs.Statements.Demand3.{Called}
+use Rattle.promises.proofs.Statements.Rebuilding.{Asked, IdentityField, RecordField}
 use Rattle.promises.specs.Worked.{fields_of_worked, unsigned_key_fields, module_id, unsigned_module_key, centre_key_fields, centre_key, module_key, later_key, request_fields, request, key_attributes, key_fields, key, sound_file, damaged_file, flipped_file, trailed_file, damaged_trailed_file, flipped_trailed_file}
 
 pub record Witnesses : Type 0 where
@@ -64,14 +64,14 @@ pub record Witnesses : Type 0 where
   pub caught : (f g : Bor Bytes) → f.now ≡ sound_file → g.now ≡ damaged_file → (l l' m m' : Line) → Called PlainSays f 0 (l ∷ l' ∷ []) → Called PlainSays g 0 (m ∷ m' ∷ [])
       → (number_of l ≡ 0) × (number_of l' ≡ 0) × (l ≡ m) × (number_of m' ≢ 0)
   -- the same of a manufacturer's file, across the end of the record
-  pub damaged_trailed : DamagedOver read_trailed WithinTwo trailed_file damaged_trailed_file
+  pub damaged_trailed : DamagedOver read_trailed trailed_file damaged_trailed_file
   pub caught_trailed : (f g : Bor Bytes) → f.now ≡ trailed_file → g.now ≡ damaged_trailed_file → (l m : Line) → Called TrailedSays f 0 (l ∷ []) → Called TrailedSays g 0 (m ∷ [])
       → (number_of l ≡ 0) × (number_of m ≢ 0)
   -- E12: a file that is damaged as it says, by two flips, and a manufacturer's, by three
-  pub flipped : DamagedOver read_record Flipped sound_file flipped_file
+  pub flipped : DamagedBy read_record Flipped sound_file flipped_file
   pub flipped_caught : (f g : Bor Bytes) → f.now ≡ sound_file → g.now ≡ flipped_file → (l l' m m' : Line) → Called PlainSays f 0 (l ∷ l' ∷ []) → Called PlainSays g 0 (m ∷ m' ∷ [])
       → (number_of l ≡ 0) × (number_of l' ≡ 0) × (l ≡ m) × (number_of m' ≢ 0)
-  pub flipped_trailed : DamagedOver read_trailed (InRecord Flipped) trailed_file flipped_trailed_file
+  pub flipped_trailed : DamagedBy read_trailed (InRecord Flipped) trailed_file flipped_trailed_file
   pub flipped_caught_trailed : (f g : Bor Bytes) → f.now ≡ trailed_file → g.now ≡ flipped_trailed_file → (l m : Line) → Called TrailedSays f 0 (l ∷ []) → Called TrailedSays g 0 (m ∷ [])
       → (number_of l ≡ 0) × (number_of m ≢ 0)
   -- by mail: a text that is passed over before a block

@@ -19,7 +19,7 @@ use Rattle.fields.proofs.attribute_place.Reads as attribute-place
 use Rattle.fields.proofs.attribute_named_place.Reads as attribute-named-place
 use Rattle.fields.proofs.attribute.Reads as attribute
 use Rattle.fields.proofs.attribute_named.Reads as attribute-named
-use Rattle.promises.specs.Reading.{OwnFirst, NothingRefused, NowhereRefused}
+use Rattle.promises.proofs.Statements.Reading.{OwnFirst, NothingRefused, NowhereRefused}
 
 -- s is the wrapped key of the fields fs, and its list is written from the cards cs
 pub record Wrapped (s : Bytes) (fs cs : List Bytes) : Type 0 where

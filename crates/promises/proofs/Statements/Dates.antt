@@ -14,7 +14,7 @@ use Rattle.subjects.specs.Keys.{Key}
 use Rattle.expiry.specs.Expiry.{expiry}
 use Rattle.expiry.proofs.expiry_of.Reads as expiry-of
 use Rattle.promises.specs.Calls.{Holds}
-use Rattle.promises.specs.Cabinet.{Filled}
+use Rattle.promises.proofs.Statements.Cabinet.{Filled}
 
 -- the date of t is the day after that of s: in the same month, the first of the next month, or 1 January of the next year
 abbrev pub DayAfter : Bytes → Bytes → Type 0

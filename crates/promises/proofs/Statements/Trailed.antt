@@ -20,8 +20,8 @@ use Rattle.trailed.proofs.trailed_at.Reads as trailed-at
 use Rattle.trailed.proofs.count_trailed.Reads as count-trailed
 use Rattle.trailed.proofs.write_trailed.Reads as write-trailed
 use Rattle.promises.specs.Calls.{Holds, Allows}
-use Rattle.promises.specs.Reading.{NoPlaces}
-use Rattle.promises.specs.Files.{Walked}
+use Rattle.promises.proofs.Statements.Reading.{NoPlaces}
+use Rattle.promises.proofs.Statements.Files.{Walked}
 
 -- s is the record of the fields fs, which are permitted for the kind k, and its trailer
 abbrev pub TrailedLine : Bytes → Kind → List Bytes → Type 0

@@ -2,10 +2,10 @@
 -- Assumes nothing.
 use Rattle.std.specs.Prelude.{ℕ, []}
 use Rattle.promises.specs.Calls.{Holds, Answers, Leaves}
-use Rattle.promises.specs.Total.{Takes}
-use Rattle.promises.specs.Determined.{OneAnswer, OneIn, OneLeft}
-use Rattle.promises.specs.Refusals.{GivesOnly}
-use Rattle.promises.specs.FieldNumbers.{NamesField}
+use Rattle.promises.proofs.Statements.Total.{Takes}
+use Rattle.promises.proofs.Statements.Determined.{OneAnswer, OneIn, OneLeft}
+use Rattle.promises.proofs.Statements.Refusals.{GivesOnly}
+use Rattle.promises.proofs.Statements.FieldNumbers.{NamesField}
 
 abbrev One : Type 0
 One = Unit {0}
