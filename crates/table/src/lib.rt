@@ -206,6 +206,8 @@ pub fn is_pubkey(row: usize) -> bool
 
 // ---- the row that has a name
 
+// A function of its own in the object too: where it stands in a loop over all rows, LLVM makes a table of jumps of the names' lengths.
+#[inline(never)]
 fn is_named(row: usize, title: &[u8]) -> bool
     requires { row < row_count }
     ensures { result ≡ of_row (λ k. same title.now (name k)) false row }
