@@ -16,7 +16,7 @@ use Rattle.text.proofs.Part.{same_part}
 use Rattle.text.proofs.Tests.{by_test, less_or, T_true, T_false}
 use Rattle.format.specs.Kinds.{Kind, name, mark, fields_of, identity_kinds}
 use Rattle.format.specs.Build.{joined, Built}
-use Rattle.format.specs.Read.{Outcome, accepted, refused, place}
+use Rattle.format.specs.Read.{Outcome, accepted, refused}
 use Rattle.format.proofs.Outcomes.{Honest}
 use Rattle.format.proofs.Exactly.{identity_says, read_says, its_parts, its_count, its_few}
 use Rattle.table.specs.Table.{count_of}

@@ -1,7 +1,6 @@
 -- `agreement::centre_text` meets its contract.
 -- Assumes nothing.
 use Rattle.agreement.specs.Texts.{centre_text}
-use borrow.Author.Rules.{rules}
 use Rattle.agreement.proofs.centre_text.Goals as goal
 
 pub returns : goal.returns

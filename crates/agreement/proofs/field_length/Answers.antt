@@ -5,7 +5,6 @@ use lib.ListN.{length}
 use Rattle.format.specs.Kinds.{REQ}
 use Rattle.format.specs.Read.{fields_in}
 use Rattle.agreement.proofs.Items.{item_point, item_other}
-use borrow.Author.Rules.{rules}
 use Rattle.agreement.proofs.field_length.Goals as goal
 
 pub returns-then-n-ne-REQ_QE : goal.returns-then-n-ne-REQ_QE

@@ -1,7 +1,6 @@
 -- `agreement::module_text` meets its contract.
 -- Assumes nothing.
 use Rattle.agreement.specs.Texts.{module_text}
-use borrow.Author.Rules.{rules}
 use Rattle.agreement.proofs.module_text.Goals as goal
 
 pub returns : goal.returns

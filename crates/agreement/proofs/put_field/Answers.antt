@@ -8,7 +8,6 @@ use Rattle.format.specs.Read.{fields_in}
 use Rattle.put.proofs.Pieces.{put_as}
 use Rattle.agreement.specs.Steps.{lv_item}
 use Rattle.agreement.proofs.Items.{item_other, item_qe, item_hex, item_point}
-use borrow.Author.Rules.{rules}
 use Rattle.agreement.proofs.put_field.Goals as goal
 
 pub put_point-requires : goal.put_point-requires

@@ -2,7 +2,6 @@
 -- Assumes nothing.
 use native.Mathlib.Omega.{arith}
 use Rattle.put.proofs.Pieces.{put_of, put_length, put_then}
-use borrow.Author.Rules.{rules}
 use Rattle.agreement.proofs.put_item.Goals as goal
 
 pub returns : goal.returns

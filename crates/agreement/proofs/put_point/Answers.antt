@@ -1,7 +1,6 @@
 -- `agreement::put_point` meets its contract.
 -- Assumes nothing.
 use Rattle.agreement.proofs.Decoding.{point_put}
-use borrow.Author.Rules.{rules}
 use Rattle.agreement.proofs.put_point.Goals as goal
 
 pub returns : goal.returns

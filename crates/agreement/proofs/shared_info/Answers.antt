@@ -1,7 +1,6 @@
 -- `agreement::shared_info` meets its contract.
 -- Assumes nothing.
 use Rattle.agreement.specs.Texts.{shared_info}
-use borrow.Author.Rules.{rules}
 use Rattle.agreement.proofs.shared_info.Goals as goal
 
 pub returns : goal.returns

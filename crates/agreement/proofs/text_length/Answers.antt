@@ -1,12 +1,7 @@
 -- `agreement::text_length` meets its contract. The loop's invariant: all but the fields from i on are counted.
 -- Assumes nothing.
-use Prim.Native.Nat.{◌-◌}
 use native.Mathlib.Omega.{arith}
-use lib.ListN.{length}
-use Rattle.format.specs.Kinds.{REQ}
-use Rattle.format.specs.Read.{fields_in}
-use Rattle.agreement.proofs.Items.{Counted, counted_none, counted_fits, counted_more, counted_all}
-use borrow.Author.Rules.{rules}
+use Rattle.agreement.proofs.Items.{counted_none, counted_fits, counted_more, counted_all}
 use Rattle.agreement.proofs.text_length.Goals as goal
 
 pub loop-i-init : goal.loop-i-init

@@ -1,12 +1,10 @@
 -- `agreement::text_length` meets its contract. The loop's invariant: all but the fields from i on are counted.
 -- Assumes nothing.
 use Prim.Native.Nat.{◌-◌}
-use native.Mathlib.Omega.{arith}
 use lib.ListN.{length}
 use Rattle.format.specs.Kinds.{REQ}
 use Rattle.format.specs.Read.{fields_in}
-use Rattle.agreement.proofs.Items.{Counted, counted_none, counted_fits, counted_more, counted_all}
-use borrow.Author.Rules.{rules}
+use Rattle.agreement.proofs.Items.{Counted}
 use Rattle.agreement.proofs.text_length.Given as goal
 
 abbrev pub invariant-loop-i : goal.invariant-loop-i

@@ -8,7 +8,6 @@ use Rattle.given.proofs.Given.{given_refused, given_short, given_put}
 use Rattle.items.specs.Items.{lv_concat}
 use Rattle.agreement.specs.Steps.{items_by}
 use Rattle.agreement.proofs.Request.{request_read, request_suited, request_places}
-use borrow.Author.Rules.{rules}
 use Rattle.agreement.proofs.write_text.Goals as goal
 
 pub returns-then-answer-ne-ACCEPTED : goal.returns-then-answer-ne-ACCEPTED

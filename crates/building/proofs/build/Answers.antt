@@ -3,7 +3,6 @@
 use native.Mathlib.Omega.{arith}
 use Rattle.put.proofs.Pieces.{put_as}
 use Rattle.building.proofs.Calls.{Begun, call_form, call_kind, call_counted, call_few, call_lie, call_parts, call_record, call_fields, call_long, call_narrow, call_fits, call_denied, call_made}
-use borrow.Author.Rules.{rules}
 use Rattle.building.proofs.build.Goals as goal
 use Rattle.building.proofs.build.Lts as lts
 use Rattle.building.proofs.build.Tie.{the-claims}

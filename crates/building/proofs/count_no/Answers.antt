@@ -3,7 +3,6 @@
 use mathlib.Core.Path.{sym, ap, ◌∙◌}
 use mathlib.Core.Bool.{cond}
 use Rattle.building.proofs.Form.{form_none, form_count, form_sum}
-use borrow.Author.Rules.{rules}
 use Rattle.building.proofs.count_no.Goals as goal
 
 pub returns-then-row-eq-NONE : goal.returns-then-row-eq-NONE

@@ -1,9 +1,6 @@
 -- `building::do_add_up` meets its contract. The loop's invariant: the lengths before j are counted off the total.
 -- Assumes nothing.
-use Prim.Native.Nat.{◌-◌}
-use lib.ListN.{length}
-use Rattle.building.proofs.Sums.{Left, left_all, left_short, left_next, left_end}
-use borrow.Author.Rules.{rules}
+use Rattle.building.proofs.Sums.{left_all, left_short, left_next, left_end}
 use Rattle.building.proofs.do_add_up.Goals as goal
 
 pub loop-j-init : goal.loop-j-init

@@ -2,8 +2,7 @@
 -- Assumes nothing.
 use Prim.Native.Nat.{◌-◌}
 use lib.ListN.{length}
-use Rattle.building.proofs.Sums.{Left, left_all, left_short, left_next, left_end}
-use borrow.Author.Rules.{rules}
+use Rattle.building.proofs.Sums.{Left}
 use Rattle.building.proofs.do_add_up.Given as goal
 
 abbrev pub invariant-loop-j : goal.invariant-loop-j

@@ -1,10 +1,7 @@
 -- `building::places_by` meets its contract. The loop's invariant: the places are all there once those from field j on are written.
 -- Assumes nothing.
-use Prim.Native.Nat.{◌-◌, ◌≤◌}
 use native.Mathlib.Omega.{arith}
-use lib.ListN.{length}
-use Rattle.building.proofs.Pieces.{Found, found_none, found_all, found_fits, found_next}
-use borrow.Author.Rules.{rules}
+use Rattle.building.proofs.Pieces.{found_none, found_all, found_fits, found_next}
 use Rattle.building.proofs.places_by.Goals as goal
 
 pub loop-j-init : goal.loop-j-init

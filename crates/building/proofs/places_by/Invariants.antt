@@ -1,10 +1,8 @@
 -- `building::places_by` meets its contract. The loop's invariant: the places are all there once those from field j on are written.
 -- Assumes nothing.
 use Prim.Native.Nat.{◌-◌, ◌≤◌}
-use native.Mathlib.Omega.{arith}
 use lib.ListN.{length}
-use Rattle.building.proofs.Pieces.{Found, found_none, found_all, found_fits, found_next}
-use borrow.Author.Rules.{rules}
+use Rattle.building.proofs.Pieces.{Found}
 use Rattle.building.proofs.places_by.Given as goal
 
 abbrev pub invariant-loop-j : goal.invariant-loop-j

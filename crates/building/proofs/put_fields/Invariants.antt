@@ -1,10 +1,8 @@
 -- `building::put_fields` meets its contract. The loop's invariant: the fields before j are written, each with its mark.
 -- Assumes nothing.
 use Prim.Native.Nat.{◌-◌}
-use mathlib.Core.Path.{◌∙◌}
 use lib.ListN.{length}
-use Rattle.building.proofs.Writing.{Through, through_none, through_length, through_all, through_next}
-use borrow.Author.Rules.{rules}
+use Rattle.building.proofs.Writing.{Through}
 use Rattle.building.proofs.put_fields.Given as goal
 
 abbrev pub invariant-loop-j : goal.invariant-loop-j

@@ -1,7 +1,6 @@
 -- `building::put_record` meets its contract: the name and its mark, the fields, the check.
 -- Assumes nothing.
 use Rattle.building.proofs.Writing.{Headed, headed, headed_room, headed_end, headed_sealed}
-use borrow.Author.Rules.{rules}
 use Rattle.building.proofs.put_record.Goals as goal
 
 pub put_fields-end-requires : goal.put_fields-end-requires

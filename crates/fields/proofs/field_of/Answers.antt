@@ -1,7 +1,6 @@
 -- `fields::field_of` meets its contract: the part at its place.
 -- Assumes nothing.
 use Rattle.fields.proofs.Wanted.{part_said}
-use borrow.Author.Rules.{rules}
 use Rattle.fields.proofs.field_of.Goals as goal
 
 pub returns : goal.returns

@@ -1,7 +1,6 @@
 -- `fields::identity_field` meets its contract: the part at its place.
 -- Assumes nothing.
 use Rattle.fields.proofs.Wanted.{part_said}
-use borrow.Author.Rules.{rules}
 use Rattle.fields.proofs.identity_field.Goals as goal
 
 pub returns : goal.returns

@@ -1,7 +1,6 @@
 -- `fields::identity_place` meets its contract.
 -- Assumes nothing.
 use Rattle.fields.specs.Steps.{identity}
-use borrow.Author.Rules.{rules}
 use Rattle.fields.proofs.identity_place.Goals as goal
 
 pub returns : goal.returns

@@ -4,7 +4,6 @@ use mathlib.Core.Path.{refl}
 use native.Mathlib.Omega.{arith}
 use Rattle.text.proofs.Tests.{between_low, between_high}
 use Rattle.fields.proofs.Wanted.{place_none, place_there}
-use borrow.Author.Rules.{rules}
 use Rattle.fields.proofs.place_from.Goals as goal
 
 pub returns-then-no-ne-ACCEPTED : goal.returns-then-no-ne-ACCEPTED

@@ -1,7 +1,6 @@
 -- `fields::place_of` meets its contract.
 -- Assumes nothing.
 use Rattle.fields.specs.Steps.{records}
-use borrow.Author.Rules.{rules}
 use Rattle.fields.proofs.place_of.Goals as goal
 
 pub returns : goal.returns

@@ -1,7 +1,6 @@
 -- `fields::record_field` meets its contract: the rows from ECDSA on are all the record kinds.
 -- Assumes nothing.
 use Rattle.reading.proofs.Calls.{record_is}
-use borrow.Author.Rules.{rules}
 use Rattle.fields.proofs.record_field.Goals as goal
 
 pub returns : goal.returns

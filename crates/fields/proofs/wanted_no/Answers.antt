@@ -2,7 +2,6 @@
 -- Assumes nothing.
 use native.Mathlib.Omega.{arith}
 use Rattle.fields.proofs.Wanted.{wanted_refused, wanted_zero, wanted_past, wanted_there, wanted_few}
-use borrow.Author.Rules.{rules}
 use Rattle.fields.proofs.wanted_no.Goals as goal
 
 pub returns-then-answer-ne-ACCEPTED : goal.returns-then-answer-ne-ACCEPTED

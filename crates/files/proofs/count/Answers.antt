@@ -1,14 +1,10 @@
 -- `files::count` meets its contract. The loop's invariant: the lines before the place are counted.
 -- Assumes nothing.
-use Prim.Native.Nat.{◌-◌}
 use mathlib.Core.Path.{sym, ◌∙◌}
-use mathlib.Core.Logic.{⊎_elim}
 use native.Mathlib.Omega.{arith}
-use lib.ListN.{length}
 use Rattle.format.specs.Read.{read_record}
 use Rattle.format.proofs.Damage.{record_never_zero}
-use Rattle.files.proofs.Counting.{Counted, Told, told, counted_none, counted_all, told_beyond, told_inside, counted_accepted, counted_refused}
-use borrow.Author.Rules.{rules}
+use Rattle.files.proofs.Counting.{Told, told, counted_none, counted_all, told_beyond, told_inside, counted_accepted, counted_refused}
 use Rattle.files.proofs.count.Goals as goal
 use Rattle.files.proofs.count.Goals.{then-no-eq-ACCEPTED, else-no-eq-ACCEPTED}
 

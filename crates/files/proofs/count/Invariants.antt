@@ -1,14 +1,9 @@
 -- `files::count` meets its contract. The loop's invariant: the lines before the place are counted.
 -- Assumes nothing.
 use Prim.Native.Nat.{◌-◌}
-use mathlib.Core.Path.{sym, ◌∙◌}
-use mathlib.Core.Logic.{⊎_elim}
-use native.Mathlib.Omega.{arith}
 use lib.ListN.{length}
 use Rattle.format.specs.Read.{read_record}
-use Rattle.format.proofs.Damage.{record_never_zero}
-use Rattle.files.proofs.Counting.{Counted, Told, told, counted_none, counted_all, told_beyond, told_inside, counted_accepted, counted_refused}
-use borrow.Author.Rules.{rules}
+use Rattle.files.proofs.Counting.{Counted}
 use Rattle.files.proofs.count.Given as goal
 
 abbrev pub invariant-loop-no : goal.invariant-loop-no

@@ -1,7 +1,6 @@
 -- `files::last_line` meets its contract.
 -- Assumes nothing.
 use borrow.Author.Tests.{le-leb, lt-leb}
-use borrow.Author.Rules.{rules}
 use Rattle.files.proofs.last_line.Goals as goal
 
 pub returns-then-bytes-place : goal.returns-then-bytes-place

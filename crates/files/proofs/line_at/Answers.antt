@@ -7,7 +7,6 @@ use Rattle.format.specs.Read.{read_record}
 use Rattle.format.specs.Files.{line_feed}
 use Rattle.frame.proofs.Parts.{next_from}
 use Rattle.files.proofs.Answers.{says_last, says_line}
-use borrow.Author.Rules.{rules}
 use Rattle.files.proofs.line_at.Goals as goal
 use Rattle.files.proofs.line_at.Lts as lts
 use Rattle.files.proofs.line_at.Tie.{the-claims}

@@ -1,12 +1,8 @@
 -- `files::line_end` meets its contract. The loop's invariant: no line feed was passed.
 -- Assumes nothing.
-use Prim.Native.Nat.{◌-◌}
-use mathlib.Core.Path.{◌≡◌, sym, ◌∙◌}
-use lib.ListN.{length}
+use mathlib.Core.Path.{sym, ◌∙◌}
 use Rattle.format.specs.Files.{line_feed}
 use Rattle.frame.proofs.Parts.{next_here, next_on, next_end}
-use Rattle.files.specs.Walk.{line_end}
-use borrow.Author.Rules.{rules}
 use Rattle.files.proofs.line_end.Goals as goal
 
 pub loop-i-preserved : goal.loop-i-preserved

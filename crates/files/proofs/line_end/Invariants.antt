@@ -1,12 +1,9 @@
 -- `files::line_end` meets its contract. The loop's invariant: no line feed was passed.
 -- Assumes nothing.
 use Prim.Native.Nat.{◌-◌}
-use mathlib.Core.Path.{◌≡◌, sym, ◌∙◌}
+use mathlib.Core.Path.{◌≡◌}
 use lib.ListN.{length}
-use Rattle.format.specs.Files.{line_feed}
-use Rattle.frame.proofs.Parts.{next_here, next_on, next_end}
 use Rattle.files.specs.Walk.{line_end}
-use borrow.Author.Rules.{rules}
 use Rattle.files.proofs.line_end.Given as goal
 
 abbrev pub invariant-loop-i : goal.invariant-loop-i

@@ -2,7 +2,6 @@
 -- Assumes nothing.
 use mathlib.Core.Path.{sym, ap}
 use Rattle.files.specs.Walk.{next_of}
-use borrow.Author.Rules.{rules}
 use Rattle.files.proofs.next_of.Goals as goal
 
 pub returns-in-Read : goal.returns-in-Read

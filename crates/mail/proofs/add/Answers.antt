@@ -1,7 +1,6 @@
 -- `mail::add` meets its contract.
 -- Assumes nothing.
 use Rattle.mail.proofs.Unfolding.{added_feed, added_full, added_byte}
-use borrow.Author.Rules.{rules}
 use Rattle.mail.proofs.add.Goals as goal
 
 pub returns-then-byte-eq-FEED : goal.returns-then-byte-eq-FEED

@@ -1,12 +1,8 @@
 -- `mail::begins_at` meets its contract. The loop's invariant: no line before the place is a BEGINS line.
 -- Assumes nothing.
-use Prim.Native.Nat.{◌-◌}
-use mathlib.Core.Path.{◌≡◌, refl, sym, ◌∙◌}
+use mathlib.Core.Path.{refl, sym, ◌∙◌}
 use native.Mathlib.Omega.{arith}
-use lib.ListN.{length, drop}
-use Rattle.mail.specs.Mail.{lines_in, opened}
 use Rattle.mail.proofs.Finding.{line_within, opened_on, opens_here, opens_end}
-use borrow.Author.Rules.{rules}
 use Rattle.mail.proofs.begins_at.Goals as goal
 
 pub loop-at-init : goal.loop-at-init

@@ -1,12 +1,9 @@
 -- `mail::begins_at` meets its contract. The loop's invariant: no line before the place is a BEGINS line.
 -- Assumes nothing.
 use Prim.Native.Nat.{◌-◌}
-use mathlib.Core.Path.{◌≡◌, refl, sym, ◌∙◌}
-use native.Mathlib.Omega.{arith}
+use mathlib.Core.Path.{◌≡◌}
 use lib.ListN.{length, drop}
 use Rattle.mail.specs.Mail.{lines_in, opened}
-use Rattle.mail.proofs.Finding.{line_within, opened_on, opens_here, opens_end}
-use borrow.Author.Rules.{rules}
 use Rattle.mail.proofs.begins_at.Given as goal
 
 abbrev pub invariant-loop-at : goal.invariant-loop-at

@@ -2,7 +2,6 @@
 -- Assumes nothing.
 use native.Mathlib.Omega.{arith}
 use Rattle.mail.proofs.Writing.{block-length}
-use borrow.Author.Rules.{rules}
 use Rattle.mail.proofs.block_length.Goals as goal
 
 pub returns : goal.returns

@@ -5,7 +5,6 @@ use Rattle.format.specs.Kinds.{all_kinds}
 use Rattle.table.specs.Table.{named}
 use Rattle.table.proofs.Names.{row_bounded}
 use Rattle.mail.proofs.Reading.{give_refused, give_short, give_said}
-use borrow.Author.Rules.{rules}
 use Rattle.mail.proofs.give.Goals as goal
 
 pub overflow_add-row : goal.overflow_add-row

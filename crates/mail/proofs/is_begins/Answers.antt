@@ -4,7 +4,6 @@ use mathlib.Core.Path.{sym, ◌∙◌}
 use native.Mathlib.Omega.{arith}
 use borrow.Author.Tests.{not-true, not-false}
 use Rattle.mail.proofs.Guards.{ident_short, begins_no, begins_so}
-use borrow.Author.Rules.{rules}
 use Rattle.mail.proofs.is_begins.Goals as goal
 
 pub returns-then-not-is_ident : goal.returns-then-not-is_ident

@@ -4,7 +4,6 @@ use mathlib.Core.Path.{sym, ◌∙◌}
 use borrow.Author.Tests.{not-true, not-false}
 use Rattle.text.proofs.Tests.{and_stop, and_on}
 use Rattle.mail.proofs.Guards.{guard_apart, guard_parts}
-use borrow.Author.Rules.{rules}
 use Rattle.mail.proofs.is_guard.Goals as goal
 
 pub returns-then-line-end : goal.returns-then-line-end

@@ -4,7 +4,6 @@ use native.Mathlib.Omega.{arith}
 use Rattle.format.specs.Files.{line_feed}
 use Rattle.frame.proofs.Parts.{next_from}
 use Rattle.mail.proofs.Finding.{line_none, line_there}
-use borrow.Author.Rules.{rules}
 use Rattle.mail.proofs.line_from.Goals as goal
 
 pub returns-then-text-end : goal.returns-then-text-end

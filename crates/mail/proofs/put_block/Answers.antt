@@ -7,7 +7,6 @@ use Rattle.format.specs.Files.{line_feed}
 use Rattle.put.proofs.Pieces.{put_length, put_as, put_then}
 use Rattle.mail.specs.Mail.{begins_line}
 use Rattle.mail.proofs.Writing.{block_pieces, block_room}
-use borrow.Author.Rules.{rules}
 use Rattle.mail.proofs.put_block.Goals as goal
 
 pub put_guard-first-requires : goal.put_guard-first-requires

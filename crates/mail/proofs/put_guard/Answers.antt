@@ -1,7 +1,6 @@
 -- `mail::put_guard` meets its contract.
 -- Assumes nothing.
 use Rattle.mail.proofs.Writing.{guard_put}
-use borrow.Author.Rules.{rules}
 use Rattle.mail.proofs.put_guard.Goals as goal
 
 pub returns : goal.returns

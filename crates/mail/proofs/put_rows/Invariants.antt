@@ -1,12 +1,9 @@
 -- `mail::put_rows` meets its contract. The loop's invariant: the rows before place i are written.
 -- Assumes nothing.
 use Prim.Native.Nat.{◌-◌}
-use native.Mathlib.Omega.{arith}
 use lib.ListN.{length, drop}
-use Rattle.put.proofs.Pieces.{put_length}
-use Rattle.put.proofs.Underway.{Underway, begin, finish}
-use Rattle.mail.proofs.Writing.{rows_of, row_inside, row_put, rows_none}
-use borrow.Author.Rules.{rules}
+use Rattle.put.proofs.Underway.{Underway}
+use Rattle.mail.proofs.Writing.{rows_of}
 use Rattle.mail.proofs.put_rows.Given as goal
 
 abbrev pub invariant-loop-i : goal.invariant-loop-i

@@ -1,6 +1,5 @@
 -- `mail::read_mail` meets its contract.
 -- Assumes nothing.
-use borrow.Author.Rules.{rules}
 use Rattle.mail.proofs.Reading.{mail_unopened, rectype_short, mail_unclosed, mail_read}
 use Rattle.mail.proofs.read_mail.Goals as goal
 

@@ -2,7 +2,6 @@
 -- Assumes nothing.
 use native.Mathlib.Omega.{arith}
 use Rattle.mail.proofs.Reading.{too_long_found, rows_given}
-use borrow.Author.Rules.{rules}
 use Rattle.mail.proofs.read_rows.Goals as goal
 
 pub returns-then-len-gt-LONGEST : goal.returns-then-len-gt-LONGEST

@@ -1,7 +1,6 @@
 -- `mail::rectype_in` meets its contract.
 -- Assumes nothing.
 use Rattle.mail.proofs.Guards.{rectype_none, rectype_there}
-use borrow.Author.Rules.{rules}
 use Rattle.mail.proofs.rectype_in.Goals as goal
 
 pub returns-then-line-lt15 : goal.returns-then-line-lt15

@@ -1,10 +1,8 @@
 -- `mail::unfold` meets its contract. The loop's invariant: the bytes before place i are joined.
 -- Assumes nothing.
 use Prim.Native.Nat.{◌-◌}
-use mathlib.Core.Path.{◌∙◌}
 use lib.ListN.{length}
-use borrow.Author.Rules.{rules}
-use Rattle.mail.proofs.Unfolding.{Joined, joined_none, joined_length, joined_room, joined_on, joined_over, joined_all}
+use Rattle.mail.proofs.Unfolding.{Joined}
 use Rattle.mail.proofs.unfold.Given as goal
 
 abbrev pub invariant-loop-i : goal.invariant-loop-i

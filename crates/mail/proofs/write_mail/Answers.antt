@@ -2,7 +2,6 @@
 -- Assumes nothing.
 use native.Mathlib.Omega.{arith}
 use Rattle.mail.proofs.Writing.{write_refused, short, write_short, write_said}
-use borrow.Author.Rules.{rules}
 use Rattle.mail.proofs.write_mail.Goals as goal
 
 pub returns-then-answer-ne-ACCEPTED : goal.returns-then-answer-ne-ACCEPTED

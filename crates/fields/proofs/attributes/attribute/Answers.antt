@@ -1,7 +1,6 @@
 -- `fields::attributes::attribute` meets its contract: the part at its place.
 -- Assumes nothing.
 use Rattle.fields.proofs.Wanted.{part_said}
-use borrow.Author.Rules.{rules}
 use Rattle.fields.proofs.attributes.attribute.Goals as goal
 
 pub returns : goal.returns

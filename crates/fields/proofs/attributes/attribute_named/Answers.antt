@@ -1,7 +1,6 @@
 -- `fields::attributes::attribute_named` meets its contract: the part at its place.
 -- Assumes nothing.
 use Rattle.fields.proofs.Wanted.{part_said}
-use borrow.Author.Rules.{rules}
 use Rattle.fields.proofs.attributes.attribute_named.Goals as goal
 
 pub returns : goal.returns

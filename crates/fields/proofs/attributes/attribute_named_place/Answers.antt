@@ -1,7 +1,6 @@
 -- `fields::attributes::attribute_named_place` meets its contract: the attribute of the number that has the name.
 -- Assumes nothing.
 use Rattle.fields.proofs.Cards.{named_so}
-use borrow.Author.Rules.{rules}
 use Rattle.fields.proofs.attributes.attribute_named_place.Goals as goal
 
 pub returns : goal.returns

@@ -3,7 +3,6 @@
 use mathlib.Core.Path.{refl}
 use native.Mathlib.Omega.{arith}
 use Rattle.fields.proofs.Cards.{place_refused, place_zero, place_past, card_ends, card_within, place_there}
-use borrow.Author.Rules.{rules}
 use Rattle.fields.proofs.attributes.card_place.Goals as goal
 
 pub returns-then-answer-ne-ACCEPTED : goal.returns-then-answer-ne-ACCEPTED

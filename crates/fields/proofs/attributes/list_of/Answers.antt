@@ -2,7 +2,6 @@
 -- Assumes nothing.
 use mathlib.Core.Path.{◌∙◌}
 use Rattle.fields.proofs.Cards.{list-said}
-use borrow.Author.Rules.{rules}
 use Rattle.fields.proofs.attributes.list_of.Goals as goal
 
 pub returns : goal.returns

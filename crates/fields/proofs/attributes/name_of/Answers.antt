@@ -3,7 +3,6 @@
 use mathlib.Core.Path.{sym}
 use native.Mathlib.Omega.{arith}
 use lib.Seq.{take_all}
-use borrow.Author.Rules.{rules}
 use Rattle.fields.proofs.attributes.name_of.Goals as goal
 
 pub returns-then-card-lt3 : goal.returns-then-card-lt3

@@ -1,13 +1,10 @@
 -- `fields::attributes::number_named` meets its contract: the loop's invariant says that what is left decides, and that no number is past its place.
 -- Assumes nothing.
 use Prim.Native.Nat.{◌+◌, ◌-◌, ◌≤◌}
-use mathlib.Core.Path.{◌≡◌, sym, ◌∙◌}
-use native.Mathlib.Omega.{arith}
+use mathlib.Core.Path.{◌≡◌}
 use lib.ListN.{length, drop}
 use Rattle.format.specs.Attributes.{cards_in}
 use Rattle.fields.specs.Attributes.{named_from, number_named}
-use Rattle.fields.proofs.Cards.{named_start, card_ends, named_here, named_on, named_end}
-use borrow.Author.Rules.{rules}
 use Rattle.fields.proofs.attributes.number_named.Given as goal
 
 abbrev pub invariant-loop-i : goal.invariant-loop-i
