@@ -1,6 +1,6 @@
 -- The promises about records by mail, from the laws of mail.
 -- Assumes nothing.
-use Prim.Native.Nat.{ℕ, zero, suc, ◌+◌, ◌≤◌, ◌<◌}
+use Prim.Native.Nat.{ℕ, zero, suc, ◌≤◌, ◌<◌}
 use mathlib.Core.Path.{◌≡◌, refl, sym, ap, ◌∙◌, subst}
 use mathlib.Core.Logic.{◌↔◌, ◌≢◌, ◌⊎◌, inl, inr, ⊎_elim}
 use mathlib.Core.Bool.{not}
@@ -28,7 +28,7 @@ use Rattle.put.specs.Made.{made, Writes}
 use Rattle.put.specs.declared.Written.{Written}
 use Rattle.given.specs.Given.{given}
 use Rattle.given.proofs.Given.{made_said, said_own, said_short, said_whole, said_zero, refusal_leaves}
-use Rattle.mail.specs.Mail.{lines_in, begins_line, ends_line, rectype_in, is_begins, rows, folded, guarded, block_of, Found, block, missing, closed, opened, alone, read_found, write_mail, read_mail}
+use Rattle.mail.specs.Mail.{lines_in, begins_line, ends_line, rectype_in, is_begins, rows, guarded, block_of, Found, block, missing, closed, opened, alone, read_found, write_mail, read_mail}
 use Rattle.mail.proofs.Folding.{Enough, enough, fewer, flat_folded}
 use Rattle.mail.proofs.Guards.{begins_rectype, begins_is}
 use Rattle.mail.proofs.Blocks.{opened_past, closed_rows, rows_found, before_passed}

@@ -3,7 +3,6 @@
 use borrow.Author.Tests.{not-true, not-false}
 use Rattle.places.specs.Places.{field_at}
 use Rattle.confirm.proofs.Records.{first_apart, second_apart, all_alike}
-use borrow.Author.Rules.{rules}
 use Rattle.confirm.proofs.does_answer.Goals as goal
 
 pub returns-then-not-are_same : goal.returns-then-not-are_same

@@ -1,6 +1,5 @@
 -- `expiry::expiry_of` meets its contract.
 -- Assumes nothing.
-use borrow.Author.Rules.{rules}
 use Rattle.expiry.proofs.expiry_of.Goals as goal
 
 pub returns : goal.returns

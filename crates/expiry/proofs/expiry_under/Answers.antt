@@ -2,7 +2,6 @@
 -- Assumes nothing.
 use Rattle.text.proofs.Seconds.{moment_back}
 use Rattle.expiry.proofs.Expiries.{said_refused, said_accepted}
-use borrow.Author.Rules.{rules}
 use Rattle.expiry.proofs.expiry_under.Goals as goal
 
 pub returns-then-answer-ne-ACCEPTED : goal.returns-then-answer-ne-ACCEPTED

@@ -5,7 +5,6 @@ use mathlib.Core.Bool.{true, false}
 use Rattle.text.specs.Text.{Bytes}
 use Rattle.subjects.specs.Subjects.{identity_part}
 use Rattle.fingerprint.proofs.Prints.{check_refused, print_long, check_said}
-use borrow.Author.Rules.{rules}
 use Rattle.fingerprint.proofs.check_fingerprint.Goals as goal
 
 pub returns-then-answer-ne-ACCEPTED : goal.returns-then-answer-ne-ACCEPTED

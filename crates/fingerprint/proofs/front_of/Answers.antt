@@ -1,7 +1,6 @@
 -- `fingerprint::front_of` meets its contract.
 -- Assumes nothing.
 use Rattle.fingerprint.proofs.Prints.{front_none, front_some}
-use borrow.Author.Rules.{rules}
 use Rattle.fingerprint.proofs.front_of.Goals as goal
 
 pub returns-then-identity-end : goal.returns-then-identity-end

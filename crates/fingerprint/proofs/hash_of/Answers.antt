@@ -3,7 +3,6 @@
 use mathlib.Core.Path.{◌∙◌}
 use Rattle.hashing.specs.State.{added_all}
 use Rattle.fingerprint.proofs.Prints.{hashed_pieces}
-use borrow.Author.Rules.{rules}
 use Rattle.fingerprint.proofs.hash_of.Goals as goal
 
 pub returns : goal.returns

@@ -5,7 +5,6 @@ use Rattle.format.specs.Read.{read_of}
 use Rattle.given.proofs.Given.{given_refused}
 use Rattle.fingerprint.specs.Fingerprint.{write_fingerprint}
 use Rattle.fingerprint.proofs.Prints.{print_long, write_short, write_said}
-use borrow.Author.Rules.{rules}
 use Rattle.fingerprint.proofs.write_fingerprint.Goals as goal
 
 pub returns-then-answer-ne-ACCEPTED : goal.returns-then-answer-ne-ACCEPTED

@@ -4,7 +4,6 @@ use native.Mathlib.Omega.{arith}
 use Rattle.put.proofs.Pieces.{put_of, put_length, put_then}
 use Rattle.list_text.specs.Listing.{end_text}
 use Rattle.list_text.proofs.Lengths.{end_parts}
-use borrow.Author.Rules.{rules}
 use Rattle.list_text.proofs.put_end.Goals as goal
 
 pub put_number-after_lines-requires : goal.put_number-after_lines-requires

@@ -4,7 +4,6 @@ use native.Mathlib.Omega.{arith}
 use Rattle.put.proofs.Pieces.{put_length, put_then}
 use Rattle.list_text.specs.Listing.{line_text}
 use Rattle.list_text.proofs.Lengths.{line_parts}
-use borrow.Author.Rules.{rules}
 use Rattle.list_text.proofs.put_line.Goals as goal
 
 pub put_number-after_number-requires : goal.put_number-after_number-requires

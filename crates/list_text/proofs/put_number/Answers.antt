@@ -5,7 +5,6 @@ use native.Mathlib.Omega.{arith}
 use lib.ListN.{length}
 use Rattle.put.proofs.Pieces.{put_of, put_as, put_length, put_then}
 use Rattle.list_text.proofs.Decimal.{decimal_part, before_length}
-use borrow.Author.Rules.{rules}
 use Rattle.list_text.proofs.put_number.Goals as goal
 
 pub returns : goal.returns

@@ -3,7 +3,6 @@
 use native.Mathlib.Omega.{arith}
 use Rattle.put.proofs.Pieces.{put_of, put_as}
 use Rattle.list_text.proofs.Whole.{says_too_big, list_none, list_written}
-use borrow.Author.Rules.{rules}
 use Rattle.list_text.proofs.write_list.Goals as goal
 
 pub returns-then-out-lt-ROOM : goal.returns-then-out-lt-ROOM

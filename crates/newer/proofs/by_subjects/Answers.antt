@@ -5,7 +5,6 @@ use mathlib.Core.Bool.{true, false}
 use borrow.Author.Tests.{not-true, not-false}
 use Rattle.text.specs.Later.{later}
 use Rattle.newer.proofs.Choosing.{said_unlike, said_alike}
-use borrow.Author.Rules.{rules}
 use Rattle.newer.proofs.by_subjects.Goals as goal
 
 pub returns-then-not-are_alike : goal.returns-then-not-are_alike

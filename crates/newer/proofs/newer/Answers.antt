@@ -2,7 +2,6 @@
 -- Assumes nothing.
 use mathlib.Core.Path.{refl}
 use Rattle.newer.proofs.Choosing.{chosen_none, chosen_second, chosen_first}
-use borrow.Author.Rules.{rules}
 use Rattle.newer.proofs.newer.Goals as goal
 
 pub returns-then-choice-ne-ACCEPTED : goal.returns-then-choice-ne-ACCEPTED

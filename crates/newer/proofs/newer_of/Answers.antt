@@ -3,7 +3,6 @@
 use mathlib.Core.Path.{ap, ◌∙◌}
 use Rattle.newer.specs.Newer.{choice_said}
 use Rattle.newer.proofs.Choosing.{said_first, said_second, first_named, second_named, by_keys}
-use borrow.Author.Rules.{rules}
 use Rattle.newer.proofs.newer_of.Goals as goal
 
 pub returns-then-one-ne-ACCEPTED : goal.returns-then-one-ne-ACCEPTED

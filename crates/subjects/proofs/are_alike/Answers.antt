@@ -7,7 +7,6 @@ use Rattle.text.specs.Text.{same}
 use Rattle.text.proofs.Tests.{and_stop, and_on}
 use Rattle.format.specs.Read.{title}
 use Rattle.subjects.specs.Subjects.{are_alike}
-use borrow.Author.Rules.{rules}
 use Rattle.subjects.proofs.are_alike.Goals as goal
 use Rattle.subjects.proofs.are_alike.Lts as lts
 use Rattle.subjects.proofs.are_alike.Tie.{the-claims}

@@ -2,7 +2,6 @@
 -- Assumes nothing.
 use mathlib.Core.Path.{ap₂, ◌∙◌}
 use Rattle.text.specs.Text.{same}
-use borrow.Author.Rules.{rules}
 use Rattle.subjects.proofs.do_agree.Goals as goal
 
 pub returns : goal.returns

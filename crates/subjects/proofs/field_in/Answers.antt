@@ -1,7 +1,6 @@
 -- `subjects::field_in` meets its contract.
 -- Assumes nothing.
 use Rattle.subjects.proofs.Subjects.{field_of_body}
-use borrow.Author.Rules.{rules}
 use Rattle.subjects.proofs.field_in.Goals as goal
 
 pub returns : goal.returns

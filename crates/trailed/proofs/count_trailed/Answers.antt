@@ -1,14 +1,10 @@
 -- `trailed::count_trailed` meets its contract. The loop's invariant: the lines before the place are counted.
 -- Assumes nothing.
-use Prim.Native.Nat.{◌-◌}
 use mathlib.Core.Path.{sym, ◌∙◌}
-use mathlib.Core.Logic.{⊎_elim}
 use native.Mathlib.Omega.{arith}
-use lib.ListN.{length}
-use Rattle.files.proofs.Counting.{Counted, Told, told, counted_none, counted_all, told_beyond, told_inside, counted_accepted, counted_refused}
+use Rattle.files.proofs.Counting.{Told, told, counted_none, counted_all, told_beyond, told_inside, counted_accepted, counted_refused}
 use Rattle.trailed.specs.Trailed.{read_trailed}
 use Rattle.trailed.proofs.Trailed.{trailed_never_zero}
-use borrow.Author.Rules.{rules}
 use Rattle.trailed.proofs.count_trailed.Goals as goal
 use Rattle.trailed.proofs.count_trailed.Goals.{then-no-eq-ACCEPTED, else-no-eq-ACCEPTED}
 

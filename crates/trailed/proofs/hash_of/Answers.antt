@@ -3,7 +3,6 @@
 use mathlib.Core.Path.{◌∙◌, ap}
 use Rattle.sha_1.specs.State.{ended}
 use Rattle.sha_1.proofs.Pieces.{begun_then, ended_once}
-use borrow.Author.Rules.{rules}
 use Rattle.trailed.proofs.hash_of.Goals as goal
 
 pub returns : goal.returns

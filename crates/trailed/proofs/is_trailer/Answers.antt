@@ -1,7 +1,6 @@
 -- `trailed::is_trailer` meets its contract.
 -- Assumes nothing.
 use Rattle.trailed.proofs.Calls.{no_trailer, other_mark, is_marked}
-use borrow.Author.Rules.{rules}
 use Rattle.trailed.proofs.is_trailer.Goals as goal
 
 pub returns-then-s-eq0 : goal.returns-then-s-eq0

@@ -2,7 +2,6 @@
 -- Assumes nothing.
 use borrow.Author.Tests.{not-true, not-false}
 use Rattle.trailed.proofs.Calls.{says_missing, says_own, says_right, says_wrong}
-use borrow.Author.Rules.{rules}
 use Rattle.trailed.proofs.read_trailed.Goals as goal
 
 pub returns-then-not-is_trailer : goal.returns-then-not-is_trailer

@@ -7,7 +7,6 @@ use Rattle.format.specs.Files.{line_feed}
 use Rattle.frame.proofs.Parts.{next_from}
 use Rattle.files.proofs.Answers.{says_last, says_line}
 use Rattle.trailed.specs.Trailed.{read_trailed}
-use borrow.Author.Rules.{rules}
 use Rattle.trailed.proofs.trailed_at.Goals as goal
 use Rattle.trailed.proofs.trailed_at.Lts as lts
 use Rattle.trailed.proofs.trailed_at.Tie.{the-claims}

@@ -1,7 +1,6 @@
 -- `trailed::trailer_of` meets its contract.
 -- Assumes nothing.
 use Rattle.trailed.proofs.Calls.{trailer_written}
-use borrow.Author.Rules.{rules}
 use Rattle.trailed.proofs.trailer_of.Goals as goal
 
 pub returns : goal.returns

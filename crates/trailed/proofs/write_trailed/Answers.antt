@@ -4,7 +4,6 @@ use Rattle.format.specs.Read.{read_record}
 use Rattle.given.proofs.Given.{given_refused}
 use Rattle.trailed.specs.Trailed.{write_trailed}
 use Rattle.trailed.proofs.Calls.{write_short, write_said}
-use borrow.Author.Rules.{rules}
 use Rattle.trailed.proofs.write_trailed.Goals as goal
 
 pub returns-then-answer-ne-ACCEPTED : goal.returns-then-answer-ne-ACCEPTED

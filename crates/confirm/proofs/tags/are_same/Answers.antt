@@ -1,11 +1,8 @@
 -- `confirm::tags::are_same` meets its contract. The loop's invariant: what differs before i is in `differing`.
 -- Assumes nothing.
-use Prim.Native.Nat.{◌-◌}
 use mathlib.Core.Path.{refl}
 use native.Mathlib.Omega.{arith}
-use lib.ListN.{length}
-use Rattle.confirm.proofs.Compared.{Compared, compared_more, compared_all}
-use borrow.Author.Rules.{rules}
+use Rattle.confirm.proofs.Compared.{compared_more, compared_all}
 use Rattle.confirm.proofs.tags.are_same.Goals as goal
 
 pub loop-i-init : goal.loop-i-init

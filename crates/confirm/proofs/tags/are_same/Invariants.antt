@@ -1,11 +1,8 @@
 -- `confirm::tags::are_same` meets its contract. The loop's invariant: what differs before i is in `differing`.
 -- Assumes nothing.
 use Prim.Native.Nat.{◌-◌}
-use mathlib.Core.Path.{refl}
-use native.Mathlib.Omega.{arith}
 use lib.ListN.{length}
-use Rattle.confirm.proofs.Compared.{Compared, compared_more, compared_all}
-use borrow.Author.Rules.{rules}
+use Rattle.confirm.proofs.Compared.{Compared}
 use Rattle.confirm.proofs.tags.are_same.Given as goal
 
 abbrev pub invariant-loop-i : goal.invariant-loop-i

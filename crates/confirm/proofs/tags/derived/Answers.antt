@@ -1,7 +1,6 @@
 -- `confirm::tags::derived` meets its contract.
 -- Assumes nothing.
 use Rattle.confirm.proofs.Keys.{derived_so}
-use borrow.Author.Rules.{rules}
 use Rattle.confirm.proofs.tags.derived.Goals as goal
 
 pub returns : goal.returns

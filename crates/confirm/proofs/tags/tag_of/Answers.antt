@@ -6,7 +6,6 @@ use Rattle.sha384.specs.declared.Sha384.{Sha384}
 use Rattle.hmac.specs.State.{hmac_ended}
 use Rattle.hmac.proofs.Tags.{tag_once}
 use Rattle.agreement.specs.Steps.{text_of}
-use borrow.Author.Rules.{rules}
 use Rattle.confirm.proofs.tags.tag_of.Goals as goal
 
 pub returns : goal.returns

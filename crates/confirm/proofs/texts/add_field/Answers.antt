@@ -9,7 +9,6 @@ use Rattle.format.specs.Read.{fields_in}
 use Rattle.sha384.specs.State.{added}
 use Rattle.agreement.specs.Steps.{lv_item}
 use Rattle.agreement.proofs.Items.{item_other, item_qe, item_hex}
-use borrow.Author.Rules.{rules}
 use Rattle.confirm.proofs.texts.add_field.Goals as goal
 
 pub add_point-requires : goal.add_point-requires

@@ -3,7 +3,6 @@
 use mathlib.Core.Path.{ap, ◌∙◌}
 use Rattle.sha384.specs.State.{added}
 use Rattle.confirm.proofs.Given.{point_array}
-use borrow.Author.Rules.{rules}
 use Rattle.confirm.proofs.texts.add_point.Goals as goal
 
 pub returns : goal.returns

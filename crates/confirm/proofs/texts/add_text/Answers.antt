@@ -1,14 +1,12 @@
 -- `confirm::texts::add_text` meets its contract. The loop's invariant: the fields before i are given.
 -- Assumes nothing.
-use Prim.Native.Nat.{◌+◌, ◌-◌}
+use Prim.Native.Nat.{◌+◌}
 use mathlib.Core.Path.{◌≡◌}
 use mathlib.Core.List.{[], ◌∷◌, ◌++◌}
 use native.Mathlib.Omega.{arith}
 use lib.ListN.{length}
-use Rattle.format.specs.Kinds.{REQ}
-use Rattle.format.specs.Read.{fields_in}
 use Rattle.agreement.specs.Steps.{lv_item}
-use Rattle.confirm.proofs.Given.{given_two, Given, given_none, given_more, given_all, text_given}
+use Rattle.confirm.proofs.Given.{given_two, given_none, given_more, given_all, text_given}
 use borrow.Author.Rules.{rules}
 use Rattle.confirm.proofs.texts.add_text.Goals as goal
 

@@ -1,6 +1,5 @@
 -- `exports::trailing::obscurlane_trailed_at` meets its contract.
 -- Assumes nothing.
-use borrow.Author.Rules.{rules}
 use Rattle.exports.proofs.trailing.obscurlane_trailed_at.Goals as goal
 
 pub returns : goal.returns

@@ -2,7 +2,6 @@
 -- Assumes nothing.
 use mathlib.Core.Path.{sym, ap}
 use Rattle.exports.specs.Exports.{found}
-use borrow.Author.Rules.{rules}
 use Rattle.exports.proofs.walking.find.Goals as goal
 
 pub returns-in-Finished : goal.returns-in-Finished

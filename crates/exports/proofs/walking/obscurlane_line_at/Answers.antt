@@ -1,6 +1,5 @@
 -- `exports::walking::obscurlane_line_at` meets its contract.
 -- Assumes nothing.
-use borrow.Author.Rules.{rules}
 use Rattle.exports.proofs.walking.obscurlane_line_at.Goals as goal
 
 pub returns : goal.returns

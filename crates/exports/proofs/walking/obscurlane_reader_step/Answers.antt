@@ -1,6 +1,5 @@
 -- `exports::walking::obscurlane_reader_step` meets its contract.
 -- Assumes nothing.
-use borrow.Author.Rules.{rules}
 use Rattle.exports.proofs.walking.obscurlane_reader_step.Goals as goal
 
 pub returns : goal.returns
