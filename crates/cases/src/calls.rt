@@ -92,6 +92,15 @@ pub(crate) fn print_place(rt: &impl Print, at: fields::Place) -> io::Result<()> 
     say::number(rt, at.len)
 }
 
+fn print_item(rt: &impl Print, at: items::Place) -> io::Result<()> {
+    say::outcome(rt, at.no, 0, at.start)?;
+    say::number(rt, at.len)
+}
+
+fn print_choice(rt: &impl Print, chosen: newer::Choice) -> io::Result<()> {
+    say::outcome(rt, chosen.no, chosen.field, chosen.which as usize)
+}
+
 // The first line, by a reader.
 fn first_line(file: &[u8]) -> files::Line {
     let mut reader = files::Reader::new(file);
@@ -139,15 +148,8 @@ pub(crate) fn run<'a>(
         12..=15 => print_part(rt, op, n, a, b),
         16 => print_place(rt, fields::identity_place(a, n)),
         17 => print_place(rt, fields::record_place(a, n)),
-        18 => {
-            let at = items::item_place(a, n);
-            say::outcome(rt, at.no, 0, at.start)?;
-            say::number(rt, at.len)
-        }
-        19 => {
-            let chosen = newer::newer_of(a, b);
-            say::outcome(rt, chosen.no, chosen.field, chosen.which as usize)
-        }
+        18 => print_item(rt, items::item_place(a, n)),
+        19 => print_choice(rt, newer::newer_of(a, b)),
         20 => print_line(rt, files::line_at(a, n)),
         21 => print_line(rt, files::step_from(a, n)),
         22 => print_line(rt, first_line(a)),

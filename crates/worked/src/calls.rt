@@ -374,6 +374,36 @@ pub(crate) fn call_of(name: &[u8]) -> usize {
     k
 }
 
+// The number that a call answers which hands nothing back.
+fn verdict(call: usize, a: &[u8]) -> u8 {
+    match call {
+        READ_IDENTITY => reading::read_identity(a).no,
+        READ_RECORD => reading::read_record(a).no,
+        CHECK_FINGERPRINT => fingerprint::check_fingerprint(a).no,
+        _ => trailed::read_trailed(a).no,
+    }
+}
+
+fn confirmation(
+    rt: &impl Print,
+    known: &[u8],
+    call: usize,
+    n: usize,
+    a: &[u8],
+    b: &[u8],
+    c: &[u8],
+) -> io::Result<usize> {
+    match call {
+        HMAC => confirmations::hmac(rt, known, n, a, b),
+        MODULE_TAG => confirmations::module_tag(rt, known, a, b),
+        CENTRE_TAG => confirmations::centre_tag(rt, known, a, b),
+        MAC_KEY => confirmations::key(rt, known, false, n, a, b),
+        KEK => confirmations::key(rt, known, true, n, a, b),
+        CONFIRM_REQUEST => confirmations::confirm_request(rt, known, a, b),
+        _ => confirmations::confirm_response(rt, known, a, b, c),
+    }
+}
+
 pub(crate) fn run<'a>(
     rt: &impl Print,
     name: &[u8],
@@ -389,28 +419,16 @@ pub(crate) fn run<'a>(
         FILE | TRAILED_FILE | SHA1_FILE => file(rt, known, call, n, step),
         SHARED_INFO..=CENTRE_TEXT => agreement_text(rt, known, call, a),
         MODULE_ITEM => module_item(rt, known, a, n),
-        READ_IDENTITY => say::part(rt, known, reading::read_identity(a).no, b"accepted"),
-        READ_RECORD => say::part(rt, known, reading::read_record(a).no, b"accepted"),
+        READ_IDENTITY | READ_RECORD | CHECK_FINGERPRINT | READ_TRAILED => {
+            say::part(rt, known, verdict(call, a), b"accepted")
+        }
         ATTRIBUTES => attributes(rt, known, a),
         HASH => hash(rt, known, a),
         THOUSANDFOLD => thousandfold(rt, known, false, a),
         FINGERPRINT => fingerprint(rt, known, a),
-        CHECK_FINGERPRINT => say::part(
-            rt,
-            known,
-            fingerprint::check_fingerprint(a).no,
-            b"accepted",
-        ),
-        HMAC => confirmations::hmac(rt, known, n, a, b),
-        MODULE_TAG => confirmations::module_tag(rt, known, a, b),
-        CENTRE_TAG => confirmations::centre_tag(rt, known, a, b),
-        MAC_KEY => confirmations::key(rt, known, false, n, a, b),
-        KEK => confirmations::key(rt, known, true, n, a, b),
-        CONFIRM_REQUEST => confirmations::confirm_request(rt, known, a, b),
-        CONFIRM_RESPONSE => confirmations::confirm_response(rt, known, a, b, c),
+        HMAC..=CONFIRM_RESPONSE => confirmation(rt, known, call, n, a, b, c),
         SHA1 => sha1(rt, known, a),
         SHA1_THOUSANDFOLD => thousandfold(rt, known, true, a),
-        READ_TRAILED => say::part(rt, known, trailed::read_trailed(a).no, b"accepted"),
         BUILD_TRAILED => rebuild(rt, known, a, trailed::read_trailed(a)),
         WRITE_TRAILED => writing::write(rt, known, call, a, b),
         WRITE_MAIL | READ_MAIL => writing::by_mail(rt, known, call, a, step),
