@@ -1,5 +1,5 @@
 -- Demand 3, for plain files and for manufacturers'. Two record files of equal length that differ only inside lines which the first accepts, in each such line within two
--- neighbouring places, no differing byte a line feed in either file (`DamagedBy`, in format/specs/Damage.antt): every line that differs is
+-- neighbouring places, no differing byte a line feed in either file (`DamagedOver`, in format/specs/Damage.antt): every line that differs is
 -- refused in the second, and every other line gives the same answer at the same place with the same fields. Stated on what the file call
 -- answers for the two files, called from place 0 on, each time at the next place that it named.
 -- Assumes nothing.
