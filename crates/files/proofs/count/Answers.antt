@@ -28,6 +28,6 @@ loop-no-preserved c =
     -- the line that was read, its number and the next place
     let read : Told read_record c.args.file.now c.loop-no.place c.in-Read.no c.in-Read.next = told read_record record_never_zero _ _ _ _ _ _ _ _ (sym c.in-Read.is ∙ c.line_at.ensures) in
     elim c.if-no-eq-ACCEPTED.branch [
-      then-no-eq-ACCEPTED w ↦ counted_accepted c.loop-no.invariant read w.if-no-eq-ACCEPTED.true w.accepted-is
-    | else-no-eq-ACCEPTED w ↦ counted_refused c.loop-no.invariant read w.if-no-eq-ACCEPTED.false w.accepted-is
+      | then-no-eq-ACCEPTED w ↦ counted_accepted c.loop-no.invariant read w.if-no-eq-ACCEPTED.true w.accepted-is
+      | else-no-eq-ACCEPTED w ↦ counted_refused c.loop-no.invariant read w.if-no-eq-ACCEPTED.false w.accepted-is
     ]

@@ -52,8 +52,8 @@ loop-no-preserved c =
     let said : Read c.in-Read.no c.in-Read.field c.in-Read.kind c.in-Read.start c.in-Read.len c.in-Read.next ≡ line_said (line_at c.args.file.now c.loop-no.place) = sym c.in-Read.is ∙ c.line_at.ensures in
     let read : Told read_record c.args.file.now c.loop-no.place c.in-Read.no c.in-Read.next = told read_record record_never_zero _ _ _ _ _ _ _ _ said in
     let counted : Counted read_record c.args.file.now (c.loop-no.lines + 1) c.if-no-eq-ACCEPTED.accepted c.in-Read.next =
-      elim c.if-no-eq-ACCEPTED.branch [
-        then-no-eq-ACCEPTED w ↦ counted_accepted l.counted read w.if-no-eq-ACCEPTED.true w.accepted-is
+    elim c.if-no-eq-ACCEPTED.branch [
+      | then-no-eq-ACCEPTED w ↦ counted_accepted l.counted read w.if-no-eq-ACCEPTED.true w.accepted-is
       | else-no-eq-ACCEPTED w ↦ counted_refused l.counted read w.if-no-eq-ACCEPTED.false w.accepted-is
-      ] in
+    ] in
     listed_on l c.requires.file_len_bound c.requires.list_room_in_bounds read said (omega (arith, c.in-Read.known_told-1-own.given)) counted c.put_line-at.ensures
