@@ -58,7 +58,7 @@ pub fn obscurlane_read_trailed(line: &[u8]) -> reading::Answer
 pub fn obscurlane_trailed_at(file: &[u8], place: usize) -> walking::Found
     ensures { result ≡ found (line_said (trailed_at file.now place)) }
 {
-    walking::find(trailed::trailed_at(file, place))
+    walking::Found::from(trailed::trailed_at(file, place))
 }
 
 // How many lines such a file has, and how many of them are accepted.

@@ -28,35 +28,37 @@ pub fn obscurlane_text_item(text: &[u8], wanted: usize) -> items::Place
 }
 
 // A line with its numbers and places, for a caller that has no enum.
-pub(crate) fn find(line: files::Line) -> Found
-    ensures { result ≡ found line }
-{
-    match line {
-        files::Line::Finished { place } => Found {
-            line: false,
-            no: 0,
-            field: 0,
-            kind: table::NONE,
-            start: place,
-            len: 0,
-            next: place,
-        },
-        files::Line::Read {
-            no,
-            field,
-            kind,
-            start,
-            len,
-            next,
-        } => Found {
-            line: true,
-            no,
-            field,
-            kind,
-            start,
-            len,
-            next,
-        },
+impl From<files::Line> for Found {
+    ghost from_gives = { λ l r. r ≡ found l };
+
+    fn from(line: files::Line) -> Found {
+        match line {
+            files::Line::Finished { place } => Found {
+                line: false,
+                no: 0,
+                field: 0,
+                kind: table::NONE,
+                start: place,
+                len: 0,
+                next: place,
+            },
+            files::Line::Read {
+                no,
+                field,
+                kind,
+                start,
+                len,
+                next,
+            } => Found {
+                line: true,
+                no,
+                field,
+                kind,
+                start,
+                len,
+                next,
+            },
+        }
     }
 }
 
@@ -64,7 +66,7 @@ pub(crate) fn find(line: files::Line) -> Found
 pub fn obscurlane_line_at(file: &[u8], place: usize) -> Found
     ensures { result ≡ found (line_said (line_at file.now place)) }
 {
-    find(files::line_at(file, place))
+    Found::from(files::line_at(file, place))
 }
 
 // A reader of a file is its place: a new one stands at the start.
@@ -78,7 +80,7 @@ pub fn obscurlane_reader_new(file: &[u8]) -> usize
 pub fn obscurlane_reader_step(file: &[u8], place: &mut usize) -> Found
     ensures { PlaceStepped file.now place.old result place.new }
 {
-    let step = find(files::step_from(file, *place));
+    let step = Found::from(files::step_from(file, *place));
     *place = step.next;
     step
 }

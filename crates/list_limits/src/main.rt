@@ -22,11 +22,8 @@ fn zeros() -> [u8; list_text::MOST + 1]
 
 // The front of a file, and all of it where it is shorter. The length is a parameter, since a proof counts up to a number
 // that it sees.
-fn front<'a>(file: &'a [u8], len: usize) -> &'a [u8] {
-    if file.len() < len {
-        return file;
-    }
-    &file[0..len]
+fn front(file: &[u8], len: usize) -> &[u8] {
+    file.get(..len).unwrap_or(file)
 }
 
 fn main(rt: HostRuntime) -> io::Result<()> {

@@ -15,6 +15,7 @@ pub fn read_full<R: Read>(input: &mut R, buffer: &mut [u8]) -> io::Result<usize>
     ensures end { IfOk result (λ n. n < length buffer.new → IsAtEnd (R.remaining input.new)) }
 {
     let mut done: usize = 0;
+    // A loop on the count: it is what is answered, and an iterator over reads would have to lend the same buffer again and again.
     while done < buffer.len() {
         let n = input.read(&mut buffer[done..])?;
         if n == 0 {
