@@ -57,10 +57,8 @@ pub fn crc_of(bytes: &[u8]) -> u16
     ensures { result ≡ crc_of bytes.now }
 {
     let mut crc = Crc::begin();
-    let mut i = 0;
-    while i < bytes.len() {
-        crc = crc.add(bytes[i]);
-        i += 1;
+    for byte in bytes {
+        crc = crc.add(*byte);
     }
     crc.end()
 }

@@ -11,6 +11,10 @@ use lib.ListN.{length, take, drop, get_or, drop_of_length-le, length-append, len
 use lib.Seq.{take_all, length-take-le, take-append-le, drop-append-le, drop-cons, drop-drop, get_or-drop}
 use lib.Dec.{eqb}
 use borrow.Author.Tests.{eq-eqb, ne_eqb, lt-ltb, le-ltb}
+use Rattle.std.proofs.Common.{Option as Maybe}
+use Rattle.std.specs.Option.{MatchOption, unwrap_or}
+use Rattle.std.specs.List.{AllWithin, HoldsAt}
+use Rattle.std.proofs.lemmas.Iterator.{index_from_first}
 use Rattle.text.specs.Text.{Bytes}
 use Rattle.text.proofs.Tests.{less_or}
 use Rattle.format.specs.Kinds.{Kind, mark}
@@ -22,18 +26,16 @@ use Rattle.frame.specs.Frame.{next_mark, part_start, part_place, part_of}
 
 -- ---- the next mark
 
-module _ (m : ℕ) (s : Bytes) (i : ℕ) where
-  pub next_here : i < length s → get_or s i 0 ≡ m → next_mark m s i ≡ i
-  unfolding next_mark
-  next_here h e = rw (drop-cons s i 0 h, eq-eqb (get_or s i 0) m e, add-zero)
+pub up_to_first : (m : ℕ) (s : Bytes) (r : Maybe ℕ)
+    → MatchOption r (AllWithin (λ x. x ≡ m → ⊥) s 0 (length s)) (λ i. (i < length s) × HoldsAt (λ x. x ≡ m) s i × AllWithin (λ x. x ≡ m → ⊥) s 0 i)
+    → length (up_to m s) ≡ unwrap_or r (length s)
+up_to_first m =
+    index_from_first (λ xs. length (up_to m xs)) (λ x. x ≡ m) (λ x. x ≡ m → ⊥) refl
+    (λ x xs e. rw (eq-eqb x m e)) (λ x xs n. rw (ne_eqb x m n, add-one))
 
-  pub next_on : i < length s → (get_or s i 0 ≡ m → ⊥) → next_mark m s (i + 1) ≡ next_mark m s i
-  unfolding next_mark
-  next_on h n = rw (drop-cons s i 0 h, ne_eqb (get_or s i 0) m n, add-one) (omega arith)
-
-  pub next_end : length s ≤ i → next_mark m s i ≡ i
-  unfolding next_mark
-  next_end h = rw (drop_of_length-le s h, add-zero)
+pub next_end : (m : ℕ) (s : Bytes) (i : ℕ) → length s ≤ i → next_mark m s i ≡ i
+unfolding next_mark
+next_end m s i h = rw (drop_of_length-le s h, add-zero)
 
 up_to_within : (m : ℕ) (s : Bytes) → length (up_to m s) ≤ length s
 up_to_within m s = omega (arith, ap length (take_up_to m s), length-take (length (up_to m s)) s)

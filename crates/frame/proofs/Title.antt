@@ -1,27 +1,27 @@
 -- The first mark of either sort, by places.
 -- Assumes nothing.
-use Prim.Native.Nat.{ℕ, suc, ◌+◌, ◌-◌, ◌≤◌, ◌<◌}
+use Prim.Native.Nat.{ℕ, ◌-◌, ◌≤◌, ◌<◌}
 use mathlib.Core.Path.{◌≡◌, refl, ap}
 use mathlib.Core.Bool.{Bool, true, false, cond}
 use mathlib.Core.List.{[], ◌∷◌}
 use native.Mathlib.Omega.{arith}
 use native.Mathlib.Numerals.{add-one}
-use lib.ListN.{length, take, drop, get_or, drop_of_length-le, length-take}
-use lib.Seq.{drop-cons}
+use lib.ListN.{length, take, drop, get_or, length-take}
+use Rattle.std.proofs.Common.{Option as Maybe}
+use Rattle.std.specs.Option.{MatchOption, unwrap_or}
+use Rattle.std.specs.List.{AllWithin, HoldsAt}
+use Rattle.std.proofs.lemmas.Iterator.{index_from_first}
 use Rattle.text.specs.Text.{Bytes}
 use Rattle.format.specs.Read.{is_mark, title, mark_after}
 
--- ---- a turn of the loop
+-- ---- its length is the place of the first mark
 
-module _ (s : Bytes) (i : ℕ) where
-  pub title_here : i < length s → is_mark (get_or s i 0) ≡ true → length (title (drop i s)) ≡ 0
-  title_here h e = rw (drop-cons s i 0 h, e)
-
-  pub title_on : i < length s → is_mark (get_or s i 0) ≡ false → length (title (drop i s)) ≡ suc (length (title (drop (i + 1) s)))
-  title_on h e = rw (drop-cons s i 0 h, e, add-one)
-
-  pub title_end : length s ≤ i → length (title (drop i s)) ≡ 0
-  title_end h = rw (drop_of_length-le s h)
+pub title_first : (s : Bytes) (r : Maybe ℕ)
+    → MatchOption r (AllWithin (λ x. is_mark x ≡ false) s 0 (length s)) (λ i. (i < length s) × HoldsAt (λ x. is_mark x ≡ true) s i × AllWithin (λ x. is_mark x ≡ false) s 0 i)
+    → length (title s) ≡ unwrap_or r (length s)
+title_first =
+    index_from_first (λ xs. length (title xs)) (λ x. is_mark x ≡ true) (λ x. is_mark x ≡ false) refl
+    (λ x xs e. rw e) (λ x xs e. rw (e, add-one))
 
 -- ---- the title and its mark, by the title's length
 

@@ -15,23 +15,13 @@ const CHECK_LENGTH: usize = 4;
 fn is_mark(c: u8) -> bool
     ensures { result ≡ is_mark c }
 {
-    if c == b':' {
-        return true;
-    }
-    c == b'|'
+    matches!(c, b':' | b'|')
 }
 
 fn title_length(s: &[u8]) -> usize
     ensures { result ≡ length (title s.now) }
 {
-    let mut i = 0;
-    while i < s.len() {
-        if is_mark(s[i]) {
-            return i;
-        }
-        i += 1;
-    }
-    i
+    s.iter().position(|c| is_mark(*c)).unwrap_or(s.len())
 }
 
 // What stands before the first mark of either sort, and all if there is none.
@@ -47,10 +37,7 @@ pub fn mark_after(s: &[u8]) -> u8
     ensures { result ≡ mark_after s.now }
 {
     let at = title_length(s);
-    if at < s.len() {
-        return s[at];
-    }
-    0
+    s.get(at).copied().unwrap_or(0)
 }
 
 // ---- the parts
@@ -59,14 +46,10 @@ pub fn mark_after(s: &[u8]) -> u8
 pub fn next_mark(mark: u8, s: &[u8], from: usize) -> usize
     ensures { result ≡ next_mark mark s.now from }
 {
-    let mut i = from;
-    while i < s.len() {
-        if s[i] == mark {
-            return i;
-        }
-        i += 1;
+    match s.get(from..) {
+        Some(rest) => from + rest.iter().position(|c| *c == mark).unwrap_or(rest.len()),
+        None => from,
     }
-    i
 }
 
 // Where part n, from 0, begins: behind the parts before it, each with its mark. Where there are not so many, behind the
@@ -74,14 +57,12 @@ pub fn next_mark(mark: u8, s: &[u8], from: usize) -> usize
 pub fn part_start(mark: u8, s: &[u8], n: usize) -> usize
     ensures { result ≡ part_start mark s.now n }
 {
-    let mut k: usize = 0;
-    let mut i: usize = 0;
-    while i < s.len() {
-        if k == n {
+    let mut i = 0;
+    for _ in 0..n {
+        if s.len() <= i {
             return i;
         }
         i = next_mark(mark, s, i) + 1;
-        k += 1;
     }
     i
 }
@@ -104,10 +85,7 @@ pub fn part<'a>(mark: u8, s: &'a [u8], n: usize) -> &'a [u8]
 fn body_length(s: &[u8]) -> usize
     ensures { result ≡ length s.now - 4 }
 {
-    if s.len() < CHECK_LENGTH {
-        return 0;
-    }
-    s.len() - CHECK_LENGTH
+    s.len().saturating_sub(CHECK_LENGTH)
 }
 
 // All but the last four bytes.
@@ -130,28 +108,22 @@ fn check_of<'a>(s: &'a [u8]) -> &'a [u8]
 fn ends_in(mark: u8, s: &[u8]) -> bool
     ensures { result ≡ ends_in mark s.now }
 {
-    if s.len() == 0 {
-        return false;
-    }
-    let at = s.len() - 1;
-    s[at] == mark
+    s.last() == Some(&mark)
 }
 
 // 3 where no check or no mark before it stands at the end, 4 where the check differs, else 0.
+#[tactic(auto, unfolding(format::specs::Read::check_no))]
 pub fn check_no(mark: u8, s: &[u8]) -> u8
     ensures { result ≡ check_no mark s.now }
 {
     let check = check_of(s);
-    if !text::is_hex(CHECK_LENGTH, check) {
-        return numbers::MISSING_CHECK;
-    }
     let body = body_of(s);
-    if !ends_in(mark, body) {
+    if !text::is_hex(CHECK_LENGTH, check) || !ends_in(mark, body) {
         return numbers::MISSING_CHECK;
     }
-    let built = text::check_text(crc16::crc_of(body));
-    if text::are_same(check, &built) {
-        return numbers::ACCEPTED;
+    if text::are_same(check, &text::check_text(crc16::crc_of(body))) {
+        numbers::ACCEPTED
+    } else {
+        numbers::WRONG_CHECK
     }
-    numbers::WRONG_CHECK
 }

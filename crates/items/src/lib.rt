@@ -28,46 +28,34 @@ fn missing() -> Place
 pub fn item_place(text: &[u8], wanted: usize) -> Place
     ensures { ItemPlaced text.now wanted result }
 {
-    if text.len() == 0 {
-        return missing();
-    }
-    if wanted == 0 {
+    if text.is_empty() || wanted == 0 {
         return missing();
     }
     let n = text[0] as usize;
-    let mut i = 0;
     let mut at = 1;
-    // where the wanted item's length stands, once the walk has passed it
-    let mut found = 0;
-    while i < n {
+    let mut found = None;
+    for i in 0..n {
         if text.len() <= at {
             return missing();
         }
         let len = text[at] as usize;
-        let from = at + 1;
-        if text.len() - from < len {
+        let start = at + 1;
+        if text.len() - start < len {
             return missing();
         }
-        let here = at;
-        i += 1;
-        at = from + len;
-        if i == wanted {
-            found = here;
+        if i + 1 == wanted {
+            found = Some(Place {
+                no: numbers::ACCEPTED,
+                start,
+                len,
+            });
         }
+        at = start + len;
     }
     if at < text.len() {
         return missing();
     }
-    if n < wanted {
-        return missing();
-    }
-    let start = found + 1;
-    let len = text[found] as usize;
-    Place {
-        no: numbers::ACCEPTED,
-        start,
-        len,
-    }
+    found.unwrap_or(missing())
 }
 
 // The item of a wanted number, counted from 1, as a part of the text, with number 0. Where the bytes have not the form of a
@@ -76,8 +64,6 @@ pub fn text_item<'a>(text: &'a [u8], wanted: usize, no: &mut u8) -> &'a [u8]
     ensures { ItemHanded text.entry wanted result no.new }
 {
     let place = item_place(text, wanted);
-    let start = place.start;
-    let end = start + place.len;
     *no = place.no;
-    &text[start..end]
+    &text[place.start..place.start + place.len]
 }

@@ -22,32 +22,26 @@ pub struct Places {
 pub fn places_of(mark: u8, body: &[u8]) -> Places
     ensures { result ≡ places_of mark body.now }
 {
-    let mut starts = [0; 7];
-    let mut lens = [0; 7];
-    let mut j: usize = 0;
-    let mut i = frame::next_mark(mark, body, 0) + 1;
-    while j < MOST {
-        if body.len() <= i {
-            return Places {
-                count: j,
-                starts,
-                lens,
-            };
+    let mut places = Places {
+        count: 0,
+        starts: [0; 7],
+        lens: [0; 7],
+    };
+    let mut start = frame::next_mark(mark, body, 0) + 1;
+    for j in 0..MOST {
+        if body.len() <= start {
+            return places;
         }
-        let end = frame::next_mark(mark, body, i);
-        starts[j] = i;
-        lens[j] = end - i;
-        j += 1;
-        i = end + 1;
+        let end = frame::next_mark(mark, body, start);
+        places.starts[j] = start;
+        places.lens[j] = end - start;
+        places.count += 1;
+        start = end + 1;
     }
-    if i < body.len() {
-        j += 1;
+    if start < body.len() {
+        places.count += 1;
     }
-    Places {
-        count: j,
-        starts,
-        lens,
-    }
+    places
 }
 
 // No part: an empty one, at the front of s.
@@ -67,14 +61,10 @@ pub fn part_at<'a>(s: &'a [u8], starts: &[usize; 7], lens: &[usize; 7], j: usize
     }
     let start = starts[j];
     let len = lens[j];
-    if s.len() < start {
+    if s.len() < start || s.len() - start < len {
         return none_of(s);
     }
-    if s.len() - start < len {
-        return none_of(s);
-    }
-    let end = start + len;
-    &s[start..end]
+    &s[start..start + len]
 }
 
 // The field of this number, from 1 as document 01 counts; an empty part at the front of s where there is none.

@@ -1,13 +1,13 @@
 -- How pieces compose: what is written after a piece is written behind it.
 -- Assumes nothing.
-use Prim.Native.Nat.{ℕ, ◌+◌, ◌≤◌}
+use Prim.Native.Nat.{ℕ, ◌+◌, ◌≤◌, ◌<◌}
 use mathlib.Core.Path.{◌≡◌, refl, sym, ap, ◌∙◌, subst}
 use mathlib.Core.List.{List, [], ◌++◌, append_assoc, append-nil}
 use native.Mathlib.Omega.{arith}
 use native.Mathlib.Nat.{zero-add, add_assoc}
 use lib.ListN.{length, take, drop, take-append-drop, length-append, length-drop}
 use lib.Seq.{length-take-le, drop-append-add, drop-length, take_at, drop-drop}
-use borrow.Author.Tests.{le-leb}
+use borrow.Author.Tests.{le-leb, lt-leb}
 use Rattle.put.specs.Put.{over, Puts, Put}
 use Rattle.put.specs.Made.{made, denied, says, Writes}
 use Rattle.put.specs.declared.Written.{Written}
@@ -31,6 +31,10 @@ put_none {o} {k} h = record {
   written = sym (rw (let e : k + 0 ≡ k = omega arith in e, append-nil) (take-append-drop k o));
   next = omega arith;
 }
+
+-- no room for it
+pub not_put : {o v : List ℕ} {k : ℕ} → length o < k + length v → Puts o k v o k
+not_put {o} {v} {k} h = let n = lt-leb (k + length v) (length o) h in record { leaves = rw n; answers = rw n }
 
 -- the output keeps its length
 pub put_length : {o v out : List ℕ} {k r : ℕ} → Put o k v out r → length out ≡ length o

@@ -30,18 +30,12 @@ pub fn refuse(no: u8, field: u8) -> Written
 pub fn put(out: &mut [u8], at: usize, piece: &[u8]) -> usize
     ensures { Puts out.old at piece.now out.new result }
 {
-    if out.len() < at {
+    if out.len() < at || out.len() - at < piece.len() {
         return at;
     }
-    if out.len() - at < piece.len() {
-        return at;
-    }
-    let mut i = 0;
-    while i < piece.len() {
-        out[at + i] = piece[i];
-        i += 1;
-    }
-    at + i
+    let end = at + piece.len();
+    out[at..end].copy_from_slice(piece);
+    end
 }
 
 // The same for one byte.
@@ -55,21 +49,13 @@ pub fn put_byte(out: &mut [u8], at: usize, byte: u8) -> usize
 pub fn put_hex(out: &mut [u8], at: usize, bytes: &[u8]) -> usize
     ensures { Puts out.old at (base16 bytes.now) out.new result }
 {
-    if out.len() < at {
-        return at;
-    }
-    if (out.len() - at) / 2 < bytes.len() {
+    if out.len() < at || (out.len() - at) / 2 < bytes.len() {
         return at;
     }
     let mut next = at;
-    let mut i = 0;
-    while i < bytes.len() {
-        let pair = [
-            text::hex_digit(bytes[i] / 16),
-            text::hex_digit(bytes[i] % 16),
-        ];
+    for byte in bytes {
+        let pair = [text::hex_digit(byte / 16), text::hex_digit(byte % 16)];
         next = put(out, next, &pair);
-        i += 1;
     }
     next
 }
@@ -89,17 +75,12 @@ pub fn put_decoded(out: &mut [u8], at: usize, characters: &[u8]) -> usize
     if !text::is_hex(characters.len(), characters) {
         return at;
     }
-    if out.len() < at {
-        return at;
-    }
-    if out.len() - at < characters.len() / 2 {
+    if out.len() < at || out.len() - at < characters.len() / 2 {
         return at;
     }
     let mut next = at;
-    let mut i = 0;
-    while i < characters.len() / 2 {
-        next = put_byte(out, next, byte_of(characters[2 * i], characters[2 * i + 1]));
-        i += 1;
+    for pair in characters.chunks_exact(2) {
+        next = put_byte(out, next, byte_of(pair[0], pair[1]));
     }
     next
 }

@@ -7,12 +7,13 @@ use mathlib.Core.Option.{Option, none, some}
 use mathlib.Core.List.{List, [], ◌∷◌}
 use native.Mathlib.Omega.{arith}
 use native.Mathlib.Numerals.{add-one}
-use lib.ListN.{length, take, drop, drop_of_length-le, length-take}
+use lib.ListN.{take, drop, length-take}
 use lib.Seq.{drop-cons, drop-drop, get_or-take}
 use Rattle.text.specs.Text.{Bytes, same}
+use Rattle.text.proofs.Tests.{less_or}
 use Rattle.format.specs.Kinds.{Kind, SMMAN, name, record_kinds, all_kinds}
 use Rattle.format.specs.Read.{kind_in}
-use Rattle.table.specs.Table.{missing_row, row_count, row_for, of_row, is_kind, named, kinds_from}
+use Rattle.table.specs.Table.{row_count, row_for, of_row, is_kind, named, kinds_from}
 use Rattle.table.proofs.Rows.{kind_at, row_at, in_row}
 
 -- f finds the first kind that passes p
@@ -41,15 +42,6 @@ module _ (p : Kind → Bool) (f : List Kind → Option Kind) (w : Search p f) (t
   pub search_on : row < row_count → row < to → of_row p false row ≡ false → f (drop (row + 1) rows) ≡ f (drop row rows)
   search_on h l e = sym (rw e at (look h l))
 
-  none_left : length rows ≤ row → missing_row ≡ row_for (f (drop row rows))
-  none_left h = sym (ap row_for (ap f (drop_of_length-le rows {i = row} h) ∙ w.ends))
-
-  pub search_end : to ≤ row → missing_row ≡ row_for (f (drop row rows))
-  search_end h = none_left (omega (arith, length-take to all_kinds))
-
-  pub search_past : row_count ≤ row → missing_row ≡ row_for (f (drop row rows))
-  search_past h = none_left (omega (arith, length-take to all_kinds))
-
 -- ---- the record kinds in a range of rows: the first is row 3
 
 from_three : (to : ℕ) → drop 3 (take to all_kinds) ≡ take (to - 3) record_kinds
@@ -58,10 +50,17 @@ from_three (suc zero) = refl
 from_three (suc (suc zero)) = refl
 from_three (suc (suc (suc to))) = ap (λ (n : ℕ). take n record_kinds) (sym (let e : suc (suc (suc to)) - 3 ≡ to = omega arith in e))
 
-pub range_above : (from to : ℕ) → 3 ≤ from → drop from (take to all_kinds) ≡ kinds_from from to
+range_above : (from to : ℕ) → 3 ≤ from → drop from (take to all_kinds) ≡ kinds_from from to
 range_above from to h =
     let e : 3 + (from - 3) ≡ from = omega arith in
     ap (λ (n : ℕ). drop n (take to all_kinds)) (sym e) ∙ sym (drop-drop (from - 3) 3 (take to all_kinds)) ∙ ap (drop (from - 3)) (from_three to)
 
-pub range_below : (from to : ℕ) → from < 3 → drop 3 (take to all_kinds) ≡ kinds_from from to
+range_below : (from to : ℕ) → from < 3 → drop 3 (take to all_kinds) ≡ kinds_from from to
 range_below from to h = let e : from - 3 ≡ 0 = omega arith in rw e (from_three to)
+
+-- from a row on, but from the first of them at the earliest
+pub range_from : (from to first : ℕ) → (from < 3 → first ≡ 3) → (3 ≤ from → first ≡ from) → drop first (take to all_kinds) ≡ kinds_from from to
+range_from from to first f g =
+    less_or from 3
+    (λ h. ap (λ (n : ℕ). drop n (take to all_kinds)) (f h) ∙ range_below from to h)
+    (λ h. ap (λ (n : ℕ). drop n (take to all_kinds)) (g h) ∙ range_above from to h)

@@ -167,20 +167,14 @@ const TYPES: [u8; 28] = [
 pub fn mark_of(row: usize) -> u8
     ensures { result ≡ mark_of row }
 {
-    if row < ROWS {
-        return MARKS[row];
-    }
-    0
+    MARKS.get(row).copied().unwrap_or(0)
 }
 
 // 0 for a row that is not there.
 pub fn count_of(row: usize) -> usize
     ensures { result ≡ count_of row }
 {
-    if row < ROWS {
-        return COUNTS[row] as usize;
-    }
-    0
+    COUNTS.get(row).copied().unwrap_or(0) as usize
 }
 
 // The code of the type of field j, from 0; IDENT for a row or a field that is not there.
@@ -198,10 +192,7 @@ pub fn type_of(row: usize, j: usize) -> u8
 pub fn is_pubkey(row: usize) -> bool
     ensures { result ≡ is_pubkey row }
 {
-    if row == ECDSA {
-        return true;
-    }
-    row == ECDH
+    row == ECDSA || row == ECDH
 }
 
 // ---- the row that has a name
@@ -221,35 +212,24 @@ fn is_named(row: usize, title: &[u8]) -> bool
 pub fn is_called(row: usize, title: &[u8]) -> bool
     ensures { result ≡ of_row (λ k. same title.now (name k)) false row }
 {
-    if row < ROWS {
-        return is_named(row, title);
-    }
-    false
+    row < ROWS && is_named(row, title)
 }
 
 fn is_kind(row: usize, title: &[u8], mark: u8) -> bool
     requires { row < row_count }
     ensures { result ≡ of_row (is_kind title.now mark) false row }
 {
-    if !is_named(row, title) {
-        return false;
-    }
-    mark == MARKS[row]
+    is_named(row, title) && mark == MARKS[row]
 }
 
 // The row from `from` to before `to` that has this name and this mark, or NONE.
 fn row_in(title: &[u8], mark: u8, from: usize, to: usize) -> usize
     ensures { result ≡ row_for (kind_in (drop from (take to all_kinds)) title.now mark) }
 {
-    let mut row = from;
-    while row < ROWS {
-        if to <= row {
-            return NONE;
-        }
+    for row in from..to.min(ROWS) {
         if is_kind(row, title, mark) {
             return row;
         }
-        row += 1;
     }
     NONE
 }
@@ -265,22 +245,17 @@ pub fn identity_kind(title: &[u8], mark: u8) -> usize
 pub fn record_kind(title: &[u8], mark: u8, from: usize, to: usize) -> usize
     ensures { result ≡ row_for (kind_in (kinds_from from to) title.now mark) }
 {
-    if from < ECDSA {
-        return row_in(title, mark, ECDSA, to);
-    }
-    row_in(title, mark, from, to)
+    row_in(title, mark, from.max(ECDSA), to)
 }
 
 // The row of a kind by its name alone, or NONE.
 pub fn kind_named(title: &[u8]) -> usize
     ensures { result ≡ row_for (named all_kinds title.now) }
 {
-    let mut row: usize = 0;
-    while row < ROWS {
+    for row in 0..ROWS {
         if is_named(row, title) {
             return row;
         }
-        row += 1;
     }
     NONE
 }
@@ -291,20 +266,14 @@ pub fn kind_named(title: &[u8]) -> usize
 pub fn is_identity(code: u8) -> bool
     ensures { result ≡ is_identity (field_type code) }
 {
-    if code < ID_SMMAN {
-        return false;
-    }
-    code <= ID_SMMAN_OR_EMPTY
+    ID_SMMAN <= code && code <= ID_SMMAN_OR_EMPTY
 }
 
 // The code is one of the two.
 fn is_either(code: u8, a: u8, b: u8) -> bool
     ensures { result ≡ (eqb code a || eqb code b) }
 {
-    if code == a {
-        return true;
-    }
-    code == b
+    code == a || code == b
 }
 
 // False for a number that is no code.
@@ -319,14 +288,10 @@ pub fn may_be_empty(code: u8) -> bool
 pub fn does_permit(code: u8, row: usize) -> bool
     ensures { result ≡ row_among row (permitted (field_type code)) }
 {
-    if row == SMMAN {
-        return is_either(code, ID_SMMAN, ID_SMMAN_OR_EMPTY);
+    match row {
+        SMMAN => is_either(code, ID_SMMAN, ID_SMMAN_OR_EMPTY),
+        SMID => is_either(code, ID_SMID, ID_SMID_OR_KMCID),
+        KMCID => is_either(code, ID_KMCID, ID_SMID_OR_KMCID),
+        _ => false,
     }
-    if row == SMID {
-        return is_either(code, ID_SMID, ID_SMID_OR_KMCID);
-    }
-    if row == KMCID {
-        return is_either(code, ID_KMCID, ID_SMID_OR_KMCID);
-    }
-    false
 }

@@ -25,10 +25,6 @@ module _ (c : ℕ) where
   unfolding hex_value
   value_letter e f = rw (e, f)
 
-  pub value_none : decimal c ≡ false → between 65 70 c ≡ false → hex_value c ≡ 16
-  unfolding hex_value
-  value_none e f = rw (e, f)
-
 -- ---- one character
 
 pub value_digit : (n : ℕ) → n < 16 → hex_value (hex_digit n) ≡ n

@@ -1,15 +1,16 @@
--- A turn of each loop: what a test of lists says from place i on.
+-- Tests of lists as the library says them, and the numbers in digits.
 -- Assumes nothing.
-use Prim.Native.Nat.{ℕ, suc, ◌+◌, ◌-◌, ◌*◌, ◌≤◌, ◌<◌}
+use Prim.Native.Nat.{ℕ, suc, ◌+◌, ◌-◌, ◌*◌, ◌≤◌}
 use mathlib.Core.Path.{◌≡◌, refl, sym, ap, ◌∙◌}
-use mathlib.Core.Bool.{Bool, true, false, ◌&&◌, and-true, and-false, and_assoc}
+use mathlib.Core.Bool.{Bool, true, false, ◌&&◌, and-false}
 use mathlib.Core.List.{[], ◌∷◌}
 use native.Mathlib.Omega.{arith}
 use native.Mathlib.Numerals.{add-one}
-use lib.ListN.{length, take, drop, get_or, drop_of_length-le, length-drop}
+use lib.ListN.{length, take, drop, get_or, length-drop}
 use lib.Seq.{drop-cons, take_all}
 use lib.Dec.{T, eqb}
 use mir.Facts.{and_yes}
+use Rattle.std.specs.List.{list_all, zip}
 use Rattle.text.specs.Text.{Bytes, every, same, fits, looks, number, number_from, part, year}
 
 -- the part from i to the end, as code takes it
@@ -18,13 +19,10 @@ rest_all s i = take_all (length s - i) (drop i s) (omega (arith, length-drop i s
 
 -- ---- every byte
 
--- `all` says what holds of the bytes before place i, and what is left decides
-module _ (p : ℕ → Bool) (s : Bytes) (i : ℕ) (all : Bool) (so : (all && every p (drop i s)) ≡ every p s) where
-  pub every_on : i < length s → ((all && p (get_or s i 0)) && every p (drop (i + 1) s)) ≡ every p s
-  every_on h = and_assoc all (p (get_or s i 0)) (every p (drop (i + 1) s)) ∙ ap (λ (b : Bool). all && b) (rw (drop-cons s i 0 h, add-one)) ∙ so
-
-  pub every_end : length s ≤ i → all ≡ every p s
-  every_end h = sym (and-true all) ∙ (rw (drop_of_length-le s h) at so)
+-- as the library says it
+pub every_all : (p : ℕ → Bool) (s : Bytes) → list_all p s ≡ every p s
+every_all p [] = refl
+every_all p (c ∷ s) = ap (λ (b : Bool). p c && b) (every_all p s)
 
 -- ---- two lists, byte against byte: `same` and `looks` are such tests
 
@@ -55,18 +53,12 @@ module _ (p : ℕ → ℕ → Bool) (f : Bytes → Bytes → Bool) (w : Pairwise
   pairwise_length (x ∷ a) [] t = absurd (rw (w.long x a) at t)
   pairwise_length (x ∷ a) (y ∷ b) t = ap suc (pairwise_length a b (and_yes (p x y) (f a b) (rw (w.both x y a b) at t)).1)
 
-  module _ (a b : Bytes) (i : ℕ) where
-    step : i < length a → i < length b → f (drop i a) (drop i b) ≡ (p (get_or a i 0) (get_or b i 0) && f (drop (suc i) a) (drop (suc i) b))
-    step ha hb = rw (drop-cons a i 0 ha, drop-cons b i 0 hb) (w.both (get_or a i 0) (get_or b i 0) (drop (suc i) a) (drop (suc i) b))
-
-    pub pairwise_stop : i < length a → i < length b → p (get_or a i 0) (get_or b i 0) ≡ false → f (drop i a) (drop i b) ≡ false
-    pairwise_stop ha hb e = step ha hb ∙ rw e
-
-    pub pairwise_on : i < length a → i < length b → p (get_or a i 0) (get_or b i 0) ≡ true → f (drop (i + 1) a) (drop (i + 1) b) ≡ f (drop i a) (drop i b)
-    pairwise_on ha hb e = sym (step ha hb ∙ rw (e, add-one))
-
-    pub pairwise_end : length a ≤ i → length b ≤ i → f (drop i a) (drop i b) ≡ true
-    pairwise_end ha hb = rw (drop_of_length-le a ha, drop_of_length-le b hb) w.ends
+  -- of one length: each byte against the one at its place
+  pub pairwise_zip : (a b : Bytes) → length a ≡ length b → list_all (λ (x : ℕ × ℕ). p x.0 x.1) (zip a b) ≡ f a b
+  pairwise_zip [] [] e = sym w.ends
+  pairwise_zip [] (y ∷ b) e = absurd (omega arith)
+  pairwise_zip (x ∷ a) [] e = absurd (omega arith)
+  pairwise_zip (x ∷ a) (y ∷ b) e = ap (λ (r : Bool). p x y && r) (pairwise_zip a b (omega arith)) ∙ sym (w.both x y a b)
 
 -- ---- digits
 
@@ -82,10 +74,9 @@ year_twice (a ∷ b ∷ []) h = absurd (omega arith)
 year_twice (a ∷ b ∷ c ∷ []) h = absurd (omega arith)
 year_twice (a ∷ b ∷ c ∷ d ∷ s) h = omega arith
 
-pub number_three : (s : Bytes) → length s ≡ 3 → number s ≡ 10 * number (part 0 2 s) + (get_or s 2 0 - 48)
-unfolding number_from
-number_three [] h = absurd (omega arith)
-number_three (a ∷ []) h = absurd (omega arith)
-number_three (a ∷ b ∷ []) h = absurd (omega arith)
-number_three (a ∷ b ∷ c ∷ []) h = omega arith
-number_three (a ∷ b ∷ c ∷ d ∷ s) h = absurd (omega arith)
+pub three_digits : (s : Bytes) → length s ≡ 3 → number s ≡ number (get_or s 0 0 ∷ get_or s 1 0 ∷ get_or s 2 0 ∷ [])
+three_digits [] h = absurd (omega arith)
+three_digits (a ∷ []) h = absurd (omega arith)
+three_digits (a ∷ b ∷ []) h = absurd (omega arith)
+three_digits (a ∷ b ∷ c ∷ []) h = refl
+three_digits (a ∷ b ∷ c ∷ d ∷ s) h = absurd (omega arith)

@@ -1,10 +1,11 @@
 -- A TIMESTAMP as a number: its parts, the order of numbers of seconds, and the eight bytes.
 -- Assumes nothing.
 use Prim.Native.Nat.{ℕ, zero, suc, ◌+◌, ◌-◌, ◌*◌, ◌/◌, ◌%◌, ◌^◌, ◌≤◌, ◌<◌}
-use mathlib.Core.Path.{◌≡◌, refl, sym, ap, subst, ◌∙◌}
+use mathlib.Core.Path.{◌≡◌, refl, sym, ap, ap₂, subst, ◌∙◌}
 use mathlib.Core.Bool.{Bool, true, false, cond, not, true≢false}
 use mathlib.Core.List.{[], ◌∷◌, ◌++◌}
 use native.Mathlib.Omega.{arith}
+use native.Mathlib.Nat.{pow-suc, mul_comm, div-div-eq-div-mul}
 use lib.Dec.{T, ltb, ltb→lt, nltb→le, lt→ltb}
 use lib.ListN.{length}
 use lib.IntN.{ℤ, pos, negsuc, nat_abs, sub_ℕ, ◌+ℤ◌, ◌-ℤ◌}
@@ -14,6 +15,7 @@ use mir.Val.{Fits, SFits, of_z, to_z}
 use mir.Facts.{Fits-nat_abs}
 use mir.ValLaws.{to_z_pos, to_z-of_z, of_z_fits}
 use borrow.Author.Tests.{lt-ltb, le-ltb, ltb-true}
+use Rattle.std.specs.Int.{byte_at, bytes_high_first}
 use Rattle.text.specs.Calendar.{days_of_month, days_before, sum_to}
 use Rattle.text.specs.Text.{Bytes, between, number_from, year, month, day, hour, minute, second, timestamp_tests, is_timestamp}
 use Rattle.text.specs.declared.moment.Moment.{Moment}
@@ -193,16 +195,6 @@ module _ (x : ℤ) (f : SFits w64 x) (test : lt_z (back x) (pos 0) ≡ true) whe
   pub minus_casts : Casts (back (negsuc 0 -ℤ back x))
   minus_casts = rw minus_is (tt, record { fits = omega (arith, f.sfits) })
 
-  pub minus_small : nat_abs (back (negsuc 0 -ℤ back x)) ≤ 18446744073709551615
-  minus_small = rw minus_is (omega (arith, f.sfits))
-
-  pub below_zero : 18446744073709551615 - nat_abs (back (negsuc 0 -ℤ back x)) ≡ twos_complement x
-  below_zero = ap (λ (z : ℤ). 18446744073709551615 - nat_abs z) minus_is ∙ go x negative
-    where
-      go : (x : ℤ) → lt_z x (pos 0) ≡ true → 18446744073709551615 - mag x ≡ twos_complement x
-      go (pos n) e = absurd (omega (arith, ltb-true n 0 e))
-      go (negsuc n) e = omega arith
-
 module _ (x : ℤ) (f : SFits w64 x) (test : lt_z (back x) (pos 0) ≡ false) where
   not_negative : back x ≡ pos (twos_complement x)
   not_negative = to_z-of_z w64 x f ∙ go x (ap (λ (z : ℤ). lt_z z (pos 0)) (sym (to_z-of_z w64 x f)) ∙ test)
@@ -216,14 +208,26 @@ module _ (x : ℤ) (f : SFits w64 x) (test : lt_z (back x) (pos 0) ≡ false) wh
       rw not_negative
       (tt, Fits-nat_abs {w = w64} {w' = w64} {z = pos (twos_complement x)} tt (subst (SFits w64) (sym (to_z-of_z w64 x f) ∙ not_negative) f))
 
-  pub from_zero : nat_abs (back x) ≡ twos_complement x
-  from_zero = ap nat_abs not_negative
-
 -- ---- the eight bytes determine the number
 
-complement_bits : (z : ℤ) → twos_complement z ≡ of_z w64 z
+pub complement_bits : (z : ℤ) → twos_complement z ≡ of_z w64 z
 complement_bits (pos n) = refl
 complement_bits (negsuc n) = refl
+
+-- as the library says them
+byte_up : (i n : ℕ) → byte_at (suc i) n ≡ byte_at i (n / 256)
+byte_up zero n = refl
+byte_up (suc i) n =
+    ap (λ (d : ℕ). n / d % 256) (pow-suc 256 (suc i) ∙ mul_comm (256 ^ suc i) 256)
+    ∙ ap (λ (x : ℕ). x % 256) (sym (div-div-eq-div-mul n 256 (256 ^ suc i)))
+
+high_step : (k n : ℕ) → bytes_high_first (suc k) n ≡ bytes_high_first k (n / 256) ++ (n % 256 ∷ [])
+high_step zero n = refl
+high_step (suc k) n = ap₂ {C = Bytes} (λ (x : ℕ) (r : Bytes). x ∷ r) (byte_up k n) (high_step k n)
+
+pub high_first : (k n : ℕ) → bytes_high_first k n ≡ big_endian k n
+high_first zero n = refl
+high_first (suc k) n = high_step k n ∙ ap (λ (s : Bytes). s ++ (n % 256 ∷ [])) (high_first k (n / 256))
 
 -- the number that bytes stand for, after those that give n
 abbrev value_from : ℕ → Bytes → ℕ

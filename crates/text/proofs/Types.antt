@@ -4,14 +4,14 @@
 use Prim.Native.Nat.{ℕ, ◌%◌}
 use mathlib.Core.Path.{◌≡◌, sym, subst}
 use mathlib.Core.Logic.{◌⊎◌, inl, inr}
-use mathlib.Core.Bool.{Bool, true, not, ◌&&◌, ◌||◌}
+use mathlib.Core.Bool.{Bool, true, false, not, ◌&&◌, ◌||◌}
 use mathlib.Core.List.{[], ◌∷◌}
 use native.Mathlib.Omega.{arith}
-use lib.Dec.{T, T_not, leb, eqb, eqb→eq, le→leb}
+use lib.Dec.{T, not_T, T_not, leb, eqb, eqb→eq, le→leb}
 use lib.ListN.{length, take, drop, get_or}
 use mir.Facts.{and_yes, yes_and, or_yes}
 use Rattle.text.specs.Text.{Bytes, ascii, between, one_of, every, without, same, decimal, hexadecimal, alphanumeric, ident_character, longest_ident, is_ident, fits, looks, is_timestamp, sized, is_digits, is_alphanumeric, printable, is_printable, is_protected, is_hex, is_point, TextType, Ident, Timestamp, Point, Sig, Mac, Print, Protected, Hex, is_of, shortest, longest}
-use Rattle.text.proofs.Tests.{one-of, or_left, or_right, by_test, cond_yes, cond_no, between_low, between_high, every_mono}
+use Rattle.text.proofs.Tests.{T_false, one-of, or_left, or_right, by_test, cond_yes, cond_no, between_low, between_high, every_mono}
 use Rattle.text.proofs.Loops.{looks_pairwise, pairwise_length}
 
 -- ---- each alphabet is a part of the ident characters
@@ -114,6 +114,9 @@ timestamp_looks s t = (and_yes (looks stamp s) _ t).0
 
 pub timestamp_length : (s : Bytes) → T (is_timestamp s) → length s ≡ 16
 timestamp_length s t = sym (pairwise_length fits looks looks_pairwise stamp s (timestamp_looks s t))
+
+pub other_length : (s : Bytes) → (length s ≡ 16 → ⊥) → is_timestamp s ≡ false
+other_length s h = T_false (is_timestamp s) (not_T (is_timestamp s) (λ t. h (timestamp_length s t)))
 
 pub plain : (t : TextType) (s : Bytes) → T (is_of t s) → T (every ident_character s)
 plain Ident s h = ident_plain s h

@@ -1,26 +1,13 @@
 // The alphabets of STS 600-4-2, clauses 5.1.1 and 5.1.3, and texts of n characters (clause 5.1.2).
 ghost use Rattle.std.specs.Prelude.{◌≡◌};
-ghost use Rattle.text.specs.Text.{between, decimal, hexadecimal, alphanumeric, ident_character, printable, every, sized};
-ghost use Rattle.text.specs.Steps.{belongs};
-
-// The alphabets that a whole text is held to.
-#[derive(Clone, Copy)]
-pub(crate) enum Alphabet {
-    Hexadecimal,
-    Ident,
-    Decimal,
-    Alphanumeric,
-    Printable,
-}
+ghost use Rattle.text.specs.Text.{between, decimal, hexadecimal, alphanumeric, ident_character, printable};
+ghost use Rattle.text.specs.Steps.{Every, Sized};
 
 // low to high, both included.
 pub(crate) fn is_between(low: usize, high: usize, n: usize) -> bool
     ensures { result ≡ between low high n }
 {
-    if n < low {
-        return false;
-    }
-    n <= high
+    low <= n && n <= high
 }
 
 pub(crate) fn is_from_to(first: u8, last: u8, c: u8) -> bool
@@ -38,109 +25,65 @@ pub(crate) fn is_decimal(c: u8) -> bool
 pub(crate) fn is_hexadecimal(c: u8) -> bool
     ensures { result ≡ hexadecimal c }
 {
-    if is_decimal(c) {
-        return true;
-    }
-    is_from_to(b'A', b'F', c)
+    is_decimal(c) || is_from_to(b'A', b'F', c)
 }
 
 pub(crate) fn is_alphanumeric(c: u8) -> bool
     ensures { result ≡ alphanumeric c }
 {
-    if is_decimal(c) {
-        return true;
-    }
-    if is_from_to(b'A', b'Z', c) {
-        return true;
-    }
-    is_from_to(b'a', b'z', c)
+    is_decimal(c) || is_from_to(b'A', b'Z', c) || is_from_to(b'a', b'z', c)
 }
 
-fn is_ident_character(c: u8) -> bool
+pub(crate) fn is_ident_character(c: u8) -> bool
     ensures { result ≡ ident_character c }
 {
-    if is_alphanumeric(c) {
-        return true;
-    }
-    if c == b'_' {
-        return true;
-    }
-    if c == b'-' {
-        return true;
-    }
-    if c == b'.' {
-        return true;
-    }
-    c == b','
+    is_alphanumeric(c) || matches!(c, b'_' | b'-' | b'.' | b',')
 }
 
 // x20 to x7E without '|'.
-fn is_printable(c: u8) -> bool
+pub(crate) fn is_printable(c: u8) -> bool
     ensures { result ≡ printable c }
 {
-    if !is_from_to(0x20, 0x7E, c) {
-        return false;
-    }
-    c != b'|'
-}
-
-fn does_belong(alphabet: Alphabet, c: u8) -> bool
-    ensures { result ≡ belongs alphabet c }
-{
-    match alphabet {
-        Alphabet::Hexadecimal => is_hexadecimal(c),
-        Alphabet::Ident => is_ident_character(c),
-        Alphabet::Decimal => is_decimal(c),
-        Alphabet::Alphanumeric => is_alphanumeric(c),
-        Alphabet::Printable => is_printable(c),
-    }
+    is_from_to(0x20, 0x7E, c) && c != b'|'
 }
 
 // ---- every character of a text, in two forms
 
 // Up to the first that does not belong. LLVM leaves the loop as it is: no constant is made for it.
-fn all_plain(alphabet: Alphabet, s: &[u8]) -> bool
-    ensures { result ≡ every (belongs alphabet) s.now }
+fn all_plain<F: Fn(u8) -> bool>(does_belong: F, s: &[u8]) -> bool
+    requires { F.IsAlwaysCallable does_belong }
+    ensures { Every (F.post does_belong) s.now result }
 {
-    let mut i: usize = 0;
-    while i < s.len() {
-        if !does_belong(alphabet, s[i]) {
-            return false;
-        }
-        i += 1;
-    }
-    true
+    s.iter().all(|c| does_belong(*c))
 }
 
 // Without an early end, so that LLVM takes many characters at once: the bounds of the alphabet become constants of 16 bytes each.
-fn all_wide(alphabet: Alphabet, s: &[u8]) -> bool
-    ensures { result ≡ every (belongs alphabet) s.now }
+fn all_wide<F: Fn(u8) -> bool>(does_belong: F, s: &[u8]) -> bool
+    requires { F.IsAlwaysCallable does_belong }
+    ensures { Every (F.post does_belong) s.now result }
 {
     let mut all = true;
-    let mut i: usize = 0;
-    while i < s.len() {
-        all = all & does_belong(alphabet, s[i]);
-        i += 1;
+    for c in s {
+        all &= does_belong(*c);
     }
     all
 }
 
 // Every character of s belongs to the alphabet. The centre wants it fast, the module without constants.
-pub(crate) fn all_belong(alphabet: Alphabet, s: &[u8]) -> bool
-    ensures { result ≡ every (belongs alphabet) s.now }
+pub(crate) fn all_belong<F: Fn(u8) -> bool>(does_belong: F, s: &[u8]) -> bool
+    requires { F.IsAlwaysCallable does_belong }
+    ensures { Every (F.post does_belong) s.now result }
 {
     if form::is_centre() {
-        return all_wide(alphabet, s);
+        return all_wide(does_belong, s);
     }
-    all_plain(alphabet, s)
+    all_plain(does_belong, s)
 }
 
 // Exactly n characters, all of them of the alphabet.
-pub(crate) fn is_sized(n: usize, alphabet: Alphabet, s: &[u8]) -> bool
-    ensures { result ≡ sized n (belongs alphabet) s.now }
+pub(crate) fn is_sized<F: Fn(u8) -> bool>(n: usize, does_belong: F, s: &[u8]) -> bool
+    requires { F.IsAlwaysCallable does_belong }
+    ensures { Sized n (F.post does_belong) s.now result }
 {
-    if s.len() != n {
-        return false;
-    }
-    all_belong(alphabet, s)
+    s.len() == n && all_belong(does_belong, s)
 }

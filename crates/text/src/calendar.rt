@@ -7,9 +7,10 @@ fn is_leap(year: usize) -> bool
     ensures { result ≡ leap year }
 {
     if year % 100 == 0 {
-        return year % 400 == 0;
+        year % 400 == 0
+    } else {
+        year % 4 == 0
     }
-    year % 4 == 0
 }
 
 // Branches and no table: the module team counts constants.
@@ -17,12 +18,8 @@ pub(crate) fn days_of_month(year: usize, month: usize) -> usize
     ensures { result ≡ days_of_month year month }
 {
     match month {
-        2 => {
-            if is_leap(year) {
-                return 29;
-            }
-            28
-        }
+        2 if is_leap(year) => 29,
+        2 => 28,
         4 | 6 | 9 | 11 => 30,
         _ => 31,
     }
@@ -43,12 +40,12 @@ fn days_of_months(year: usize, n: usize) -> usize
 {
     let days = (367 * n + 5) / 12;
     if n < 2 {
-        return days;
+        days
+    } else if is_leap(year) {
+        days - 1
+    } else {
+        days - 2
     }
-    if is_leap(year) {
-        return days - 1;
-    }
-    days - 2
 }
 
 // The days from 1 January of the year 1 to a date.

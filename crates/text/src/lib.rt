@@ -23,47 +23,33 @@ const LONGEST_IDENT: usize = 32;
 pub fn are_same(a: &[u8], b: &[u8]) -> bool
     ensures { result ≡ same a.now b.now }
 {
-    if a.len() != b.len() {
-        return false;
-    }
-    let mut i = 0;
-    while i < a.len() {
-        if a[i] != b[i] {
-            return false;
-        }
-        i += 1;
-    }
-    true
+    a == b
 }
 
 // IDENT: 1 to LONGEST_IDENT characters, the first of them alphanumeric, the others alphanumeric or one of `_ - . ,`.
+#[tactic(auto, unfolding(crate::specs::Text::is_ident))]
 pub fn is_ident(s: &[u8]) -> bool
     ensures { result ≡ is_ident s.now }
 {
-    if !alphabet::is_between(1, LONGEST_IDENT, s.len()) {
-        return false;
-    }
-    if !alphabet::is_alphanumeric(s[0]) {
-        return false;
-    }
-    alphabet::all_belong(alphabet::Alphabet::Ident, &s[1..])
+    alphabet::is_between(1, LONGEST_IDENT, s.len())
+        && alphabet::is_alphanumeric(s[0])
+        && alphabet::all_belong(alphabet::is_ident_character, &s[1..])
 }
 
 // HEX(n): exactly n characters 0-9 and A-F.
+#[tactic(auto, unfolding(crate::specs::Text::is_hex))]
 pub fn is_hex(n: usize, s: &[u8]) -> bool
     ensures { result ≡ is_hex n s.now }
 {
-    alphabet::is_sized(n, alphabet::Alphabet::Hexadecimal, s)
+    alphabet::is_sized(n, alphabet::is_hexadecimal, s)
 }
 
 // POINT: HEX(194) that begins with "04".
+#[tactic(auto, unfolding(crate::specs::Text::is_point))]
 pub fn is_point(s: &[u8]) -> bool
     ensures { result ≡ is_point s.now }
 {
-    if !is_hex(194, s) {
-        return false;
-    }
-    are_same(&s[0..2], b"04")
+    is_hex(194, s) && s.starts_with(b"04")
 }
 
 // SIG: HEX(192).

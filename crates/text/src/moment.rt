@@ -2,7 +2,7 @@
 ghost use Rattle.std.specs.Prelude.{◌≡◌, ◌^◌, ◌<◌, T};
 ghost use Rattle.std.proofs.Math.IntN.{sub_ℕ};
 ghost use Rattle.text.specs.Text.{is_timestamp};
-ghost use Rattle.text.specs.Seconds.{since_year_one, start, moment_of, twos_complement, seconds_bytes};
+ghost use Rattle.text.specs.Seconds.{since_year_one, start, moment_of, seconds_bytes};
 ghost use Rattle.text.specs.Later.{later};
 
 // What the date call answers: whether a text is a TIMESTAMP, and its seconds since 19930101T000000Z, negative before; 0 with
@@ -18,7 +18,7 @@ pub struct Moment {
 const START: i64 = 62_861_443_200;
 
 // The seconds from the beginning of the year 1 to a TIMESTAMP.
-fn since_year_one(s: &[u8]) -> usize
+fn since_year_one(s: &[u8; 16]) -> usize
     requires { T (is_timestamp s.now) }
     ensures { (result ≡ since_year_one s.now) × (result < 2 ^ 40) }
 {
@@ -44,16 +44,15 @@ fn since_start(total: usize) -> i64
 pub fn moment_of(s: &[u8]) -> Moment
     ensures { result ≡ moment_of s.now }
 {
-    if !crate::date::is_date(s) {
-        return Moment {
+    match crate::date::stamp_in(s) {
+        Some(stamp) => Moment {
+            valid: true,
+            seconds: since_start(since_year_one(stamp)),
+        },
+        None => Moment {
             valid: false,
             seconds: 0,
-        };
-    }
-    let seconds = since_start(since_year_one(s));
-    Moment {
-        valid: true,
-        seconds,
+        },
     }
 }
 
@@ -61,49 +60,19 @@ pub fn moment_of(s: &[u8]) -> Moment
 pub fn is_timestamp(s: &[u8]) -> bool
     ensures { result ≡ is_timestamp s.now }
 {
-    let moment = moment_of(s);
-    moment.valid
+    moment_of(s).valid
 }
 
 // Whether s is later than t, by the number of seconds; a text that is no TIMESTAMP counts as 19930101T000000Z.
 pub fn is_later(s: &[u8], t: &[u8]) -> bool
     ensures { result ≡ later s.now t.now }
 {
-    let one = moment_of(s);
-    let other = moment_of(t);
-    other.seconds < one.seconds
-}
-
-// Two's complement in 64 bits: of a negative number, as many below the greatest as the number is below -1.
-fn twos_complement(x: i64) -> u64
-    ensures { result ≡ twos_complement x }
-{
-    if x < 0 {
-        return 0xffff_ffff_ffff_ffff - ((-1 - x) as u64);
-    }
-    x as u64
+    moment_of(t).seconds < moment_of(s).seconds
 }
 
 // A number of seconds in eight bytes, big-endian two's complement.
 pub fn seconds_bytes(seconds: i64) -> [u8; 8]
     ensures { result ≡ seconds_bytes seconds }
 {
-    let n7 = twos_complement(seconds);
-    let n6 = n7 / 256;
-    let n5 = n6 / 256;
-    let n4 = n5 / 256;
-    let n3 = n4 / 256;
-    let n2 = n3 / 256;
-    let n1 = n2 / 256;
-    let n0 = n1 / 256;
-    [
-        (n0 % 256) as u8,
-        (n1 % 256) as u8,
-        (n2 % 256) as u8,
-        (n3 % 256) as u8,
-        (n4 % 256) as u8,
-        (n5 % 256) as u8,
-        (n6 % 256) as u8,
-        (n7 % 256) as u8,
-    ]
+    seconds.to_be_bytes()
 }

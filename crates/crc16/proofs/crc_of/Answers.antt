@@ -2,29 +2,26 @@
 -- Assumes nothing.
 use Prim.Native.Nat.{ℕ, ◌+◌}
 use mathlib.Core.Path.{sym, ap, ◌∙◌}
-use borrow.Author.Rules.{rules}
 use native.Mathlib.Omega.{arith}
 use lib.ListN.{drop, drop_of_length-le}
 use Rattle.crc16.specs.Crc.{add_all, crc_of}
 use Rattle.crc16.proofs.Steps.{all_more}
 use Rattle.crc16.proofs.crc_of.Goals as goal
 
-pub loop-i-init : goal.loop-i-init
+pub loop-byte-init : goal.loop-byte-init
 unfolding crc_of
-loop-i-init c = (search rules, ap (λ (s : ℕ). add_all s c.args.bytes.now) c.begin-crc.ensures)
+loop-byte-init c = ap (λ (s : ℕ). add_all s c.args.bytes.now) c.begin-crc.ensures
 
-pub loop-i-preserved : goal.loop-i-preserved
-loop-i-preserved c =
-    let l = c.loop-i in
-    let bytes = c.args.bytes.now in (
-      search rules,
-      ap (λ (s : ℕ). add_all s (drop (l.i + 1) bytes)) c.add-crc.ensures
-          ∙ sym (all_more bytes l.i l.crc.state (omega arith)) ∙ l.invariant.1,
-    )
+pub loop-byte-preserved : goal.loop-byte-preserved
+loop-byte-preserved c =
+    let l = c.loop-byte in
+    let bytes = c.args.bytes.now in
+    ap (λ (s : ℕ). add_all s (drop (l.byte-index + 1) bytes)) c.add-crc.ensures
+    ∙ sym (all_more bytes l.byte-index l.crc.state (omega arith)) ∙ l.invariant
 
 pub returns : goal.returns
 unfolding add_all
 returns c =
-    let l = c.loop-i in
+    let l = c.loop-byte in
     let bytes = c.args.bytes.now in
-    c.end.ensures ∙ ap (add_all l.crc.state) (sym (drop_of_length-le bytes {i = l.i} (omega arith))) ∙ l.invariant.1
+    c.end.ensures ∙ ap (add_all l.crc.state) (sym (drop_of_length-le bytes {i = l.byte-index} (omega arith))) ∙ l.invariant

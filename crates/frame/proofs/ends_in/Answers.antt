@@ -1,10 +1,8 @@
 -- `frame::ends_in` meets its contract.
 -- Assumes nothing.
-use Rattle.frame.proofs.Check.{ends_none, ends_some}
+use mathlib.Core.Path.{◌∙◌}
+use Rattle.frame.proofs.Check.{ends_last}
 use Rattle.frame.proofs.ends_in.Goals as goal
 
-pub returns-then-s-eq0 : goal.returns-then-s-eq0
-returns-then-s-eq0 c = ends_none c.args.mark c.args.s.now c.if-s-eq0.true
-
 pub returns : goal.returns
-returns c = ends_some c.args.mark c.args.s.now c.if-s-eq0.false
+returns c = c.eq.ensures ∙ ends_last c.args.s.now c.last.result _ c.last.ensures.value

@@ -1,12 +1,12 @@
 -- `frame::mark_after` meets its contract.
 -- Assumes nothing.
-use mathlib.Core.Path.{sym, ◌∙◌}
-use lib.ListN.{get_or-eq_default}
+use mathlib.Core.Path.{ap, ◌∙◌}
+use native.Mathlib.Omega.{arith}
+use Rattle.std.specs.Option.{unwrap_or}
 use Rattle.frame.proofs.Title.{title_mark}
 use Rattle.frame.proofs.mark_after.Goals as goal
 
-pub returns-then-at-s : goal.returns-then-at-s
-returns-then-at-s c = title_mark c.args.s.now _ c.title_length-at.ensures
-
 pub returns : goal.returns
-returns c = sym (get_or-eq_default c.args.s.now 0 c.if-at-s.false) ∙ title_mark c.args.s.now _ c.title_length-at.ensures
+returns c =
+    c.unwrap_or.ensures ∙ ap (λ o. unwrap_or o 0) c.copied.ensures ∙ c.get.ensures.lookup.4 (omega arith) 0
+    ∙ title_mark c.args.s.now _ c.title_length-at.ensures

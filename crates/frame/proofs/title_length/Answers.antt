@@ -1,15 +1,15 @@
--- `frame::title_length` meets its contract. The loop's invariant: no mark was passed.
+-- `frame::title_length` meets its contract.
 -- Assumes nothing.
-use mathlib.Core.Path.{sym, ◌∙◌}
-use native.Mathlib.Omega.{arith}
-use Rattle.frame.proofs.Title.{title_here, title_on, title_end}
+use mathlib.Core.Path.{◌≡◌, sym, ◌∙◌}
+use mathlib.Core.Bool.{true, false}
+use borrow.Author.Rules.{rules}
+use Rattle.std.proofs.lemmas.Iterator.{YieldsList-from_slice, IsFirst-from_position}
+use Rattle.format.specs.Read.{is_mark}
+use Rattle.frame.proofs.Title.{title_first}
 use Rattle.frame.proofs.title_length.Goals as goal
 
-pub returns-then-is_mark : goal.returns-then-is_mark
-returns-then-is_mark c = omega (arith, title_here c.args.s.now c.loop-i.i c.loop-i-test.true (sym c.is_mark.ensures ∙ c.if-is_mark.true), c.loop-i.invariant)
-
-pub loop-i-preserved : goal.loop-i-preserved
-loop-i-preserved c = omega (arith, title_on c.args.s.now c.loop-i.i c.loop-i-test.true (sym c.is_mark.ensures ∙ c.if-is_mark.false), c.loop-i.invariant)
-
 pub returns : goal.returns
-returns c = omega (arith, title_end c.args.s.now c.loop-i.i c.loop-i-test.false, c.loop-i.invariant)
+returns c =
+    c.unwrap_or.ensures
+    ∙ sym (title_first c.args.s.now c.position.result
+    (IsFirst-from_position _ _ _ (λ x. is_mark x ≡ true) (λ x. is_mark x ≡ false) c.position.ensures.ran (YieldsList-from_slice c.args.s.now cc) (λ x q k. search rules) (λ x q k. search rules)))

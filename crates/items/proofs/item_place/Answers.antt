@@ -1,57 +1,36 @@
--- `items::item_place` meets its contract. The loop's invariant: i of n items are passed (`Passed`).
+-- `items::item_place` meets its contract. The loop's invariant: i of n items are passed (`Walked`).
 -- Assumes nothing.
 use native.Mathlib.Omega.{arith}
-use Rattle.items.proofs.Walk.{placed_none, no_text, number_zero, walked_none, no_length, no_bytes, walked_more, walked_there, bytes_behind, too_few, found}
-use borrow.Author.Rules.{rules}
+use Rattle.items.proofs.Walk.{placed_none, no_text, number_zero, no_length, no_bytes, bytes_behind, walk_begins, walk_more, walk_there, walk_ends}
 use Rattle.items.proofs.item_place.Goals as goal
+use Rattle.items.proofs.item_place.Goals.{then-is_empty-via-then-is_empty, then-is_empty-via-else-is_empty+then-wanted-eq0, then-i-wanted, else-i-wanted}
 
-pub returns-then-text-eq0 : goal.returns-then-text-eq0
-returns-then-text-eq0 c = placed_none _ c.missing.ensures (no_text _ _ c.if-text-eq0.true)
-
-pub returns-then-wanted-eq0 : goal.returns-then-wanted-eq0
-returns-then-wanted-eq0 c = placed_none _ c.missing-then-wanted-eq0.ensures (number_zero _ _ c.if-wanted-eq0.true)
-
-pub bounds-text-0 : goal.bounds-text-0
-bounds-text-0 c = omega (arith, c.if-text-eq0.false)
-
-pub overflow_cast-n : goal.overflow_cast-n
-overflow_cast-n c = omega (arith, c.shared_slice_known-2-1.given 0)
+pub returns-then-is_empty : goal.returns-then-is_empty
+returns-then-is_empty c =
+    placed_none _ c.missing.ensures
+    (elim c.then-is_empty.branch [
+      | then-is_empty-via-then-is_empty w ↦ no_text _ _ (let t = w.if-is_empty.true in grind arith)
+      | then-is_empty-via-else-is_empty+then-wanted-eq0 w ↦ number_zero _ _ w.if-wanted-eq0.true
+    ])
 
 pub loop-i-init : goal.loop-i-init
-loop-i-init c = walked_none _ _ c.if-text-eq0.false c.if-wanted-eq0.false
+loop-i-init c = walk_begins _ _ (λ e. let t = c.if-is_empty.false in grind arith) c.if-wanted-eq0.false
 
 pub returns-then-text-at : goal.returns-then-text-at
-returns-then-text-at c = placed_none _ c.missing-then-text-at.ensures (no_length c.loop-i.invariant c.loop-i-test.true c.if-text-at.true)
+returns-then-text-at c = placed_none _ c.missing-then-text-at.ensures (no_length c.loop-i.invariant.passed (omega arith) c.if-text-at.true)
 
-pub overflow_cast-len : goal.overflow_cast-len
-overflow_cast-len c = omega (arith, c.shared_slice_known-in-loop-i-1.given c.loop-i.at)
-
-pub returns-then-text-from : goal.returns-then-text-from
-returns-then-text-from c = placed_none _ c.missing-then-text-from.ensures (no_bytes c.loop-i.invariant c.loop-i-test.true c.if-text-at.false c.if-text-from.true)
-
-pub overflow_add-i : goal.overflow_add-i
-overflow_add-i c = omega (arith, c.shared_slice_known-2-1.given 0)
-
-pub loop-i-preserved-then-i-wanted : goal.loop-i-preserved-then-i-wanted
-loop-i-preserved-then-i-wanted c = walked_there c.loop-i.invariant c.loop-i-test.true c.if-text-at.false c.if-text-from.false c.if-i-wanted.true
+pub returns-then-text-start : goal.returns-then-text-start
+returns-then-text-start c = placed_none _ c.missing-then-text-start.ensures (no_bytes c.loop-i.invariant.passed (omega arith) (omega arith) c.if-text-start.true)
 
 pub loop-i-preserved : goal.loop-i-preserved
-loop-i-preserved c = walked_more c.loop-i.invariant c.loop-i-test.true c.if-text-at.false c.if-text-from.false c.if-i-wanted.false
+loop-i-preserved c =
+    elim c.if-i-wanted.branch [
+      | then-i-wanted w ↦ walk_there (omega arith) (omega arith) (omega arith) c.loop-i.invariant w.if-i-wanted.true w.found-is
+      | else-i-wanted w ↦ walk_more (omega arith) (omega arith) (omega arith) _ _ c.loop-i.invariant w.if-i-wanted.false w.found-is
+    ]
 
 pub returns-then-at-text : goal.returns-then-at-text
-returns-then-at-text c = placed_none _ c.missing-then-at-text.ensures (bytes_behind c.loop-i.invariant c.loop-i-test.false c.if-at-text.true)
-
-pub returns-then-n-wanted : goal.returns-then-n-wanted
-returns-then-n-wanted c = placed_none _ c.missing-then-n-wanted.ensures (too_few c.loop-i.invariant c.loop-i-test.false c.if-at-text.false c.if-n-wanted.true)
-
-pub overflow_add-start : goal.overflow_add-start
-overflow_add-start c = omega (arith, c.loop-i.invariant.end (search rules))
-
-pub bounds-text-found : goal.bounds-text-found
-bounds-text-found c = omega (arith, c.loop-i.invariant.end (search rules))
-
-pub overflow_cast-len-2 : goal.overflow_cast-len-2
-overflow_cast-len-2 c = omega (arith, c.shared_slice_known-3-1.given c.loop-i.found)
+returns-then-at-text c = placed_none _ c.missing-then-at-text.ensures (bytes_behind c.loop-i.invariant.passed (omega arith) c.if-at-text.true)
 
 pub returns : goal.returns
-returns c = found c.loop-i.invariant c.loop-i-test.false c.if-at-text.false c.if-n-wanted.false
+returns c = walk_ends c.loop-i.found _ _ c.loop-i.invariant (omega arith) (omega arith) c.missing-2.ensures c.unwrap_or.ensures

@@ -9,5 +9,5 @@ overflow_mul-result c = omega (arith, c.hex_value.ensures, (valued c.args.high c
 
 pub overflow_add-result : goal.overflow_add-result
 overflow_add-result c =
-    let s = c.before.before in
+    let s = c in
     omega (arith, c.hex_value.ensures, c.hex_value-2.ensures, (valued s.args.high s.requires.0).small, (valued s.args.low s.requires.1).small)

@@ -5,14 +5,14 @@ use native.Mathlib.Omega.{arith}
 use Rattle.table.proofs.Codes.{SMMAN-codes, SMID-codes, KMCID-codes, no_permit}
 use Rattle.table.proofs.does_permit.Goals as goal
 
-pub returns-then-row-eq-SMMAN : goal.returns-then-row-eq-SMMAN
-returns-then-row-eq-SMMAN c = rw c.if-row-eq-SMMAN.true (c.is_either.ensures ∙ SMMAN-codes _)
+pub returns-in-0 : goal.returns-in-0
+returns-in-0 c = rw c.in-0.is (c.is_either.ensures ∙ SMMAN-codes _)
 
-pub returns-then-row-eq-SMID : goal.returns-then-row-eq-SMID
-returns-then-row-eq-SMID c = rw c.if-row-eq-SMID.true (c.is_either-then-row-eq-SMID.ensures ∙ SMID-codes _)
+pub returns-in-1 : goal.returns-in-1
+returns-in-1 c = rw c.in-1.is (c.is_either-in-1.ensures ∙ SMID-codes _)
 
-pub returns-then-row-eq-KMCID : goal.returns-then-row-eq-KMCID
-returns-then-row-eq-KMCID c = rw c.if-row-eq-KMCID.true (c.is_either-then-row-eq-KMCID.ensures ∙ KMCID-codes _)
+pub returns-in-2 : goal.returns-in-2
+returns-in-2 c = rw c.in-2.is (c.is_either-in-2.ensures ∙ KMCID-codes _)
 
-pub returns : goal.returns
-returns c = sym (no_permit _ _ (omega (arith, c.if-row-eq-SMMAN.false, c.if-row-eq-SMID.false, c.if-row-eq-KMCID.false)))
+pub returns-in_default : goal.returns-in_default
+returns-in_default c = sym (no_permit _ _ (omega arith))

@@ -4,7 +4,6 @@ use Prim.Native.Nat.{ℕ, ◌<◌}
 use mathlib.Core.Path.{◌≡◌, sym, ap₂, ◌∙◌}
 use mathlib.Core.Bool.{Bool, false, ◌&&◌}
 use lib.Dec.{eqb}
-use borrow.Author.Tests.{not-true, not-false}
 use Rattle.text.proofs.Tests.{and_stop, and_on}
 use Rattle.text.specs.Text.{Bytes, same}
 use Rattle.format.specs.Kinds.{name, mark}
@@ -16,9 +15,9 @@ use Rattle.table.proofs.is_kind.Goals as goal
 both : (row : ℕ) (t : Bytes) (m : ℕ) → row < row_count → of_row (is_kind t m) false row ≡ (of_row (λ k. same t (name k)) false row && eqb m (mark_of row))
 both row t m h = in_row (is_kind t m) false row h ∙ sym (ap₂ (λ (x : Bool) (y : ℕ). x && eqb m y) (in_row (λ k. same t (name k)) false row h) (in_row mark 0 row h))
 
-pub returns-then-not-is_named : goal.returns-then-not-is_named
-returns-then-not-is_named c = sym (both c.args.row c.args.title.now c.args.mark c.requires ∙ and_stop _ _ (sym c.is_named.ensures ∙ not-true _ c.if-not-is_named.true-raw))
-
-pub returns : goal.returns
+pub returns-then-is_named : goal.returns-then-is_named
 unfolding of_row
-returns c = sym (both c.args.row c.args.title.now c.args.mark c.requires ∙ and_on _ _ (sym c.is_named.ensures ∙ not-false _ c.if-not-is_named.false-raw))
+returns-then-is_named c = sym (both c.args.row c.args.title.now c.args.mark c.requires ∙ and_on _ _ (sym c.is_named.ensures ∙ c.if-is_named.true))
+
+pub returns-else-is_named : goal.returns-else-is_named
+returns-else-is_named c = c.if-is_named.false ∙ sym (both c.args.row c.args.title.now c.args.mark c.requires ∙ and_stop _ _ (sym c.is_named.ensures ∙ c.if-is_named.false))

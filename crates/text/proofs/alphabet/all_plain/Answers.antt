@@ -1,20 +1,11 @@
--- `text::alphabet::all_plain` meets its contract. The loop's invariant: what is left decides.
+-- `text::alphabet::all_plain` meets its contract.
 -- Assumes nothing.
-use mathlib.Core.Path.{refl, sym, ◌∙◌}
-use mathlib.Core.Bool.{true}
-use borrow.Author.Tests.{not-true, not-false}
-use Rattle.text.specs.Steps.{belongs}
-use Rattle.text.proofs.Loops.{every_on, every_end}
+use mathlib.Core.Path.{◌∙◌}
+use borrow.Author.Rules.{rules}
+use Rattle.std.proofs.lemmas.Iterator.{YieldsList-from_slice}
+use Rattle.std.proofs.lemmas.Iterator.Search.{all_from_yields_List}
+use Rattle.text.proofs.Loops.{every_all}
 use Rattle.text.proofs.alphabet.all_plain.Goals as goal
 
-pub loop-i-init : goal.loop-i-init
-loop-i-init c = refl
-
-pub returns-then-not-does_belong : goal.returns-then-not-does_belong
-returns-then-not-does_belong c = rw (sym c.does_belong.ensures ∙ not-true _ c.if-not-does_belong.true-raw) at (every_on (belongs c.args.alphabet) _ _ true c.loop-i.invariant c.loop-i-test.true)
-
-pub loop-i-preserved : goal.loop-i-preserved
-loop-i-preserved c = rw (sym c.does_belong.ensures ∙ not-false _ c.if-not-does_belong.false-raw) at (every_on (belongs c.args.alphabet) _ _ true c.loop-i.invariant c.loop-i-test.true)
-
 pub returns : goal.returns
-returns c = every_end (belongs c.args.alphabet) _ _ true c.loop-i.invariant c.loop-i-test.false
+returns g c p h = all_from_yields_List p _ _ _ c.all.ensures.ran (YieldsList-from_slice c.args.s.now cc) (λ x b q k. search (rules, h)) ∙ every_all p c.args.s.now

@@ -16,7 +16,7 @@ returns-then-is_leap c =
     let a = c.args in
     (sym (months-closed a.year a.n c.requires ∙ rw (le-ltb a.n 2 c.if-n-lt2.false, ← c.is_leap.ensures, c.if-is_leap.true)), omega arith)
 
-pub returns : goal.returns
-returns c =
+pub returns-else-is_leap : goal.returns-else-is_leap
+returns-else-is_leap c =
     let a = c.args in
     (sym (months-closed a.year a.n c.requires ∙ rw (le-ltb a.n 2 c.if-n-lt2.false, ← c.is_leap.ensures, c.if-is_leap.false)), omega arith)

@@ -1,23 +1,21 @@
--- `text::date::looks_like` meets its contract. The loop's invariant: what is left decides.
+-- `text::date::looks_like` meets its contract.
 -- Assumes nothing.
-use mathlib.Core.Path.{refl, sym, ◌∙◌}
-use native.Mathlib.Omega.{arith}
-use borrow.Author.Tests.{not-true, not-false}
+use Prim.Native.Nat.{ℕ}
+use mathlib.Core.Path.{sym, ◌∙◌}
+use borrow.Author.Rules.{rules}
+use borrow.Author.Tests.{ne_eqb}
+use Rattle.std.proofs.lemmas.Iterator.{YieldsList-from_slice, YieldsList-from_zip}
+use Rattle.std.proofs.lemmas.Iterator.Search.{all_from_yields_List}
 use Rattle.text.specs.Text.{fits, looks}
-use Rattle.text.proofs.Loops.{looks_pairwise, apart, pairwise_stop, pairwise_on, pairwise_end}
+use Rattle.text.proofs.Loops.{looks_pairwise, apart, pairwise_zip}
 use Rattle.text.proofs.date.looks_like.Goals as goal
 
 pub returns-then-pattern-s : goal.returns-then-pattern-s
-returns-then-pattern-s c = sym (apart fits looks looks_pairwise c.args.pattern.now c.args.s.now c.if-pattern-s.true)
+returns-then-pattern-s c =
+    all_from_yields_List {s = c.zip.result} (λ (x : ℕ × ℕ). fits x.0 x.1) c.all.new.self _ _ c.all.ensures.ran
+    (YieldsList-from_zip {s = c.zip.result} (YieldsList-from_slice {s = c.zip.result.a} c.args.pattern.now cc) (YieldsList-from_slice {s = c.zip.result.b} c.args.s.now cc)) (λ x b q k. search rules)
+    ∙ pairwise_zip fits looks looks_pairwise c.args.pattern.now c.args.s.now c.if-pattern-s.true
 
-pub loop-i-init : goal.loop-i-init
-loop-i-init c = refl
-
-pub returns-then-not-does_fit : goal.returns-then-not-does_fit
-returns-then-not-does_fit c = sym (pairwise_stop fits looks looks_pairwise _ _ _ c.loop-i-test.true (omega arith) (sym c.does_fit.ensures ∙ not-true _ c.if-not-does_fit.true-raw)) ∙ c.loop-i.invariant
-
-pub loop-i-preserved : goal.loop-i-preserved
-loop-i-preserved c = pairwise_on fits looks looks_pairwise _ _ _ c.loop-i-test.true (omega arith) (sym c.does_fit.ensures ∙ not-false _ c.if-not-does_fit.false-raw) ∙ c.loop-i.invariant
-
-pub returns : goal.returns
-returns c = sym (pairwise_end fits looks looks_pairwise _ _ _ c.loop-i-test.false (omega arith)) ∙ c.loop-i.invariant
+pub returns-else-pattern-s : goal.returns-else-pattern-s
+returns-else-pattern-s c =
+    ne_eqb _ _ c.if-pattern-s.false ∙ sym (apart fits looks looks_pairwise c.args.pattern.now c.args.s.now c.if-pattern-s.false)

@@ -8,4 +8,4 @@ use Rattle.text.proofs.moment.is_later.Goals as goal
 
 pub returns : goal.returns
 unfolding later
-returns c = ap₂ lt_z (moment_back _ c.moment_of-other.ensures) (moment_back _ c.moment_of-one.ensures)
+returns c = ap₂ lt_z (moment_back _ c.moment_of.ensures) (moment_back _ c.moment_of-2.ensures)

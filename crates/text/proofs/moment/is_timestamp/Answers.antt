@@ -6,4 +6,4 @@ use Rattle.text.proofs.Seconds.{moment_valid}
 use Rattle.text.proofs.moment.is_timestamp.Goals as goal
 
 pub returns : goal.returns
-returns c = ap (λ (m : Moment). m.valid) c.moment_of-moment.ensures ∙ moment_valid _
+returns c = ap (λ (m : Moment). m.valid) c.moment_of.ensures ∙ moment_valid _
