@@ -154,14 +154,17 @@ fn write_text(outline: &Outline, request: &[u8], out: &mut [u8]) -> put::Written
 }
 
 // ---- the calls: each writes from the front of a lent output, or refuses and leaves it untouched
+// Label and fields are put on the stack first: constants that are borrowed where they are named would stand in the object.
 
 // SharedInfo.
 pub fn shared_info(request: &[u8], out: &mut [u8]) -> put::Written
     ensures { Writes (shared_info request.now (length out.old)) out.old out.new result }
 {
+    let label = SHARED_LABEL;
+    let fields = SHARED_FIELDS;
     let outline = Outline {
-        label: &SHARED_LABEL,
-        fields: &SHARED_FIELDS,
+        label: &label,
+        fields: &fields,
     };
     write_text(&outline, request, out)
 }
@@ -170,9 +173,11 @@ pub fn shared_info(request: &[u8], out: &mut [u8]) -> put::Written
 pub fn module_text(request: &[u8], out: &mut [u8]) -> put::Written
     ensures { Writes (module_text request.now (length out.old)) out.old out.new result }
 {
+    let label = MODULE_LABEL;
+    let fields = MODULE_FIELDS;
     let outline = Outline {
-        label: &MODULE_LABEL,
-        fields: &MODULE_FIELDS,
+        label: &label,
+        fields: &fields,
     };
     write_text(&outline, request, out)
 }
@@ -181,9 +186,11 @@ pub fn module_text(request: &[u8], out: &mut [u8]) -> put::Written
 pub fn centre_text(request: &[u8], out: &mut [u8]) -> put::Written
     ensures { Writes (centre_text request.now (length out.old)) out.old out.new result }
 {
+    let label = CENTRE_LABEL;
+    let fields = CENTRE_FIELDS;
     let outline = Outline {
-        label: &CENTRE_LABEL,
-        fields: &CENTRE_FIELDS,
+        label: &label,
+        fields: &fields,
     };
     write_text(&outline, request, out)
 }
