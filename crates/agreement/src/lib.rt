@@ -41,6 +41,24 @@ pub const CENTRE_FIELDS: [usize; 4] = [
     table::REQ_QE,
 ];
 
+// A label, and behind it fields of the request, in this order.
+#[derive(Clone, Copy)]
+pub struct Outline<'a> {
+    pub label: &'a [u8],
+    pub fields: &'a [usize],
+    pub ghost small: { Small label.now fields.now },
+}
+
+// A request that was read and accepted: its bytes, and where its fields stand in them.
+#[derive(Clone, Copy)]
+pub struct LoadRequest<'a> {
+    pub bytes: &'a [u8],
+    pub starts: &'a [usize; 7],
+    pub lens: &'a [usize; 7],
+    pub ghost placed: { Places bytes.now starts.now lens.now },
+    pub ghost suited: { Suited (fields_in REQ bytes.now) },
+}
+
 // ---- items
 
 // The length of the item, and its bytes.
@@ -62,95 +80,72 @@ fn put_point(out: &mut [u8], at: usize, point: &[u8]) -> usize
 }
 
 // Field n, from 1, as an item: QE is decoded, all else goes in as it stands.
-fn put_field(
-    out: &mut [u8],
-    at: usize,
-    request: &[u8],
-    starts: &[usize; 7],
-    lens: &[usize; 7],
-    n: usize,
-) -> usize
-    requires { Places request.now starts.now lens.now × Suited (fields_in REQ request.now) × (at + 1 + length (item_for (fields_in REQ request.now) n) ≤ length out.old) }
-    ensures { Put out.old at (lv_item (item_for (fields_in REQ request.now) n)) out.new result }
+fn put_field(out: &mut [u8], at: usize, request: &LoadRequest, n: usize) -> usize
+    requires { at + 1 + length (item_for (fields_in REQ request.now.bytes.now) n) ≤ length out.old }
+    ensures { Put out.old at (lv_item (item_for (fields_in REQ request.now.bytes.now) n)) out.new result }
 {
-    let bytes = places::field_at(request, starts, lens, n);
+    let field = places::field_at(request.bytes, request.starts, request.lens, n);
     if n == table::REQ_QE {
-        return put_point(out, at, bytes);
+        put_point(out, at, field)
+    } else {
+        put_item(out, at, field)
     }
-    put_item(out, at, bytes)
 }
 
 // The length of that item, without the byte that tells it.
-fn field_length(request: &[u8], starts: &[usize; 7], lens: &[usize; 7], n: usize) -> usize
-    requires { Places request.now starts.now lens.now × Suited (fields_in REQ request.now) }
-    ensures { result ≡ length (item_for (fields_in REQ request.now) n) }
+fn field_length(request: &LoadRequest, n: usize) -> usize
+    ensures { result ≡ length (item_for (fields_in REQ request.now.bytes.now) n) }
 {
-    if n != table::REQ_QE {
-        return places::field_at(request, starts, lens, n).len();
+    match n {
+        table::REQ_QE => POINT_BYTES,
+        _ => places::field_at(request.bytes, request.starts, request.lens, n).len(),
     }
-    POINT_BYTES
 }
 
 // ---- texts
 
-// The length of the text that has this label and these fields.
-fn text_length(
-    label: &[u8],
-    fields: &[usize],
-    request: &[u8],
-    starts: &[usize; 7],
-    lens: &[usize; 7],
-) -> usize
-    requires { Small label.now fields.now × Places request.now starts.now lens.now × Suited (fields_in REQ request.now) }
-    ensures { result ≡ length (text_of label.now fields.now request.now) }
+// The length of the text of this outline.
+fn text_length(outline: &Outline, request: &LoadRequest) -> usize
+    ensures { result ≡ length (text_of outline.now.label.now outline.now.fields.now request.now.bytes.now) }
 {
     // The count, and the label with its length.
-    let mut total = 2 + label.len();
-    let mut i = 0;
-    while i < fields.len() {
-        total += 1 + field_length(request, starts, lens, fields[i]);
-        i += 1;
+    let mut total = 2 + outline.label.len();
+    for &n in outline.fields {
+        total += 1 + field_length(request, n);
     }
     total
 }
 
 // That text, from the front of an output that has room for it.
-fn put_text(
-    out: &mut [u8],
-    label: &[u8],
-    fields: &[usize],
-    request: &[u8],
-    starts: &[usize; 7],
-    lens: &[usize; 7],
-) -> usize
-    requires { Small label.now fields.now × Places request.now starts.now lens.now × Suited (fields_in REQ request.now) × (length (text_of label.now fields.now request.now) ≤ length out.old) }
-    ensures { Put out.old 0 (text_of label.now fields.now request.now) out.new result }
+fn put_text(out: &mut [u8], outline: &Outline, request: &LoadRequest) -> usize
+    requires { length (text_of outline.now.label.now outline.now.fields.now request.now.bytes.now) ≤ length out.old }
+    ensures { Put out.old 0 (text_of outline.now.label.now outline.now.fields.now request.now.bytes.now) out.new result }
 {
-    let next = put::put_byte(out, 0, (1 + fields.len()) as u8);
-    let mut at = put_item(out, next, label);
-    let mut i = 0;
-    while i < fields.len() {
-        at = put_field(out, at, request, starts, lens, fields[i]);
-        i += 1;
+    let next = put::put_byte(out, 0, (1 + outline.fields.len()) as u8);
+    let mut at = put_item(out, next, outline.label);
+    for &n in outline.fields {
+        at = put_field(out, at, request, n);
     }
     at
 }
 
 // The request's own refusal comes first, then 10; only then is anything written.
-fn write_text(label: &[u8], fields: &[usize], request: &[u8], out: &mut [u8]) -> put::Written
-    requires { Small label.now fields.now }
-    ensures { Writes (text_made (items_by label.now fields.now) request.now (length out.old)) out.old out.new result }
+fn write_text(outline: &Outline, request: &[u8], out: &mut [u8]) -> put::Written
+    ensures { Writes (text_made (items_by outline.now.label.now outline.now.fields.now) request.now (length out.old)) out.old out.new result }
 {
     let answer = reading::read_of(table::REQ, table::RESP, request);
     if answer.no != numbers::ACCEPTED {
         return put::refuse(answer.no, answer.field);
     }
-    let starts = answer.starts;
-    let lens = answer.lens;
-    if out.len() < text_length(label, fields, request, &starts, &lens) {
+    let accepted = LoadRequest {
+        bytes: request,
+        starts: &answer.starts,
+        lens: &answer.lens,
+    };
+    if out.len() < text_length(outline, &accepted) {
         return put::refuse(numbers::SHORT_OUTPUT, 0);
     }
-    let len = put_text(out, label, fields, request, &starts, &lens);
+    let len = put_text(out, outline, &accepted);
     put::Written {
         no: numbers::ACCEPTED,
         field: 0,
@@ -159,6 +154,7 @@ fn write_text(label: &[u8], fields: &[usize], request: &[u8], out: &mut [u8]) ->
 }
 
 // ---- the calls: each writes from the front of a lent output, or refuses and leaves it untouched
+// Label and fields are put on the stack first: constants that are borrowed where they are named would stand in the object.
 
 // SharedInfo.
 pub fn shared_info(request: &[u8], out: &mut [u8]) -> put::Written
@@ -166,7 +162,11 @@ pub fn shared_info(request: &[u8], out: &mut [u8]) -> put::Written
 {
     let label = SHARED_LABEL;
     let fields = SHARED_FIELDS;
-    write_text(&label, &fields, request, out)
+    let outline = Outline {
+        label: &label,
+        fields: &fields,
+    };
+    write_text(&outline, request, out)
 }
 
 // The module text, MacData_SM.
@@ -175,7 +175,11 @@ pub fn module_text(request: &[u8], out: &mut [u8]) -> put::Written
 {
     let label = MODULE_LABEL;
     let fields = MODULE_FIELDS;
-    write_text(&label, &fields, request, out)
+    let outline = Outline {
+        label: &label,
+        fields: &fields,
+    };
+    write_text(&outline, request, out)
 }
 
 // The centre text, MacData_KMC.
@@ -184,5 +188,9 @@ pub fn centre_text(request: &[u8], out: &mut [u8]) -> put::Written
 {
     let label = CENTRE_LABEL;
     let fields = CENTRE_FIELDS;
-    write_text(&label, &fields, request, out)
+    let outline = Outline {
+        label: &label,
+        fields: &fields,
+    };
+    write_text(&outline, request, out)
 }

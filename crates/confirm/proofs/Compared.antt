@@ -1,12 +1,12 @@
 -- Two tags compared to their end, and a MacTag that says a tag.
 -- Assumes nothing.
-use Prim.Native.Nat.{ℕ, suc, ◌+◌, ◌*◌, ◌≤◌, ◌<◌}
-use mathlib.Core.Path.{◌≡◌, refl, sym, ap, ◌∙◌}
+use Prim.Native.Nat.{ℕ, ◌+◌, ◌*◌, ◌≤◌}
+use mathlib.Core.Path.{◌≡◌, refl, sym, ap, ap₂, ◌∙◌}
+use mathlib.Core.List.{[], ◌∷◌}
 use mathlib.Core.Bool.{Bool, true, false, ◌&&◌, and-true, and_assoc}
 use native.Mathlib.Omega.{arith}
-use native.Mathlib.Numerals.{add-one}
-use lib.ListN.{length, take, drop, get_or, replicate, drop_of_length-le}
-use lib.Seq.{drop-cons, take_all}
+use lib.ListN.{length, take, replicate}
+use lib.Seq.{take_all}
 use lib.Bits.{bit_or, bit_xor, bit_and, or_add_and, xor_add_and, and_le_l, and_le_r, or_zero_l, xor_self}
 use lib.Dec.{T, eqb, eqb→eq, eqb_refl}
 use mir.Facts.{and_yes, yes_and}
@@ -50,22 +50,21 @@ byte_more d x y = both_ways (eqb (bit_or d (bit_xor x y)) 0) (eqb d 0 && eqb x y
         let u = and_yes (eqb d 0) (eqb x y) t in
         rw (eqb→eq d 0 u.0, eqb→eq x y u.1, or_zero_l, xor_self) tt
 
--- ---- the loop: what differs before i is in d
+-- ---- the loop: p of a and q of b are left, and what differs before them is in d
 
-abbrev pub Compared : Bytes → Bytes → ℕ → ℕ → Type 0
-Compared a b d i = same a b ≡ (eqb d 0 && same (drop i a) (drop i b))
+abbrev pub Compared : Bytes → Bytes → ℕ → Bytes → Bytes → Type 0
+Compared a b d p q = (length p ≡ length q) × (same a b ≡ (eqb d 0 && same p q))
 
-pub compared_more : (a b : Bytes) (d : ℕ) {i : ℕ} → length a ≡ length b → i < length a → Compared a b d i → Compared a b (bit_or d (bit_xor (get_or a i 0) (get_or b i 0))) (i + 1)
-compared_more a b d {i} l h c =
-    let x = get_or a i 0 in
-    let y = get_or b i 0 in
-    let rest = same (drop (suc i) a) (drop (suc i) b) in
-    let one : same (drop i a) (drop i b) ≡ (eqb x y && rest) = rw (drop-cons a i 0 h, drop-cons b i 0 (omega (arith, l))) in
-    c ∙ ap (λ (r : Bool). eqb d 0 && r) one ∙ sym (and_assoc (eqb d 0) (eqb x y) rest) ∙ rw (byte_more d x y, add-one)
+pub compared_more : (a b : Bytes) (d x y : ℕ) {p q p' q' : Bytes} → p ≡ x ∷ p' → q ≡ y ∷ q' → Compared a b d p q → Compared a b (bit_or d (bit_xor x y)) p' q'
+compared_more a b d x y {p} {q} {p'} {q'} e f c = (
+  omega (arith, ap length e, ap length f, c.0),
+  c.1 ∙ ap (λ (r : Bool). eqb d 0 && r) (ap₂ same e f) ∙ sym (and_assoc (eqb d 0) (eqb x y) (same p' q')) ∙ rw (byte_more d x y),
+)
 
-pub compared_all : (a b : Bytes) (d : ℕ) {i : ℕ} → length a ≡ length b → length a ≤ i → Compared a b d i → eqb d 0 ≡ same a b
-compared_all a b d {i} l h c =
-    sym (c ∙ rw (drop_of_length-le a {i = i} h, drop_of_length-le b {i = i} (omega (arith, l))) (and-true (eqb d 0)))
+pub compared_all : (a b : Bytes) (d : ℕ) (p q : Bytes) → length p ≡ 0 → Compared a b d p q → eqb d 0 ≡ same a b
+compared_all a b d [] [] h c = sym (c.1 ∙ and-true (eqb d 0))
+compared_all a b d [] (y ∷ q) h c = absurd (omega (arith, c.0))
+compared_all a b d (x ∷ p) q h c = absurd (omega arith)
 
 -- ---- the characters of a tag are those of its bytes
 

@@ -11,6 +11,8 @@ ghost use Rattle.places.specs.Places.{field_at};
 ghost use Rattle.confirm.specs.Confirm.{Confirms, confirm_request, confirm_response};
 ghost use Rattle.confirm.specs.Steps.{answers_at};
 
+use agreement::LoadRequest;
+
 // Z has so many bytes: two shared secrets of 48.
 pub const Z_BYTES: usize = 96;
 
@@ -61,27 +63,21 @@ fn refuse(answer: reading::Answer, which: u8) -> Confirmed
 // Whether the response at these places answers the request at those: the bytes of both identities and of TVP.
 fn does_answer(
     request: &[u8],
-    starts: &[usize; 7],
-    lens: &[usize; 7],
+    asked: &reading::Answer,
     response: &[u8],
-    its_starts: &[usize; 7],
-    its_lens: &[usize; 7],
+    reply: &reading::Answer,
 ) -> bool
-    ensures { result ≡ answers_at (field_at request.now starts.now lens.now) (field_at response.now its_starts.now its_lens.now) }
+    ensures { result ≡ answers_at (field_at request.now asked.now.starts asked.now.lens) (field_at response.now reply.now.starts reply.now.lens) }
 {
-    let id_kmc = places::field_at(request, starts, lens, table::REQ_ID_KMC);
-    let its_id_kmc = places::field_at(response, its_starts, its_lens, table::RESP_ID_KMC);
-    if !text::are_same(id_kmc, its_id_kmc) {
-        return false;
-    }
-    let id_sm = places::field_at(request, starts, lens, table::REQ_ID_SM);
-    let its_id_sm = places::field_at(response, its_starts, its_lens, table::RESP_ID_SM);
-    if !text::are_same(id_sm, its_id_sm) {
-        return false;
-    }
-    let tvp = places::field_at(request, starts, lens, table::REQ_TVP);
-    let its_tvp = places::field_at(response, its_starts, its_lens, table::RESP_TVP);
-    text::are_same(tvp, its_tvp)
+    let id_kmc = places::field_at(request, &asked.starts, &asked.lens, table::REQ_ID_KMC);
+    let id_sm = places::field_at(request, &asked.starts, &asked.lens, table::REQ_ID_SM);
+    let tvp = places::field_at(request, &asked.starts, &asked.lens, table::REQ_TVP);
+    let its_id_kmc = places::field_at(response, &reply.starts, &reply.lens, table::RESP_ID_KMC);
+    let its_id_sm = places::field_at(response, &reply.starts, &reply.lens, table::RESP_ID_SM);
+    let its_tvp = places::field_at(response, &reply.starts, &reply.lens, table::RESP_TVP);
+    text::are_same(id_kmc, its_id_kmc)
+        && text::are_same(id_sm, its_id_sm)
+        && text::are_same(tvp, its_tvp)
 }
 
 // Of a request: whether its MacTag is right for Z. With 0 the MacKey and the KEK stand at the front of the lent outputs; with any
@@ -96,20 +92,18 @@ pub fn confirm_request(z: &[u8], request: &[u8], mac_key: &mut [u8], kek: &mut [
     if z.len() != Z_BYTES {
         return say(numbers::WRONG_Z);
     }
-    if mac_key.len() < KEY_BYTES {
+    if mac_key.len() < KEY_BYTES || kek.len() < KEY_BYTES {
         return say(numbers::SHORT_OUTPUT);
     }
-    if kek.len() < KEY_BYTES {
-        return say(numbers::SHORT_OUTPUT);
-    }
-    let starts = asked.starts;
-    let lens = asked.lens;
-    let keys = tags::derived(z, request, &starts, &lens);
-    let right = tags::module_tag(&keys[..KEY_BYTES], request, &starts, &lens);
-    if !tags::is_tag(
-        places::field_at(request, &starts, &lens, table::REQ_MAC_TAG),
-        &right,
-    ) {
+    let accepted = LoadRequest {
+        bytes: request,
+        starts: &asked.starts,
+        lens: &asked.lens,
+    };
+    let keys = tags::derived(z, &accepted);
+    let right = tags::module_tag(&keys[..KEY_BYTES], &accepted);
+    let said = places::field_at(request, &asked.starts, &asked.lens, table::REQ_MAC_TAG);
+    if !tags::is_tag(said, &right) {
         return say(numbers::WRONG_TAG);
     }
     put::put(mac_key, 0, &keys[..KEY_BYTES]);
@@ -125,26 +119,25 @@ pub fn confirm_response(z: &[u8], request: &[u8], response: &[u8]) -> Confirmed
     if asked.no != numbers::ACCEPTED {
         return refuse(asked, REQUEST);
     }
-    let answered = reading::read_of(table::RESP, table::KEY, response);
-    if answered.no != numbers::ACCEPTED {
-        return refuse(answered, RESPONSE);
+    let reply = reading::read_of(table::RESP, table::KEY, response);
+    if reply.no != numbers::ACCEPTED {
+        return refuse(reply, RESPONSE);
     }
     if z.len() != Z_BYTES {
         return say(numbers::WRONG_Z);
     }
-    let starts = asked.starts;
-    let lens = asked.lens;
-    let its_starts = answered.starts;
-    let its_lens = answered.lens;
-    if !does_answer(request, &starts, &lens, response, &its_starts, &its_lens) {
+    if !does_answer(request, &asked, response, &reply) {
         return say(numbers::OTHER_REQUEST);
     }
-    let keys = tags::derived(z, request, &starts, &lens);
-    let right = tags::centre_tag(&keys[..KEY_BYTES], request, &starts, &lens);
-    if !tags::is_tag(
-        places::field_at(response, &its_starts, &its_lens, table::RESP_MAC_TAG),
-        &right,
-    ) {
+    let accepted = LoadRequest {
+        bytes: request,
+        starts: &asked.starts,
+        lens: &asked.lens,
+    };
+    let keys = tags::derived(z, &accepted);
+    let right = tags::centre_tag(&keys[..KEY_BYTES], &accepted);
+    let said = places::field_at(response, &reply.starts, &reply.lens, table::RESP_MAC_TAG);
+    if !tags::is_tag(said, &right) {
         return say(numbers::WRONG_TAG);
     }
     say(numbers::ACCEPTED)

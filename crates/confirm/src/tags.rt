@@ -7,67 +7,60 @@ ghost use Rattle.format.specs.Read.{fields_in};
 ghost use Rattle.items.specs.Items.{lv_concat};
 ghost use Rattle.hmac.specs.Hmac.{hmac};
 ghost use Rattle.agreement.specs.Texts.{module_items, centre_items};
-ghost use Rattle.agreement.specs.Steps.{text_of, Small, Suited, Places};
+ghost use Rattle.agreement.specs.Steps.{text_of};
 ghost use Rattle.confirm.specs.Confirm.{derived};
 
 use crate::texts;
+use agreement::{LoadRequest, Outline};
 
-// MacKey and KEK, one behind the other. The counter is 1.
-pub(crate) fn derived(z: &[u8], request: &[u8], starts: &[usize; 7], lens: &[usize; 7]) -> [u8; 48]
-    requires { Places request.now starts.now lens.now × Suited (fields_in REQ request.now) }
-    ensures { result ≡ derived z.now (fields_in REQ request.now) }
+// MacKey and KEK, one behind the other. The counter is 1. Here and below label and fields are put on the stack first: constants that
+// are borrowed where they are named would stand in the object.
+pub(crate) fn derived(z: &[u8], request: &LoadRequest) -> [u8; 48]
+    ensures { result ≡ derived z.now (fields_in REQ request.now.bytes.now) }
 {
     let label = agreement::SHARED_LABEL;
     let fields = agreement::SHARED_FIELDS;
+    let outline = Outline {
+        label: &label,
+        fields: &fields,
+    };
     let counted = sha384::Sha384::begin().add(z).add(&[0, 0, 0, 1]);
-    texts::add_text(counted, &label, &fields, request, starts, lens).end()
+    texts::add_text(counted, &outline, request).end()
 }
 
-// The tag of the text that has this label and these fields.
-fn tag_of(
-    mac_key: &[u8],
-    label: &[u8],
-    fields: &[usize],
-    request: &[u8],
-    starts: &[usize; 7],
-    lens: &[usize; 7],
-) -> [u8; 24]
-    requires { Small label.now fields.now × Places request.now starts.now lens.now × Suited (fields_in REQ request.now) }
-    ensures { result ≡ hmac mac_key.now (text_of label.now fields.now request.now) }
+// The tag of the text of this outline.
+fn tag_of(mac_key: &[u8], outline: &Outline, request: &LoadRequest) -> [u8; 24]
+    ensures { result ≡ hmac mac_key.now (text_of outline.now.label.now outline.now.fields.now request.now.bytes.now) }
 {
     let begun = hmac::begin(mac_key);
-    let given = texts::add_text(begun, label, fields, request, starts, lens);
+    let given = texts::add_text(begun, outline, request);
     hmac::end(mac_key, given)
 }
 
 // The tag of the module text, MacTag_SM.
-pub(crate) fn module_tag(
-    mac_key: &[u8],
-    request: &[u8],
-    starts: &[usize; 7],
-    lens: &[usize; 7],
-) -> [u8; 24]
-    requires { Places request.now starts.now lens.now × Suited (fields_in REQ request.now) }
-    ensures { result ≡ hmac mac_key.now (lv_concat (module_items (fields_in REQ request.now))) }
+pub(crate) fn module_tag(mac_key: &[u8], request: &LoadRequest) -> [u8; 24]
+    ensures { result ≡ hmac mac_key.now (lv_concat (module_items (fields_in REQ request.now.bytes.now))) }
 {
     let label = agreement::MODULE_LABEL;
     let fields = agreement::MODULE_FIELDS;
-    tag_of(mac_key, &label, &fields, request, starts, lens)
+    let outline = Outline {
+        label: &label,
+        fields: &fields,
+    };
+    tag_of(mac_key, &outline, request)
 }
 
 // The tag of the centre text, MacTag_KMC.
-pub(crate) fn centre_tag(
-    mac_key: &[u8],
-    request: &[u8],
-    starts: &[usize; 7],
-    lens: &[usize; 7],
-) -> [u8; 24]
-    requires { Places request.now starts.now lens.now × Suited (fields_in REQ request.now) }
-    ensures { result ≡ hmac mac_key.now (lv_concat (centre_items (fields_in REQ request.now))) }
+pub(crate) fn centre_tag(mac_key: &[u8], request: &LoadRequest) -> [u8; 24]
+    ensures { result ≡ hmac mac_key.now (lv_concat (centre_items (fields_in REQ request.now.bytes.now))) }
 {
     let label = agreement::CENTRE_LABEL;
     let fields = agreement::CENTRE_FIELDS;
-    tag_of(mac_key, &label, &fields, request, starts, lens)
+    let outline = Outline {
+        label: &label,
+        fields: &fields,
+    };
+    tag_of(mac_key, &outline, request)
 }
 
 // Whether two tags are the same. All bytes are compared, whichever differs first.
@@ -76,10 +69,8 @@ fn are_same(a: &[u8], b: &[u8]) -> bool
     ensures { result ≡ same a.now b.now }
 {
     let mut differing = 0u8;
-    let mut i = 0;
-    while i < a.len() {
-        differing = differing | (a[i] ^ b[i]);
-        i += 1;
+    for (x, y) in a.iter().zip(b) {
+        differing |= x ^ y;
     }
     differing == 0
 }

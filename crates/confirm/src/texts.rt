@@ -5,7 +5,9 @@ ghost use Rattle.text.specs.Base16.{base16_decode};
 ghost use Rattle.sha384.specs.State.{added};
 ghost use Rattle.format.specs.Kinds.{REQ};
 ghost use Rattle.format.specs.Read.{fields_in};
-ghost use Rattle.agreement.specs.Steps.{lv_item, item_for, text_of, Small, Suited, Places};
+ghost use Rattle.agreement.specs.Steps.{lv_item, item_for, text_of};
+
+use agreement::{LoadRequest, Outline};
 
 // The length of the item, and its bytes.
 fn add_item(hash: sha384::Sha384, item: &[u8]) -> sha384::Sha384
@@ -27,41 +29,29 @@ fn add_point(hash: sha384::Sha384, point: &[u8]) -> sha384::Sha384
 }
 
 // Field n, from 1, as an item: QE is decoded, all else goes in as it stands.
-fn add_field(
-    hash: sha384::Sha384,
-    request: &[u8],
-    starts: &[usize; 7],
-    lens: &[usize; 7],
-    n: usize,
-) -> sha384::Sha384
-    requires { Places request.now starts.now lens.now × Suited (fields_in REQ request.now) }
-    ensures { result ≡ added hash (lv_item (item_for (fields_in REQ request.now) n)) }
+fn add_field(hash: sha384::Sha384, request: &LoadRequest, n: usize) -> sha384::Sha384
+    ensures { result ≡ added hash (lv_item (item_for (fields_in REQ request.now.bytes.now) n)) }
 {
-    let bytes = places::field_at(request, starts, lens, n);
+    let field = places::field_at(request.bytes, request.starts, request.lens, n);
     if n == table::REQ_QE {
-        return add_point(hash, bytes);
+        add_point(hash, field)
+    } else {
+        add_item(hash, field)
     }
-    add_item(hash, bytes)
 }
 
-// The text that has this label and these fields.
+// The text of this outline.
 pub(crate) fn add_text(
     hash: sha384::Sha384,
-    label: &[u8],
-    fields: &[usize],
-    request: &[u8],
-    starts: &[usize; 7],
-    lens: &[usize; 7],
+    outline: &Outline,
+    request: &LoadRequest,
 ) -> sha384::Sha384
-    requires { Small label.now fields.now × Places request.now starts.now lens.now × Suited (fields_in REQ request.now) }
-    ensures { result ≡ added hash (text_of label.now fields.now request.now) }
+    ensures { result ≡ added hash (text_of outline.now.label.now outline.now.fields.now request.now.bytes.now) }
 {
-    let counted = hash.add(&[(1 + fields.len()) as u8]);
-    let mut given = add_item(counted, label);
-    let mut i = 0;
-    while i < fields.len() {
-        given = add_field(given, request, starts, lens, fields[i]);
-        i += 1;
+    let counted = hash.add(&[(1 + outline.fields.len()) as u8]);
+    let mut given = add_item(counted, outline.label);
+    for &n in outline.fields {
+        given = add_field(given, request, n);
     }
     given
 }

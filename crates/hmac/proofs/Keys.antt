@@ -6,7 +6,7 @@ use mathlib.Core.List.{[], ◌∷◌, ◌++◌, map, append-nil}
 use native.Mathlib.Omega.{arith}
 use native.Mathlib.Nat.{zero-add}
 use native.Mathlib.Numerals.{add-one}
-use lib.ListN.{length, take, drop, get_or, set, replicate, length-map, length-set, drop_of_length-le, get_or-map}
+use lib.ListN.{length, take, drop, get_or, set, replicate, length-map, drop_of_length-le, get_or-map}
 use lib.Seq.{paste-suc, drop-cons, get_or_at, length-take-le, take_all}
 use lib.Bits.{bit_xor}
 use borrow.Author.Tests.{le-leb, lt-leb}
@@ -39,12 +39,10 @@ mix pad b = map (λ x. bit_xor x pad) b
 
 pub record Mixing (pad : ℕ) (b₀ b : Bytes) (i : ℕ) : Type 0 where
   pub block : length b₀ ≡ 128
-  pub whole : length b ≡ 128
-  pub inside : i ≤ 128
   pub done : b ≡ take i (mix pad b₀) ++ drop i b₀
 
 pub mixing_none : {pad : ℕ} {b : Bytes} → length b ≡ 128 → Mixing pad b b 0
-mixing_none {pad} {b} l = record { block = l; whole = l; inside = omega arith; done = refl }
+mixing_none {pad} {b} l = record { block = l; done = refl }
 
 module _ {pad i : ℕ} {b₀ b : Bytes} (m : Mixing pad b₀ b i) where
   all : length (mix pad b₀) ≡ 128
@@ -64,8 +62,6 @@ module _ {pad i : ℕ} {b₀ b : Bytes} (m : Mixing pad b₀ b i) where
       let e : bit_xor (get_or b i 0) pad ≡ get_or (mix pad b₀) i (bit_xor 0 pad) = rw (own h) (sym (get_or-map (λ x. bit_xor x pad) b₀ i 0)) in
       record {
         block = m.block;
-        whole = rw length-set m.whole;
-        inside = omega arith;
         done =
             ap₂ (λ (x : Bytes) (y : ℕ). set x i y) m.done e
             ∙ rw add-one (simp zero-add at (paste-suc b₀ 0 (mix pad b₀) i (bit_xor 0 pad) (omega (arith, m.block)) (omega (arith, all))));

@@ -1,16 +1,13 @@
 -- The tag: what the state gives that has been given the text.
 -- Assumes nothing.
-use Prim.Native.Nat.{ℕ}
 use mathlib.Core.Path.{◌≡◌, ap, ◌∙◌}
 use mathlib.Core.List.{◌++◌}
 use native.Mathlib.Omega.{arith}
-use lib.ListN.{length, take, replicate, get_or-eq_default}
+use lib.ListN.{length, take, get_or-eq_default}
 use lib.Seq.{length-take-le, get_or-take}
 use Rattle.text.specs.Text.{Bytes}
 use Rattle.text.proofs.Tests.{less_or}
 use Rattle.text.proofs.Hexadecimal.{AreBytes}
-use Rattle.put.specs.Put.{Puts}
-use Rattle.put.proofs.Pieces.{put_fills}
 use Rattle.sha384.specs.Sha384.{sha384}
 use Rattle.sha384.specs.declared.Sha384.{Sha384}
 use Rattle.sha384.specs.State.{begun, added, ended}
@@ -19,13 +16,10 @@ use Rattle.sha384.proofs.Digest.{digest_size, digest_bytes}
 use Rattle.hmac.specs.Hmac.{mixed, ipad, opad, mac, hmac}
 use Rattle.hmac.specs.State.{hmac_begun, hmac_ended}
 
--- the first 24 bytes of the outer hash fill their array
-pub tag_ended : (k : Bytes) (s : Sha384) {h o : Bytes} {r : ℕ} → length h ≡ 48 → h ≡ ended (added (added begun (mixed opad k)) (ended s))
-    → Puts (replicate 24 0) 0 (take 24 h) o r → o ≡ hmac_ended k s
+-- the first 24 bytes of the outer hash h
+pub tag_ended : (k : Bytes) (s : Sha384) {h : Bytes} → h ≡ ended (added (added begun (mixed opad k)) (ended s)) → take 24 h ≡ hmac_ended k s
 unfolding hmac_ended
-tag_ended k s {h} l e p =
-    let outer = mixed opad k ++ ended s in
-    put_fills (length-take-le 24 h (omega (arith, l))) p ∙ ap (take 24) (e ∙ ap ended (begun_then (mixed opad k) (ended s)) ∙ ended_once outer)
+tag_ended k s e = ap (take 24) (e ∙ ap ended (begun_then (mixed opad k) (ended s)) ∙ ended_once (mixed opad k ++ ended s))
 
 -- a text given at once
 pub tag_once : (k text : Bytes) → hmac_ended k (added (hmac_begun k) text) ≡ hmac k text

@@ -19,11 +19,10 @@ fn key_block(key: &[u8]) -> [u8; 128]
 {
     let mut block = [0u8; 128];
     if BLOCK < key.len() {
-        let hash = sha384::sha384_of(key);
-        put::put(&mut block, 0, &hash);
-        return block;
+        put::put(&mut block, 0, &sha384::sha384_of(key));
+    } else {
+        put::put(&mut block, 0, key);
     }
-    put::put(&mut block, 0, key);
     block
 }
 
@@ -32,10 +31,8 @@ fn keyed(key: &[u8], pad: u8) -> sha384::Sha384
     ensures { result ≡ added begun (mixed pad key.now) }
 {
     let mut block = key_block(key);
-    let mut i = 0;
-    while i < BLOCK {
-        block[i] = block[i] ^ pad;
-        i += 1;
+    for byte in &mut block {
+        *byte ^= pad;
     }
     sha384::Sha384::begin().add(&block)
 }
@@ -54,7 +51,7 @@ pub fn end(key: &[u8], given: sha384::Sha384) -> [u8; 24]
     let hash = given.end();
     let mac = keyed(key, 0x5C).add(&hash).end();
     let mut tag = [0u8; 24];
-    put::put(&mut tag, 0, &mac[..TAG]);
+    tag.copy_from_slice(&mac[..TAG]);
     tag
 }
 

@@ -3,7 +3,6 @@ ghost use Rattle.std.specs.Prelude.{◌≡◌, ◌+◌, ◌/◌, ◌<◌, length
 ghost use Rattle.sha384.specs.declared.Words.{Words};
 ghost use Rattle.sha384.specs.Sha384.{K, words, next, schedule, round, rounds, sums, compress, hashed};
 
-use crate::operations::plus;
 use crate::{BLOCK, Words, operations};
 
 const CONSTANTS: [u64; 80] = [
@@ -97,10 +96,8 @@ fn first_words(block: &[u8]) -> [u64; 80]
     ensures { (length result ≡ 80) × (take 16 result ≡ words block.now 16) }
 {
     let mut w = [0; 80];
-    let mut t: usize = 0;
-    while t < 16 {
+    for t in 0..16 {
         w[t] = operations::word_at(block, 8 * t);
-        t += 1;
     }
     w
 }
@@ -110,13 +107,10 @@ fn next_word(w: &[u64; 80], n: usize) -> u64
     requires { n < 64 }
     ensures { result ≡ next w.now n }
 {
-    plus(
-        plus(
-            plus(operations::sigma1(w[n + 14]), w[n + 9]),
-            operations::sigma0(w[n + 1]),
-        ),
-        w[n],
-    )
+    operations::sigma1(w[n + 14])
+        .wrapping_add(w[n + 9])
+        .wrapping_add(operations::sigma0(w[n + 1]))
+        .wrapping_add(w[n])
 }
 
 // The message schedule of a block.
@@ -125,10 +119,8 @@ fn schedule(block: &[u8]) -> [u64; 80]
     ensures { result ≡ schedule block.now 64 }
 {
     let mut w = first_words(block);
-    let mut n: usize = 0;
-    while n < 64 {
+    for n in 0..64 {
         w[n + 16] = next_word(&w, n);
-        n += 1;
     }
     w
 }
@@ -138,23 +130,19 @@ fn schedule(block: &[u8]) -> [u64; 80]
 fn round(v: Words, k: u64, w: u64) -> Words
     ensures { result ≡ round v k w }
 {
-    let t1 = plus(
-        plus(
-            plus(
-                plus(v.h, operations::sum1(v.e)),
-                operations::ch(v.e, v.f, v.g),
-            ),
-            k,
-        ),
-        w,
-    );
-    let t2 = plus(operations::sum0(v.a), operations::maj(v.a, v.b, v.c));
+    let t1 = v
+        .h
+        .wrapping_add(operations::sum1(v.e))
+        .wrapping_add(operations::ch(v.e, v.f, v.g))
+        .wrapping_add(k)
+        .wrapping_add(w);
+    let t2 = operations::sum0(v.a).wrapping_add(operations::maj(v.a, v.b, v.c));
     Words {
-        a: plus(t1, t2),
+        a: t1.wrapping_add(t2),
         b: v.a,
         c: v.b,
         d: v.c,
-        e: plus(v.d, t1),
+        e: v.d.wrapping_add(t1),
         f: v.e,
         g: v.f,
         h: v.g,
@@ -177,10 +165,8 @@ fn rounds(k: &[u64; 80], w: &[u64; 80], v: Words) -> Words
     ensures { result ≡ rounds k.now w.now v 80 }
 {
     let mut u = v;
-    let mut t: usize = 0;
-    while t < 80 {
+    for t in (0..80).step_by(4) {
         u = four_rounds(k, w, u, t);
-        t += 4;
     }
     u
 }
@@ -191,14 +177,14 @@ fn sums(v: Words, u: Words) -> Words
     ensures { result ≡ sums v u }
 {
     Words {
-        a: plus(v.a, u.a),
-        b: plus(v.b, u.b),
-        c: plus(v.c, u.c),
-        d: plus(v.d, u.d),
-        e: plus(v.e, u.e),
-        f: plus(v.f, u.f),
-        g: plus(v.g, u.g),
-        h: plus(v.h, u.h),
+        a: v.a.wrapping_add(u.a),
+        b: v.b.wrapping_add(u.b),
+        c: v.c.wrapping_add(u.c),
+        d: v.d.wrapping_add(u.d),
+        e: v.e.wrapping_add(u.e),
+        f: v.f.wrapping_add(u.f),
+        g: v.g.wrapping_add(u.g),
+        h: v.h.wrapping_add(u.h),
     }
 }
 
@@ -217,13 +203,8 @@ fn hash_by(k: &[u64; 80], v: Words, bytes: &[u8]) -> Words
     ensures { result ≡ hashed v bytes.now (length bytes.now / 128) }
 {
     let mut hash = v;
-    let count = bytes.len() / BLOCK;
-    let mut i: usize = 0;
-    while i < count {
-        let start = BLOCK * i;
-        let end = start + BLOCK;
-        hash = compress(k, hash, &bytes[start..end]);
-        i += 1;
+    for block in bytes.chunks_exact(BLOCK) {
+        hash = compress(k, hash, block);
     }
     hash
 }

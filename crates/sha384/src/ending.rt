@@ -3,14 +3,14 @@ ghost use Rattle.std.specs.Prelude.{◌≡◌, ◌+◌, ◌*◌, ◌^◌, take};
 ghost use Rattle.put.specs.Put.{Puts};
 ghost use Rattle.sha384.specs.Sha384.{bytes8, zeros, padding, left384};
 
-use crate::{Words, operations};
+use crate::Words;
 
-// The bytes of a word, written at a place of the output; the place after them.
+// The bytes of a word, written at a place of the output; the place after them. A function of its own for LLVM: where `to_be_bytes`
+// stands in the callers, it makes constants of the bytes' places.
 fn put_word(out: &mut [u8], at: usize, x: u64) -> usize
     ensures { Puts out.old at (bytes8 x) out.new result }
 {
-    let bytes = operations::bytes_of(x);
-    put::put(out, at, &bytes)
+    put::put(out, at, &x.to_be_bytes())
 }
 
 // How many zeros follow the byte 80 hex, by the lower word of the count of bytes.

@@ -38,7 +38,8 @@ pub struct Sha384 {
     pub high: u64,
 }
 
-// The bytes at the front of a block, and zeros after them.
+// The bytes at the front of a block, and zeros after them. Crate sha_1 has its twin, of 64 bytes: one function for both would be
+// public, and a public function has no `requires`.
 fn block_of(front: &[u8]) -> [u8; 128]
     requires { length front.now ≤ 128 }
     ensures { result ≡ zeroed front.now }
@@ -52,10 +53,8 @@ fn block_of(front: &[u8]) -> [u8; 128]
 fn higher(high: u64, low: u64, more: u64) -> u64
     ensures { result ≡ higher (high * 2 ^ 64 + low + more) }
 {
-    if operations::plus(low, more) < more {
-        return operations::plus(high, 1);
-    }
-    high
+    let (_, carries) = low.overflowing_add(more);
+    if carries { high.wrapping_add(1) } else { high }
 }
 
 impl Sha384 {
@@ -86,18 +85,16 @@ impl Sha384 {
     pub fn add(self, bytes: &[u8]) -> Sha384
         ensures { result ≡ added self bytes.now }
     {
-        let hash = self.hash;
-        let waiting = self.block;
         let used = (self.low % 128) as usize;
-        let mut block = block_of(&waiting[..used]);
+        let mut block = block_of(&self.block[..used]);
         let more = bytes.len() as u64;
-        let low = operations::plus(self.low, more);
+        let low = self.low.wrapping_add(more);
         let high = higher(self.high, self.low, more);
         let room = BLOCK - used;
         if bytes.len() < room {
             put::put(&mut block, used, bytes);
             return Sha384 {
-                hash,
+                hash: self.hash,
                 block,
                 low,
                 high,
@@ -105,7 +102,7 @@ impl Sha384 {
         }
         put::put(&mut block, used, &bytes[..room]);
         let whole = room + (bytes.len() - room) / BLOCK * BLOCK;
-        let hash = blocks::hash_both(hash, &block, &bytes[room..whole]);
+        let hash = blocks::hash_both(self.hash, &block, &bytes[room..whole]);
         let block = block_of(&bytes[whole..]);
         Sha384 {
             hash,
@@ -122,8 +119,7 @@ impl Sha384 {
         let length = ending::zeros_after(self.low) + 17;
         let padding = ending::padding(self.high, self.low);
         let last = self.add(&padding[..length]);
-        let hash = last.hash;
-        ending::digest(hash)
+        ending::digest(last.hash)
     }
 }
 
@@ -131,7 +127,5 @@ impl Sha384 {
 pub fn sha384_of(bytes: &[u8]) -> [u8; 48]
     ensures { result ≡ sha384 bytes.now }
 {
-    let begun = Sha384::begin();
-    let given = begun.add(bytes);
-    given.end()
+    Sha384::begin().add(bytes).end()
 }

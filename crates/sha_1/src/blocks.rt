@@ -3,23 +3,18 @@ ghost use Rattle.std.specs.Prelude.{◌≡◌, ◌+◌, ◌/◌, ◌<◌, ◌≤
 ghost use Rattle.sha_1.specs.declared.Words.{Words};
 ghost use Rattle.sha_1.specs.Sha1.{K, words, next, schedule, round, rounds, sums, compress, hashed};
 
-use crate::operations::plus;
 use crate::{BLOCK, Words, operations};
 
 // The constant of round t.
 fn constant(t: usize) -> u32
     ensures { result ≡ K t }
 {
-    if t < 20 {
-        return 0x5a827999;
+    match t {
+        0..20 => 0x5a827999,
+        20..40 => 0x6ed9eba1,
+        40..60 => 0x8f1bbcdc,
+        _ => 0xca62c1d6,
     }
-    if t < 40 {
-        return 0x6ed9eba1;
-    }
-    if t < 60 {
-        return 0x8f1bbcdc;
-    }
-    0xca62c1d6
 }
 
 // ---- the message schedule
@@ -30,10 +25,8 @@ fn first_words(block: &[u8]) -> [u32; 80]
     ensures { (length result ≡ 80) × (take 16 result ≡ words block.now 16) }
 {
     let mut w = [0; 80];
-    let mut t: usize = 0;
-    while t < 16 {
+    for t in 0..16 {
         w[t] = operations::word_at(block, 4 * t);
-        t += 1;
     }
     w
 }
@@ -43,8 +36,7 @@ fn next_word(w: &[u32; 80], n: usize) -> u32
     requires { n < 64 }
     ensures { result ≡ next w.now n }
 {
-    let x = w[n + 13] ^ w[n + 8] ^ w[n + 2] ^ w[n];
-    (x << 1) | (x >> 31)
+    (w[n + 13] ^ w[n + 8] ^ w[n + 2] ^ w[n]).rotate_left(1)
 }
 
 // The message schedule of a block.
@@ -53,10 +45,8 @@ fn schedule(block: &[u8]) -> [u32; 80]
     ensures { result ≡ schedule block.now 64 }
 {
     let mut w = first_words(block);
-    let mut n: usize = 0;
-    while n < 64 {
+    for n in 0..64 {
         w[n + 16] = next_word(&w, n);
-        n += 1;
     }
     w
 }
@@ -67,20 +57,17 @@ fn schedule(block: &[u8]) -> [u32; 80]
 fn round(v: Words, t: usize, w: u32) -> Words
     ensures { result ≡ round v t w }
 {
-    let a = plus(
-        plus(
-            plus(
-                plus((v.a << 5) | (v.a >> 27), operations::f(t, v.b, v.c, v.d)),
-                v.e,
-            ),
-            constant(t),
-        ),
-        w,
-    );
+    let a = v
+        .a
+        .rotate_left(5)
+        .wrapping_add(operations::f(t, v.b, v.c, v.d))
+        .wrapping_add(v.e)
+        .wrapping_add(constant(t))
+        .wrapping_add(w);
     Words {
         a,
         b: v.a,
-        c: (v.b << 30) | (v.b >> 2),
+        c: v.b.rotate_left(30),
         d: v.c,
         e: v.d,
     }
@@ -92,10 +79,8 @@ fn twenty_rounds(w: &[u32; 80], v: Words, i: usize) -> Words
     ensures { (u : Words) → v ≡ rounds w.now u i → result ≡ rounds w.now u (i + 20) }
 {
     let mut u = v;
-    let mut t = i;
-    while t < i + 20 {
+    for t in i..i + 20 {
         u = round(u, t, w[t]);
-        t += 1;
     }
     u
 }
@@ -116,11 +101,11 @@ fn sums(v: Words, u: Words) -> Words
     ensures { result ≡ sums v u }
 {
     Words {
-        a: plus(v.a, u.a),
-        b: plus(v.b, u.b),
-        c: plus(v.c, u.c),
-        d: plus(v.d, u.d),
-        e: plus(v.e, u.e),
+        a: v.a.wrapping_add(u.a),
+        b: v.b.wrapping_add(u.b),
+        c: v.c.wrapping_add(u.c),
+        d: v.d.wrapping_add(u.d),
+        e: v.e.wrapping_add(u.e),
     }
 }
 
@@ -139,13 +124,8 @@ pub(crate) fn hash_blocks(v: Words, bytes: &[u8]) -> Words
     ensures { result ≡ hashed v bytes.now (length bytes.now / 64) }
 {
     let mut hash = v;
-    let count = bytes.len() / BLOCK;
-    let mut i: usize = 0;
-    while i < count {
-        let start = BLOCK * i;
-        let end = start + BLOCK;
-        hash = compress(hash, &bytes[start..end]);
-        i += 1;
+    for block in bytes.chunks_exact(BLOCK) {
+        hash = compress(hash, block);
     }
     hash
 }

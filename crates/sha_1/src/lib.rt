@@ -34,7 +34,8 @@ pub struct Sha1 {
     pub count: u64,
 }
 
-// The bytes at the front of a block, and zeros after them.
+// The bytes at the front of a block, and zeros after them. Crate sha384 has its twin, of 128 bytes: one function for both would be
+// public, and a public function has no `requires`.
 fn block_of(front: &[u8]) -> [u8; 64]
     requires { length front.now ≤ 64 }
     ensures { result ≡ zeroed front.now }
@@ -68,19 +69,21 @@ impl Sha1 {
     pub fn add(self, bytes: &[u8]) -> Sha1
         ensures { result ≡ added self bytes.now }
     {
-        let hash = self.hash;
-        let waiting = self.block;
         let used = (self.count % 64) as usize;
-        let mut block = block_of(&waiting[..used]);
-        let count = std::num::wrapping_add_u64(self.count, bytes.len() as u64);
+        let mut block = block_of(&self.block[..used]);
+        let count = self.count.wrapping_add(bytes.len() as u64);
         let room = BLOCK - used;
         if bytes.len() < room {
             put::put(&mut block, used, bytes);
-            return Sha1 { hash, block, count };
+            return Sha1 {
+                hash: self.hash,
+                block,
+                count,
+            };
         }
         put::put(&mut block, used, &bytes[..room]);
         let whole = room + (bytes.len() - room) / BLOCK * BLOCK;
-        let completed = blocks::hash_blocks(hash, &block);
+        let completed = blocks::hash_blocks(self.hash, &block);
         let hash = blocks::hash_blocks(completed, &bytes[room..whole]);
         let block = block_of(&bytes[whole..]);
         Sha1 { hash, block, count }
@@ -93,8 +96,7 @@ impl Sha1 {
         let length = ending::zeros_after(self.count) + 9;
         let padding = ending::padding(self.count);
         let last = self.add(&padding[..length]);
-        let hash = last.hash;
-        ending::digest(hash)
+        ending::digest(last.hash)
     }
 }
 
@@ -102,7 +104,5 @@ impl Sha1 {
 pub fn sha1_of(bytes: &[u8]) -> [u8; 20]
     ensures { result ≡ sha1 bytes.now }
 {
-    let begun = Sha1::begin();
-    let given = begun.add(bytes);
-    given.end()
+    Sha1::begin().add(bytes).end()
 }

@@ -1,6 +1,5 @@
--- `agreement::put_text` meets its contract. The loop's invariant: the fields before i are written, behind the count and the label.
+-- `agreement::put_text` meets its contract. The loop's invariant: the fields before the index are written, behind the count and the label.
 -- Assumes nothing.
-use mathlib.Core.Path.{◌∙◌}
 use native.Mathlib.Omega.{arith}
 use Rattle.format.specs.Kinds.{REQ}
 use Rattle.format.specs.Read.{fields_in}
@@ -10,32 +9,29 @@ use Rattle.agreement.proofs.put_text.Goals as goal
 
 pub put_item-at-requires : goal.put_item-at-requires
 put_item-at-requires c =
-    let s = c.before.before.before.before.before.before.before.before.before.before in
-    let l = text_length s.args.label.now s.args.fields.now (fields_in REQ s.args.request.now) in
-    let first = put_of (omega (arith, s.requires.3)) c.put_byte-next.ensures in
-    (s.requires.0.short_label, omega (arith, l, s.requires.3, first.next, put_length first))
+    let text = c.args.outline.now in
+    let l = text_length text.label.now text.fields.now (fields_in REQ c.args.request.now.bytes.now) in
+    let first = put_of (omega (arith, c.requires)) c.put_byte-next.ensures in
+    (text.small.short_label, omega (arith, l, c.requires, first.next, put_length first))
 
-pub loop-i-init : goal.loop-i-init
-loop-i-init c =
-    let s = c.before.before.before.before.before.before.before.before.before.before.before.before.before in
-    let l = text_length s.args.label.now s.args.fields.now (fields_in REQ s.args.request.now) in
-    let first = put_of (omega (arith, s.requires.3)) c.put_byte-next.ensures in
+pub loop-n-init : goal.loop-n-init
+loop-n-init c =
+    let text = c.args.outline.now in
+    let l = text_length text.label.now text.fields.now (fields_in REQ c.args.request.now.bytes.now) in
+    let first = put_of (omega (arith, c.requires)) c.put_byte-next.ensures in
     let second = c.put_item-at.ensures in
-    entered_none (omega (arith, l, s.requires.3, first.next, put_length first, second.next, put_length second))
+    entered_none (omega (arith, l, c.requires, first.next, put_length first, second.next, put_length second))
 
 pub put_field-at-requires : goal.put_field-at-requires
-put_field-at-requires c = (c.requires.1, c.requires.2, entered_room c.loop-i.invariant c.loop-i-test.true)
+put_field-at-requires c = entered_room c.loop-n.invariant c.loop-n-test.true
 
-pub loop-i-preserved : goal.loop-i-preserved
-loop-i-preserved c = entered_more c.loop-i.invariant c.loop-i-test.true c.put_field-at.ensures
-
-pub shape_of-out : goal.shape_of-out
-shape_of-out c = put_length c.loop-i.invariant.way.put ∙ put_length c.put_item-at.ensures ∙ c.put_byte-next.auto.out
+pub loop-n-preserved : goal.loop-n-preserved
+loop-n-preserved c = entered_more c.loop-n.invariant c.loop-n-test.true c.put_field-at.ensures
 
 pub returns : goal.returns
 returns c =
-    let s = c.before.before.before.before.before.before.before.before.before.before.before.before.before.before.before in
-    text_pieces s.args.label.now s.args.fields.now (fields_in REQ s.args.request.now)
-    (put_of (omega (arith, s.requires.3)) c.put_byte-next.ensures)
+    let text = c.args.outline.now in
+    text_pieces text.label.now text.fields.now (fields_in REQ c.args.request.now.bytes.now)
+    (put_of (omega (arith, c.requires)) c.put_byte-next.ensures)
     c.put_item-at.ensures
-    (entered_all c.loop-i.invariant c.loop-i-test.false)
+    (entered_all c.loop-n.invariant c.loop-n-test.false)

@@ -8,6 +8,7 @@ use Rattle.agreement.proofs.Request.{request_suited, request_places}
 use Rattle.confirm.proofs.Calls.{mac_tag, request_refused, z_wrong, mac_key_short, kek_short, request_tag_wrong, keys_written}
 use borrow.Author.Rules.{rules}
 use Rattle.confirm.proofs.confirm_request.Goals as goal
+use Rattle.confirm.proofs.confirm_request.Goals.{then-mac_key-lt-KEY_BYTES-via-then-mac_key-lt-KEY_BYTES, then-mac_key-lt-KEY_BYTES-via-else-mac_key-lt-KEY_BYTES+then-kek-lt-KEY_BYTES}
 
 pub returns-then-asked-ne-ACCEPTED : goal.returns-then-asked-ne-ACCEPTED
 returns-then-asked-ne-ACCEPTED c = request_refused c.args.z.now c.args.request.now c.args.mac_key.now c.args.kek.now _ c.read_of-asked.ensures _ c.if-asked-ne-ACCEPTED.true c.refuse.ensures
@@ -16,33 +17,35 @@ pub returns-then-z-ne-Z_BYTES : goal.returns-then-z-ne-Z_BYTES
 returns-then-z-ne-Z_BYTES c = z_wrong c.args.z.now c.args.request.now c.args.mac_key.now c.args.kek.now _ c.read_of-asked.ensures c.if-asked-ne-ACCEPTED.false _ c.if-z-ne-Z_BYTES.true c.say.ensures
 
 pub returns-then-mac_key-lt-KEY_BYTES : goal.returns-then-mac_key-lt-KEY_BYTES
-returns-then-mac_key-lt-KEY_BYTES c = mac_key_short c.args.z.now c.args.request.now c.args.mac_key.now c.args.kek.now _ c.read_of-asked.ensures c.if-asked-ne-ACCEPTED.false c.if-z-ne-Z_BYTES.false _ c.if-mac_key-lt-KEY_BYTES.true c.say-then-mac_key-lt-KEY_BYTES.ensures
+returns-then-mac_key-lt-KEY_BYTES c =
+    let a = c.args in
+    elim c.then-mac_key-lt-KEY_BYTES.branch [
+      | then-mac_key-lt-KEY_BYTES-via-then-mac_key-lt-KEY_BYTES w ↦
+          mac_key_short a.z.now a.request.now a.mac_key.now a.kek.now _ c.read_of-asked.ensures c.if-asked-ne-ACCEPTED.false c.if-z-ne-Z_BYTES.false _
+          w.if-mac_key-lt-KEY_BYTES.true c.say-then-mac_key-lt-KEY_BYTES.ensures
+      | then-mac_key-lt-KEY_BYTES-via-else-mac_key-lt-KEY_BYTES+then-kek-lt-KEY_BYTES w ↦
+          kek_short a.z.now a.request.now a.mac_key.now a.kek.now _ c.read_of-asked.ensures c.if-asked-ne-ACCEPTED.false c.if-z-ne-Z_BYTES.false _
+          w.if-mac_key-lt-KEY_BYTES.false w.if-kek-lt-KEY_BYTES.true c.say-then-mac_key-lt-KEY_BYTES.ensures
+    ]
 
-pub returns-then-kek-lt-KEY_BYTES : goal.returns-then-kek-lt-KEY_BYTES
-returns-then-kek-lt-KEY_BYTES c = kek_short c.args.z.now c.args.request.now c.args.mac_key.now c.args.kek.now _ c.read_of-asked.ensures c.if-asked-ne-ACCEPTED.false c.if-z-ne-Z_BYTES.false _ c.if-mac_key-lt-KEY_BYTES.false c.if-kek-lt-KEY_BYTES.true c.say-then-kek-lt-KEY_BYTES.ensures
-
-pub derived-keys-requires : goal.derived-keys-requires
-derived-keys-requires c =
-    let request = c.args.request.now in
-    (request_places request _ c.read_of-asked.ensures c.if-asked-ne-ACCEPTED.false, request_suited request _ c.read_of-asked.ensures c.if-asked-ne-ACCEPTED.false)
+pub invariant_of-accepted : goal.invariant_of-accepted
+invariant_of-accepted c = record {
+  placed = request_places c.args.request.now _ c.read_of-asked.ensures c.if-asked-ne-ACCEPTED.false;
+  suited = request_suited c.args.request.now _ c.read_of-asked.ensures c.if-asked-ne-ACCEPTED.false;
+}
 
 pub slice_bounds-module_tag-end : goal.slice_bounds-module_tag-end
 slice_bounds-module_tag-end c = let l : length c.derived-keys.result ≡ 48 = search rules in simp length-take (omega (arith, l))
 
-pub module_tag-right-requires : goal.module_tag-right-requires
-module_tag-right-requires c =
-    let request = c.args.request.now in
-    (request_places request _ c.read_of-asked.ensures c.if-asked-ne-ACCEPTED.false, request_suited request _ c.read_of-asked.ensures c.if-asked-ne-ACCEPTED.false)
-
 pub is_tag-requires : goal.is_tag-requires
 is_tag-requires c =
-    (mac_tag c.args.request.now _ c.read_of-asked.ensures c.if-asked-ne-ACCEPTED.false c.field_at.ensures.holds, search rules)
+    (mac_tag c.args.request.now _ c.read_of-asked.ensures c.if-asked-ne-ACCEPTED.false c.field_at-said.ensures.holds, search rules)
 
 pub returns-then-not-is_tag : goal.returns-then-not-is_tag
-returns-then-not-is_tag c = request_tag_wrong c.args.z.now c.args.request.now c.args.mac_key.now c.args.kek.now _ c.read_of-asked.ensures c.if-asked-ne-ACCEPTED.false c.if-z-ne-Z_BYTES.false c.if-mac_key-lt-KEY_BYTES.false c.if-kek-lt-KEY_BYTES.false c.derived-keys.ensures c.module_tag-right.ensures c.field_at.ensures.holds c.is_tag.ensures _ (not-true _ c.if-not-is_tag.true-raw) c.say-then-not-is_tag.ensures
+returns-then-not-is_tag c = request_tag_wrong c.args.z.now c.args.request.now c.args.mac_key.now c.args.kek.now _ c.read_of-asked.ensures c.if-asked-ne-ACCEPTED.false c.if-z-ne-Z_BYTES.false c.if-mac_key-lt-KEY_BYTES.false c.if-kek-lt-KEY_BYTES.false c.derived-keys.ensures c.module_tag-right.ensures c.field_at-said.ensures.holds c.is_tag.ensures _ (not-true _ c.if-not-is_tag.true-raw) c.say-then-not-is_tag.ensures
 
 pub slice_bounds-put-end : goal.slice_bounds-put-end
 slice_bounds-put-end c = let l : length c.derived-keys.result ≡ 48 = search rules in simp length-take (omega (arith, l))
 
 pub returns : goal.returns
-returns c = keys_written c.args.z.now c.args.request.now c.args.mac_key.now c.args.kek.now _ c.read_of-asked.ensures c.if-asked-ne-ACCEPTED.false c.if-z-ne-Z_BYTES.false c.if-mac_key-lt-KEY_BYTES.false c.if-kek-lt-KEY_BYTES.false c.derived-keys.ensures c.module_tag-right.ensures c.field_at.ensures.holds c.is_tag.ensures _ (not-false _ c.if-not-is_tag.false-raw) c.put.ensures c.put-2.ensures c.say-2.ensures
+returns c = keys_written c.args.z.now c.args.request.now c.args.mac_key.now c.args.kek.now _ c.read_of-asked.ensures c.if-asked-ne-ACCEPTED.false c.if-z-ne-Z_BYTES.false c.if-mac_key-lt-KEY_BYTES.false c.if-kek-lt-KEY_BYTES.false c.derived-keys.ensures c.module_tag-right.ensures c.field_at-said.ensures.holds c.is_tag.ensures _ (not-false _ c.if-not-is_tag.false-raw) c.put.ensures c.put-2.ensures c.say-2.ensures

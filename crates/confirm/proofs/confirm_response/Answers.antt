@@ -13,34 +13,30 @@ use Rattle.confirm.proofs.confirm_response.Goals as goal
 pub returns-then-asked-ne-ACCEPTED : goal.returns-then-asked-ne-ACCEPTED
 returns-then-asked-ne-ACCEPTED c = first_refused c.args.z.now c.args.request.now c.args.response.now _ c.read_of-asked.ensures _ c.if-asked-ne-ACCEPTED.true c.refuse.ensures
 
-pub returns-then-answered-ne-ACCEPTED : goal.returns-then-answered-ne-ACCEPTED
-returns-then-answered-ne-ACCEPTED c = second_refused c.args.z.now c.args.request.now c.args.response.now _ c.read_of-asked.ensures c.if-asked-ne-ACCEPTED.false _ c.read_of-answered.ensures _ c.if-answered-ne-ACCEPTED.true c.refuse-then-answered-ne-ACCEPTED.ensures
+pub returns-then-reply-ne-ACCEPTED : goal.returns-then-reply-ne-ACCEPTED
+returns-then-reply-ne-ACCEPTED c = second_refused c.args.z.now c.args.request.now c.args.response.now _ c.read_of-asked.ensures c.if-asked-ne-ACCEPTED.false _ c.read_of-reply.ensures _ c.if-reply-ne-ACCEPTED.true c.refuse-then-reply-ne-ACCEPTED.ensures
 
 pub returns-then-z-ne-Z_BYTES : goal.returns-then-z-ne-Z_BYTES
-returns-then-z-ne-Z_BYTES c = response_z_wrong c.args.z.now c.args.request.now c.args.response.now _ c.read_of-asked.ensures c.if-asked-ne-ACCEPTED.false _ c.read_of-answered.ensures c.if-answered-ne-ACCEPTED.false _ c.if-z-ne-Z_BYTES.true c.say.ensures
+returns-then-z-ne-Z_BYTES c = response_z_wrong c.args.z.now c.args.request.now c.args.response.now _ c.read_of-asked.ensures c.if-asked-ne-ACCEPTED.false _ c.read_of-reply.ensures c.if-reply-ne-ACCEPTED.false _ c.if-z-ne-Z_BYTES.true c.say.ensures
 
 pub returns-then-not-does_answer : goal.returns-then-not-does_answer
-returns-then-not-does_answer c = other-request c.args.z.now c.args.request.now c.args.response.now _ c.read_of-asked.ensures c.if-asked-ne-ACCEPTED.false _ c.read_of-answered.ensures c.if-answered-ne-ACCEPTED.false c.if-z-ne-Z_BYTES.false c.does_answer.ensures _ (not-true _ c.if-not-does_answer.true-raw) c.say-then-not-does_answer.ensures
+returns-then-not-does_answer c = other-request c.args.z.now c.args.request.now c.args.response.now _ c.read_of-asked.ensures c.if-asked-ne-ACCEPTED.false _ c.read_of-reply.ensures c.if-reply-ne-ACCEPTED.false c.if-z-ne-Z_BYTES.false c.does_answer.ensures _ (not-true _ c.if-not-does_answer.true-raw) c.say-then-not-does_answer.ensures
 
-pub derived-keys-requires : goal.derived-keys-requires
-derived-keys-requires c =
-    let request = c.args.request.now in
-    (request_places request _ c.read_of-asked.ensures c.if-asked-ne-ACCEPTED.false, request_suited request _ c.read_of-asked.ensures c.if-asked-ne-ACCEPTED.false)
+pub invariant_of-accepted : goal.invariant_of-accepted
+invariant_of-accepted c = record {
+  placed = request_places c.args.request.now _ c.read_of-asked.ensures c.if-asked-ne-ACCEPTED.false;
+  suited = request_suited c.args.request.now _ c.read_of-asked.ensures c.if-asked-ne-ACCEPTED.false;
+}
 
 pub slice_bounds-centre_tag-end : goal.slice_bounds-centre_tag-end
 slice_bounds-centre_tag-end c = let l : length c.derived-keys.result ≡ 48 = search rules in simp length-take (omega (arith, l))
 
-pub centre_tag-right-requires : goal.centre_tag-right-requires
-centre_tag-right-requires c =
-    let request = c.args.request.now in
-    (request_places request _ c.read_of-asked.ensures c.if-asked-ne-ACCEPTED.false, request_suited request _ c.read_of-asked.ensures c.if-asked-ne-ACCEPTED.false)
-
 pub is_tag-requires : goal.is_tag-requires
 is_tag-requires c =
-    (its_mac_tag c.args.response.now _ c.read_of-answered.ensures c.if-answered-ne-ACCEPTED.false c.field_at.ensures.holds, search rules)
+    (its_mac_tag c.args.response.now _ c.read_of-reply.ensures c.if-reply-ne-ACCEPTED.false c.field_at-said.ensures.holds, search rules)
 
 pub returns-then-not-is_tag : goal.returns-then-not-is_tag
-returns-then-not-is_tag c = response_said c.args.z.now c.args.request.now c.args.response.now _ c.read_of-asked.ensures c.if-asked-ne-ACCEPTED.false _ c.read_of-answered.ensures c.if-answered-ne-ACCEPTED.false c.if-z-ne-Z_BYTES.false c.does_answer.ensures _ false (not-false _ c.if-not-does_answer.false-raw) c.derived-keys.ensures c.centre_tag-right.ensures c.field_at.ensures.holds c.is_tag.ensures (not-true _ c.if-not-is_tag.true-raw) c.say-then-not-is_tag.ensures
+returns-then-not-is_tag c = response_said c.args.z.now c.args.request.now c.args.response.now _ c.read_of-asked.ensures c.if-asked-ne-ACCEPTED.false _ c.read_of-reply.ensures c.if-reply-ne-ACCEPTED.false c.if-z-ne-Z_BYTES.false c.does_answer.ensures _ false (not-false _ c.if-not-does_answer.false-raw) c.derived-keys.ensures c.centre_tag-right.ensures c.field_at-said.ensures.holds c.is_tag.ensures (not-true _ c.if-not-is_tag.true-raw) c.say-then-not-is_tag.ensures
 
 pub returns : goal.returns
-returns c = response_said c.args.z.now c.args.request.now c.args.response.now _ c.read_of-asked.ensures c.if-asked-ne-ACCEPTED.false _ c.read_of-answered.ensures c.if-answered-ne-ACCEPTED.false c.if-z-ne-Z_BYTES.false c.does_answer.ensures _ true (not-false _ c.if-not-does_answer.false-raw) c.derived-keys.ensures c.centre_tag-right.ensures c.field_at.ensures.holds c.is_tag.ensures (not-false _ c.if-not-is_tag.false-raw) c.say-2.ensures
+returns c = response_said c.args.z.now c.args.request.now c.args.response.now _ c.read_of-asked.ensures c.if-asked-ne-ACCEPTED.false _ c.read_of-reply.ensures c.if-reply-ne-ACCEPTED.false c.if-z-ne-Z_BYTES.false c.does_answer.ensures _ true (not-false _ c.if-not-does_answer.false-raw) c.derived-keys.ensures c.centre_tag-right.ensures c.field_at-said.ensures.holds c.is_tag.ensures (not-false _ c.if-not-is_tag.false-raw) c.say-2.ensures

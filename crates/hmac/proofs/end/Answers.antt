@@ -8,10 +8,10 @@ use Rattle.hmac.proofs.Tags.{tag_ended}
 use borrow.Author.Rules.{rules}
 use Rattle.hmac.proofs.end.Goals as goal
 
-pub slice_bounds-put-end-2 : goal.slice_bounds-put-end-2
-slice_bounds-put-end-2 c = let l : length c.end-mac.result ≡ 48 = search rules in simp length-take (omega (arith, l))
+pub slice_bounds-copy_from_slice-end-2 : goal.slice_bounds-copy_from_slice-end-2
+slice_bounds-copy_from_slice-end-2 c = let l : length c.end-mac.result ≡ 48 = search rules in simp length-take (omega (arith, l))
 
 pub returns : goal.returns
 returns c =
     let mac = c.end-mac.ensures ∙ ap ended (c.add.ensures ∙ ap₂ added c.keyed.ensures c.end-hash.ensures) in
-    tag_ended c.args.key.now c.args.given (search rules) mac c.put.ensures
+    c.copy_from_slice.ensures.after ∙ tag_ended c.args.key.now c.args.given mac

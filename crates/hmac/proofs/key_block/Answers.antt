@@ -5,7 +5,7 @@ use borrow.Author.Rules.{rules}
 use Rattle.hmac.proofs.key_block.Goals as goal
 
 pub returns-then-key-gt-BLOCK : goal.returns-then-key-gt-BLOCK
-returns-then-key-gt-BLOCK c = key_long c.args.key.now c.if-key-gt-BLOCK.true (search rules) c.sha384_of-hash.ensures c.put.ensures
+returns-then-key-gt-BLOCK c = key_long c.args.key.now c.if-key-gt-BLOCK.true (search rules) c.sha384_of.ensures c.put.ensures
 
-pub returns : goal.returns
-returns c = key_short c.args.key.now c.if-key-gt-BLOCK.false c.put-2.ensures
+pub returns-else-key-gt-BLOCK : goal.returns-else-key-gt-BLOCK
+returns-else-key-gt-BLOCK c = key_short c.args.key.now c.if-key-gt-BLOCK.false c.put-else-key-gt-BLOCK.ensures

@@ -7,4 +7,4 @@ use Rattle.sha384.proofs.Pieces.{ended_once}
 use Rattle.sha384.proofs.sha384_of.Goals as goal
 
 pub returns : goal.returns
-returns c = c.end.ensures ∙ ap ended (c.add-given.ensures ∙ ap (λ (s : Sha384). added s c.args.bytes.now) c.begin-begun.ensures) ∙ ended_once c.args.bytes.now
+returns c = c.end.ensures ∙ ap ended (c.add.ensures ∙ ap (λ (s : Sha384). added s c.args.bytes.now) c.begin.ensures) ∙ ended_once c.args.bytes.now

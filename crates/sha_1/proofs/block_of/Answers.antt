@@ -1,4 +1,4 @@
--- `sha1::block_of` meets its contract.
+-- `sha_1::block_of` meets its contract.
 -- Assumes nothing.
 use Rattle.std.proofs.Common.{[], refl, ◌∙◌, arith}
 use Rattle.put.proofs.Pieces.{put_of}

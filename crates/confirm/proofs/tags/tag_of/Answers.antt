@@ -12,5 +12,5 @@ pub returns : goal.returns
 returns c =
     let a = c.args in
     let k = a.mac_key.now in
-    let text = text_of a.label.now a.fields.now a.request.now in
+    let text = text_of a.outline.now.label.now a.outline.now.fields.now a.request.now.bytes.now in
     c.end.ensures ∙ ap (hmac_ended k) (c.add_text-given.ensures ∙ ap (λ (s : Sha384). added s text) c.begin-begun.ensures) ∙ tag_once k text

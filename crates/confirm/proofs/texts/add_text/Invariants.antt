@@ -1,14 +1,9 @@
--- `confirm::texts::add_text` meets its contract. The loop's invariant: the fields before i are given.
+-- `confirm::texts::add_text` meets its contract. The loop's invariant: the fields before the index are given.
 -- Assumes nothing.
-use Prim.Native.Nat.{◌-◌}
-use lib.ListN.{length}
 use Rattle.format.specs.Kinds.{REQ}
 use Rattle.format.specs.Read.{fields_in}
 use Rattle.confirm.proofs.Given.{Given}
 use Rattle.confirm.proofs.texts.add_text.Given as goal
 
-abbrev pub invariant-loop-i : goal.invariant-loop-i
-invariant-loop-i l = Given l.fields (fields_in REQ l.request) l.initial.given l.given l.i
-
-abbrev pub decreases-loop-i : goal.decreases-loop-i
-decreases-loop-i l = length l.fields - l.i
+abbrev pub invariant-loop-n : goal.invariant-loop-n
+invariant-loop-n l = Given l.outline.fields.now (fields_in REQ l.request.bytes.now) l.initial.given l.given l.n-index

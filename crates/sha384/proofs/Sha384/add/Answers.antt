@@ -8,9 +8,6 @@ use Rattle.sha384.proofs.Taken.{enough}
 use Rattle.sha384.proofs.Added.{whole_fits, used_is, counted}
 use Rattle.sha384.proofs.Sha384.add.Goals as goal
 
-pub slice_bounds-waiting-end : goal.slice_bounds-waiting-end
-slice_bounds-waiting-end c = let l : length c.args.self.block ≡ 128 = search rules in omega (arith, l)
-
 pub slice_bounds-block_of-end : goal.slice_bounds-block_of-end
 slice_bounds-block_of-end c = let l : length c.args.self.block ≡ 128 = search rules in simp length-take (omega (arith, l))
 
@@ -19,7 +16,7 @@ block_of-block-requires c = let l : length c.args.self.block ≡ 128 = search ru
 
 pub returns-then-bytes-room : goal.returns-then-bytes-room
 unfolding added
-returns-then-bytes-room c = counted c.args.self c.args.bytes.now c.plus-low.ensures c.higher-high.ensures ∙ added_short 128 compress keeping enough c.args.self c.args.bytes.now (search rules) (used_is c.args.self) c.if-bytes-room.true c.block_of-block.ensures c.put.ensures
+returns-then-bytes-room c = counted c.args.self c.args.bytes.now refl c.higher-high.ensures ∙ added_short 128 compress keeping enough c.args.self c.args.bytes.now (search rules) (used_is c.args.self) c.if-bytes-room.true c.block_of-block.ensures c.put.ensures
 
 pub slice_bounds-put-end-3 : goal.slice_bounds-put-end-3
 slice_bounds-put-end-3 c = simp length-take (omega arith)
@@ -29,4 +26,4 @@ overflow_mul-whole c = record { fits = whole_fits (length c.args.bytes.now) (128
 
 pub returns : goal.returns
 unfolding added
-returns c = counted c.args.self c.args.bytes.now c.plus-low.ensures c.higher-high.ensures ∙ added_long 128 compress keeping enough c.args.self c.args.bytes.now (search (rules, c.well_formed)) (used_is c.args.self) c.if-bytes-room.false c.block_of-block.ensures c.put-2.ensures refl refl c.hash_both-hash.ensures c.block_of-block-2.ensures
+returns c = counted c.args.self c.args.bytes.now refl c.higher-high.ensures ∙ added_long 128 compress keeping enough c.args.self c.args.bytes.now (search (rules, c.well_formed)) (used_is c.args.self) c.if-bytes-room.false c.block_of-block.ensures c.put-2.ensures refl refl c.hash_both-hash.ensures c.block_of-block-2.ensures

@@ -1,12 +1,8 @@
 -- `sha384::blocks::first_words` meets its contract.
 -- Assumes nothing.
-use Rattle.std.proofs.Common.{◌-◌, ◌≤◌}
 use Rattle.sha384.specs.Sha384.{words}
 use Rattle.hashing.proofs.Turns.{Filled}
 use Rattle.sha384.proofs.blocks.first_words.Given as goal
 
 abbrev pub invariant-loop-t : goal.invariant-loop-t
-invariant-loop-t l = (l.t ≤ 16) × Filled (words l.block l.t) l.w l.t
-
-abbrev pub decreases-loop-t : goal.decreases-loop-t
-decreases-loop-t l = 16 - l.t
+invariant-loop-t l = Filled (words l.block l.t) l.w l.t

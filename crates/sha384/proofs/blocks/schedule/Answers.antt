@@ -9,11 +9,11 @@ use Rattle.sha384.proofs.blocks.schedule.Goals as goal
 
 pub loop-n-init : goal.loop-n-init
 unfolding schedule grown turns
-loop-n-init c = (search rules, record { room = search rules; whole = c.first_words-w.ensures.0; front = c.first_words-w.ensures.1 })
+loop-n-init c = record { room = search rules; whole = c.first_words-w.ensures.0; front = c.first_words-w.ensures.1 }
 
 pub loop-n-preserved : goal.loop-n-preserved
 unfolding schedule
-loop-n-preserved c = (search rules, schedule_step next _ next_front c.loop-n.invariant.1 c.loop-n-test.true c.next_word.ensures)
+loop-n-preserved c = schedule_step next _ next_front c.loop-n.invariant c.loop-n-test.true c.next_word.ensures
 
 pub returns : goal.returns
-returns c = let e : c.loop-n.n ≡ 64 = omega arith in filled_all c.loop-n.invariant.1 (omega arith) ∙ ap (schedule c.args.block.now) e
+returns c = let e : c.loop-n.n ≡ 64 = omega arith in filled_all c.loop-n.invariant (omega arith) ∙ ap (schedule c.args.block.now) e

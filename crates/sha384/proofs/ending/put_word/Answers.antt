@@ -3,4 +3,4 @@
 use Rattle.sha384.proofs.ending.put_word.Goals as goal
 
 pub returns : goal.returns
-returns c = rw c.bytes_of-bytes.ensures at c.put.ensures
+returns c = rw c.to_be_bytes.ensures at c.put.ensures

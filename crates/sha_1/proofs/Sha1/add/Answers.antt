@@ -1,4 +1,4 @@
--- `sha1::Sha1::add` meets its contract.
+-- `sha_1::Sha1::add` meets its contract.
 -- Assumes nothing.
 use Rattle.std.proofs.Common.{◌≡◌, length, refl, ◌∙◌, arith, length-take, rules}
 use Rattle.hashing.proofs.Added.{added_short, added_long}
@@ -8,9 +8,6 @@ use Rattle.sha_1.proofs.Taken.{enough}
 use Rattle.sha_1.proofs.Added.{counted}
 use Rattle.sha_1.proofs.Sha1.add.Goals as goal
 
-pub slice_bounds-waiting-end : goal.slice_bounds-waiting-end
-slice_bounds-waiting-end c = let l : length c.args.self.block ≡ 64 = search rules in omega (arith, l)
-
 pub slice_bounds-block_of-end : goal.slice_bounds-block_of-end
 slice_bounds-block_of-end c = let l : length c.args.self.block ≡ 64 = search rules in simp length-take (omega (arith, l))
 
@@ -19,11 +16,11 @@ block_of-block-requires c = let l : length c.args.self.block ≡ 64 = search rul
 
 pub returns-then-bytes-room : goal.returns-then-bytes-room
 unfolding added
-returns-then-bytes-room c = counted c.args.self c.args.bytes.now c.wrapping_add_u64-count.ensures.value ∙ added_short 64 compress keeping enough c.args.self c.args.bytes.now (search rules) refl c.if-bytes-room.true c.block_of-block.ensures c.put.ensures
+returns-then-bytes-room c = counted c.args.self c.args.bytes.now refl ∙ added_short 64 compress keeping enough c.args.self c.args.bytes.now (search rules) refl c.if-bytes-room.true c.block_of-block.ensures c.put.ensures
 
 pub slice_bounds-put-end-3 : goal.slice_bounds-put-end-3
 slice_bounds-put-end-3 c = simp length-take (omega arith)
 
 pub returns : goal.returns
 unfolding added
-returns c = counted c.args.self c.args.bytes.now c.wrapping_add_u64-count.ensures.value ∙ added_long 64 compress keeping enough c.args.self c.args.bytes.now (search (rules, c.well_formed)) refl c.if-bytes-room.false c.block_of-block.ensures c.put-2.ensures refl refl (c.hash_blocks-hash.ensures ∙ rw c.hash_blocks-completed.ensures) c.block_of-block-2.ensures
+returns c = counted c.args.self c.args.bytes.now refl ∙ added_long 64 compress keeping enough c.args.self c.args.bytes.now (search (rules, c.well_formed)) refl c.if-bytes-room.false c.block_of-block.ensures c.put-2.ensures refl refl (c.hash_blocks-hash.ensures ∙ rw c.hash_blocks-completed.ensures) c.block_of-block-2.ensures

@@ -1,4 +1,4 @@
--- `sha1::Sha1::begin` meets its contract: the initial hash value of FIPS 180-4, 5.3.1.
+-- `sha_1::Sha1::begin` meets its contract: the initial hash value of FIPS 180-4, 5.3.1.
 -- Assumes nothing.
 use Rattle.std.proofs.Common.{refl}
 use Rattle.hashing.specs.Turns.{turns}

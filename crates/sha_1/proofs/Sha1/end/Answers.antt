@@ -1,4 +1,4 @@
--- `sha1::Sha1::end` meets its contract.
+-- `sha_1::Sha1::end` meets its contract.
 -- Assumes nothing.
 use Rattle.std.proofs.Common.{◌≡◌, ℕ, ◌+◌, length, take, ap, ◌∙◌, arith, length-take, rules}
 use Rattle.sha_1.specs.declared.Sha1.{Sha1}

@@ -1,4 +1,4 @@
--- `sha1::blocks::compress` meets its contract.
+-- `sha_1::blocks::compress` meets its contract.
 -- Assumes nothing.
 use Rattle.sha_1.specs.Sha1.{compress}
 use Rattle.sha_1.proofs.blocks.compress.Goals as goal

@@ -1,4 +1,4 @@
--- `sha1::blocks::rounds` meets its contract.
+-- `sha_1::blocks::rounds` meets its contract.
 -- Assumes nothing.
 use Rattle.std.proofs.Common.{refl}
 use Rattle.hashing.specs.Turns.{turns}

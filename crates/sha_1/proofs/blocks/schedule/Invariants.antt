@@ -1,12 +1,9 @@
--- `sha1::blocks::schedule` meets its contract.
+-- `sha_1::blocks::schedule` meets its contract.
 -- Assumes nothing.
-use Rattle.std.proofs.Common.{◌+◌, ◌-◌, ◌≤◌}
+use Rattle.std.proofs.Common.{◌+◌}
 use Rattle.sha_1.specs.Sha1.{schedule}
 use Rattle.hashing.proofs.Turns.{Filled}
 use Rattle.sha_1.proofs.blocks.schedule.Given as goal
 
 abbrev pub invariant-loop-n : goal.invariant-loop-n
-invariant-loop-n l = (l.n ≤ 64) × Filled (schedule l.block l.n) l.w (l.n + 16)
-
-abbrev pub decreases-loop-n : goal.decreases-loop-n
-decreases-loop-n l = 64 - l.n
+invariant-loop-n l = Filled (schedule l.block l.n) l.w (l.n + 16)

@@ -1,4 +1,4 @@
--- `sha1::ending::digest` meets its contract.
+-- `sha_1::ending::digest` meets its contract.
 -- Assumes nothing.
 use Rattle.sha_1.proofs.Written.{digest_of}
 use Rattle.sha_1.proofs.ending.digest.Goals as goal

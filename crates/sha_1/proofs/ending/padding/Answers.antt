@@ -1,4 +1,4 @@
--- `sha1::ending::padding` meets its contract.
+-- `sha_1::ending::padding` meets its contract.
 -- Assumes nothing.
 use Rattle.std.proofs.Common.{ℕ, ◌+◌, ap}
 use Rattle.sha_1.proofs.Written.{padding_of}

@@ -1,6 +1,6 @@
--- `sha1::ending::put_word` meets its contract.
+-- `sha_1::ending::put_word` meets its contract.
 -- Assumes nothing.
 use Rattle.sha_1.proofs.ending.put_word.Goals as goal
 
 pub returns : goal.returns
-returns c = rw c.bytes_of-bytes.ensures at c.put.ensures
+returns c = rw c.to_be_bytes.ensures at c.put.ensures

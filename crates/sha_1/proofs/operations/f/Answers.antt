@@ -1,17 +1,17 @@
--- `sha1::operations::f` meets its contract.
+-- `sha_1::operations::f` meets its contract.
 -- Assumes nothing.
-use Rattle.std.proofs.Common.{sym, ◌∙◌}
+use Rattle.std.proofs.Common.{sym, ◌∙◌, arith}
 use Rattle.sha_1.proofs.Rounds.{in_first, in_second, in_third, in_fourth}
 use Rattle.sha_1.proofs.operations.f.Goals as goal
 
-pub returns-then-t-lt20 : goal.returns-then-t-lt20
-returns-then-t-lt20 c = c.ch.ensures ∙ sym (in_first _ _ _ _ _ c.if-t-lt20.true)
+pub returns-in-0-to-19 : goal.returns-in-0-to-19
+returns-in-0-to-19 c = c.ch.ensures ∙ sym (in_first _ _ _ _ _ (omega arith))
 
-pub returns-then-t-lt40 : goal.returns-then-t-lt40
-returns-then-t-lt40 c = c.parity.ensures ∙ sym (in_second _ _ _ _ _ c.if-t-lt20.false c.if-t-lt40.true)
+pub returns-in-20-to-39 : goal.returns-in-20-to-39
+returns-in-20-to-39 c = c.parity.ensures ∙ sym (in_second _ _ _ _ _ (omega arith) (omega arith))
 
-pub returns-then-t-lt60 : goal.returns-then-t-lt60
-returns-then-t-lt60 c = c.maj.ensures ∙ sym (in_third _ _ _ _ _ c.if-t-lt40.false c.if-t-lt60.true)
+pub returns-in-40-to-59 : goal.returns-in-40-to-59
+returns-in-40-to-59 c = c.maj.ensures ∙ sym (in_third _ _ _ _ _ (omega arith) (omega arith))
 
-pub returns : goal.returns
-returns c = c.parity-2.ensures ∙ sym (in_fourth _ _ _ _ _ c.if-t-lt60.false)
+pub returns-in_default : goal.returns-in_default
+returns-in_default c = c.parity-in_default.ensures ∙ sym (in_fourth _ _ _ _ _ (omega arith))
