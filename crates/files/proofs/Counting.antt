@@ -60,6 +60,13 @@ module _ {call : Bytes → Outcome} {file : Bytes} {place n next : ℕ} (t : Tol
   pub told_inside : next ≤ length file
   told_inside = rw t.its_next (next_inside call file place t.line t.is)
 
+-- a walk comes nearer to the end with the line that was read
+pub nearer : (call : Bytes → Outcome) → NeverZero call → (file : Bytes) (place n f k start len next : ℕ) → Read n f k start len next ≡ line_said (line_at_over call file place)
+    → length file - next < length file - place
+nearer call never-zero file place n f k start len next q =
+    let t = told call never-zero file place n f k start len next q in
+    omega (arith, told_beyond t, told_inside t)
+
 -- ---- so many lines, and so many accepted ones, stand before the place
 pub record Counted (call : Bytes → Outcome) (file : Bytes) (lines accepted place : ℕ) : Type 0 where
   pub its_lines : length (walk_over call file) ≡ lines + length (rest call file place)
