@@ -15,6 +15,15 @@ use Rattle.reading.specs.Reading.{answer_of}
 use Rattle.files.specs.Walk.{line_said, totals_of}
 use Rattle.files.specs.declared.Line.TheVariants.{Finished, Read}
 
+-- the law of a form of files, as the laws of outcomes have it
+pub never_zero : {call : Bytes → Outcome} → ((line : Bytes) (field : ℕ) → call line ≡ refused 0 field → ⊥) → NeverZero call
+never_zero {call} law s = go (call s) (law s)
+  where
+    go : (o : Outcome) → ((field : ℕ) → o ≡ refused 0 field → ⊥) → Numbered o
+    go (accepted k fs) h = tt
+    go (refused zero i) h = h i refl
+    go (refused (suc n) i) h = tt
+
 -- ---- the number of a line: 0 is an accepted line's alone
 
 abbrev Counts : ℕ → Outcome → Type 0

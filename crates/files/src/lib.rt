@@ -2,11 +2,12 @@
 // any bytes and any place have an answer.
 #![tactic(auto)]
 
-ghost use Rattle.std.specs.Prelude.{◌≡◌};
+ghost use Rattle.std.specs.Prelude.{◌≡◌, ℕ};
+ghost use mathlib.Core.Path.{subst};
 ghost use Rattle.text.specs.Text.{Bytes};
-ghost use Rattle.format.specs.Read.{Outcome, read_record};
+ghost use Rattle.format.specs.Read.{Outcome, refused, read_record};
 ghost use Rattle.format.specs.Files.{line_at, walk, line_at_over, walk_over};
-ghost use Rattle.format.proofs.Outcomes.{NeverZero};
+ghost use Rattle.format.proofs.Outcomes.{Numbered};
 ghost use Rattle.format.proofs.Damage.{record_never_zero};
 ghost use Rattle.reading.specs.Reading.{answer_of};
 ghost use Rattle.files.specs.Walk.{line_end, last_line, line_said, next_of, totals_of};
@@ -57,7 +58,14 @@ pub struct Totals {
 pub fn line_end(file: &[u8], place: usize) -> usize
     ensures { result ≡ line_end file.now place }
 {
-    frame::next_mark(b'\n', file, place)
+    // document 01 names this form: a loop that yields the index by break
+    let mut i = place;
+    loop {
+        if i >= file.len() || file[i] == b'\n' {
+            break i;
+        }
+        i += 1;
+    }
 }
 
 // What is said at a place after which no line feed follows, in a file of so many bytes: that it is finished, or that its last line is not, 11.
@@ -84,7 +92,7 @@ pub trait Form {
     fn read(line: &[u8]) -> reading::Answer
         ensures { result ≡ answer_of (call line.now) };
 
-    ghost never_zero: { NeverZero call };
+    ghost never_zero: { (line : Bytes) (field : ℕ) → call line ≡ refused 0 field → ⊥ };
 
     // The line at a place: the call's answer for it, and where it stands. An unfinished last line answers 11, before any other number and at any
     // length; its next place is the end.
@@ -131,7 +139,7 @@ struct Plain;
 impl Form for Plain {
     ghost call = { read_record };
 
-    ghost never_zero = { record_never_zero };
+    ghost never_zero = { λ line field e. subst Numbered e (record_never_zero line) };
 
     fn read(line: &[u8]) -> reading::Answer {
         reading::read_record(line)
