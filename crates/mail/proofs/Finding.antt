@@ -8,30 +8,42 @@ use native.Mathlib.Omega.{arith}
 use lib.Dec.{eqb}
 use lib.ListN.{length, take, drop, drop_of_length-le}
 use lib.Seq.{take-add, drop-drop}
+use mathlib.Core.Logic.{inl, inr}
+use Rattle.std.specs.Borrow.{Bor}
+use Rattle.std.proofs.Common.{Option, None, Some}
+use Rattle.std.specs.Slice.{IsGetRangeResult}
+use Rattle.std.specs.Option.{unwrap_or}
 use Rattle.text.specs.Text.{Bytes, same}
 use Rattle.text.proofs.Tests.{less_or}
 use Rattle.format.specs.Files.{line_feed, up_to}
 use Rattle.format.proofs.Lines.{take_up_to}
 use Rattle.frame.specs.Frame.{next_mark}
-use Rattle.frame.proofs.Parts.{cut_at, cut_none, next_within}
-use Rattle.mail.specs.Mail.{lines_in, ends_line, is_begins, closed, opened}
+use Rattle.frame.proofs.Parts.{cut_at, cut_none, next_from, next_within}
+use Rattle.numbers.specs.Numbers.{missing_begins, missing_ends}
+use Rattle.mail.specs.Mail.{lines_in, ends_line, is_begins, missing, closed, opened}
 use Rattle.mail.specs.Steps.{line_from, Opens, feedless, rows_in, Closes}
 
 -- ---- the line at a place, and those after it
 
 module _ (text : Bytes) (i : ℕ) where
   -- as the code takes it
-  pub line_none : {e : ℕ} → e ≡ next_mark line_feed text i → length text < e → [] ≡ line_from text i
+  line_none : {e : ℕ} → e ≡ next_mark line_feed text i → length text < e → [] ≡ line_from text i
   line_none n h =
       less_or (length text) i
       (λ l. rw (drop_of_length-le text {i = i} (omega arith)))
       (λ l. absurd (omega (arith, h, n, next_within line_feed text i l)))
 
-  pub line_there : {e : ℕ} → e ≡ next_mark line_feed text i → take (e - i) (drop i text) ≡ line_from text i
+  line_there : {e : ℕ} → e ≡ next_mark line_feed text i → take (e - i) (drop i text) ≡ line_from text i
   unfolding next_mark
   line_there {e} n =
       let long : e - i ≡ length (line_from text i) = omega (arith, n) in
       rw long (take_up_to line_feed (drop i text))
+
+  -- as the library gives a range that may not be there
+  pub line_got : {e : ℕ} → e ≡ next_mark line_feed text i → (r : Option (Bor Bytes)) (none : Bor Bytes) → none.now ≡ [] → IsGetRangeResult text i e r → (unwrap_or r none).now ≡ line_from text i
+  line_got n None d z (inl h, there) = absurd (omega (arith, h, n, next_from line_feed text i))
+  line_got n None d z (inr h, there) = z ∙ line_none n h
+  line_got n (Some x) d z ((from, to, is, long), there) = is ∙ line_there n
 
   pub line_within : i < length text → {l : Bytes} → l ≡ line_from text i → i + length l ≤ length text
   unfolding next_mark
@@ -51,10 +63,10 @@ module _ (text : Bytes) (i : ℕ) (p : opened (lines_in text) ≡ opened (lines_
     opened_on b = p ∙ rw (lines_at text i h, ← is, b)
 
     pub opens_here : is_begins l ≡ true → Opens text i
-    opens_here b = record { passed = p; here = λ _. rw (← is) b }
+    opens_here b = record { inside = h; passed = p; here = rw (← is) b }
 
-  pub opens_end : length text ≤ i → Opens text i
-  opens_end h = record { passed = p; here = λ l. absurd (omega (arith, h, l)) }
+  pub opens_nowhere : length text ≤ i → opened (lines_in text) ≡ missing missing_begins
+  opens_nowhere h = p ∙ rw (cut_none line_feed text i h)
 
 -- ---- without line feeds
 
@@ -92,12 +104,8 @@ pub passed_none : (text : Bytes) (from : ℕ) (t : Bytes) → Passed text from t
 passed_none text from t = record { on = omega arith; rows = let z : from - from ≡ 0 = omega arith in rw z }
 
 module _ {text : Bytes} {from : ℕ} {t : Bytes} {i : ℕ} (p : Passed text from t i) where
-  pub closes_nowhere : length text ≤ i → Closes text from t i
-  closes_nowhere h = record {
-    further = p.on;
-    there = λ l. absurd (omega (arith, h, l));
-    nowhere = λ _. p.rows ∙ rw (cut_none line_feed text i h);
-  }
+  pub closes_nowhere : length text ≤ i → closed t [] (lines_in (drop from text)) ≡ missing missing_ends
+  closes_nowhere h = p.rows ∙ rw (cut_none line_feed text i h)
 
   module _ (h : i < length text) {l : Bytes} (is : l ≡ line_from text i) where
     pub passed_on : same l (ends_line t) ≡ false → Passed text from t (i + (length l + 1))
@@ -109,8 +117,4 @@ module _ {text : Bytes} {from : ℕ} {t : Bytes} {i : ℕ} (p : Passed text from
         }
 
     pub closes_there : same l (ends_line t) ≡ true → Closes text from t i
-    closes_there b = record {
-      further = p.on;
-      there = λ _. p.rows ∙ rw (lines_at text i h, ← is, b);
-      nowhere = λ z. absurd (omega (arith, h, z));
-    }
+    closes_there b = record { further = p.on; inside = h; there = p.rows ∙ rw (lines_at text i h, ← is, b) }
