@@ -1,6 +1,6 @@
 -- What the private functions of the crate answer. No clause of a document stands here.
 -- Assumes nothing.
-use Rattle.std.specs.Prelude.{ℕ, ◌+◌, ◌-◌, ◌≤◌, ◌<◌, ◌≡◌, true, cond, [], ◌∷◌, length, take, drop, eqb, Option, MatchOption}
+use Rattle.std.specs.Prelude.{ℕ, ◌+◌, ◌-◌, ◌≤◌, ◌<◌, ◌≡◌, Bool, true, false, cond, [], ◌∷◌, length, take, drop, eqb, Option, MatchOption}
 use Rattle.text.specs.Text.{Bytes}
 use Rattle.format.specs.Files.{line_feed, up_to}
 use Rattle.put.specs.Put.{Put}
@@ -9,6 +9,16 @@ use Rattle.mail.specs.Mail.{lines_in, is_begins, block, closed, opened}
 -- the line at place i of a text
 abbrev pub line_from : Bytes → ℕ → Bytes
 line_from text i = up_to line_feed (drop i text)
+
+-- the test says false of each line from place `from` on that stands before place i
+pub data Walked (Said : Bytes → Bool → Type 0) (text : Bytes) (from : ℕ) : ℕ → Type 0 where
+  none : Walked Said text from from
+  more : {i : ℕ} → Walked Said text from i → i < length text → Said (line_from text i) false → Walked Said text from (i + (length (line_from text i) + 1))
+
+-- the first line of which it says true
+abbrev pub Finds : (Bytes → Bool → Type 0) → Bytes → ℕ → Option ℕ → Type 0
+Finds Said text from r =
+    MatchOption r ((i : ℕ) × Walked Said text from i × (length text ≤ i)) (λ i. Walked Said text from i × (i < length text) × Said (line_from text i) true)
 
 -- the lines before place i are passed over, and at i stands a BEGINS line
 pub record Opens (text : Bytes) (i : ℕ) : Type 0 where

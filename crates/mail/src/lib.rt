@@ -3,6 +3,7 @@
 #![tactic(auto)]
 
 ghost use Rattle.std.specs.Prelude.{◌≡◌, [], ◌∷◌, ◌++◌, ◌+◌, ◌≤◌, length, drop, MatchOption};
+ghost use Rattle.std.specs.Fn.{FnReturnsAt};
 ghost use Rattle.text.specs.Text.{same};
 ghost use Rattle.format.specs.Build.{joined};
 ghost use Rattle.format.specs.Files.{line_feed};
@@ -10,7 +11,7 @@ ghost use Rattle.put.specs.Put.{Put};
 ghost use Rattle.put.specs.Made.{Writes};
 ghost use Rattle.numbers.specs.Numbers.{missing_begins, missing_ends};
 ghost use Rattle.mail.specs.Mail.{lines_in, guard, rectype_in, is_begins, folded, block_of, block, missing, closed, opened, write_mail, read_found, read_mail};
-ghost use Rattle.mail.specs.Steps.{line_from, Opens, Closes, feedless, Added};
+ghost use Rattle.mail.specs.Steps.{line_from, Finds, Opens, Closes, feedless, Added};
 
 // The characters of a full row.
 const ROW: usize = 64;
@@ -120,14 +121,15 @@ fn is_begins(line: &[u8]) -> bool
     text::is_ident(rectype) && is_guard(line, b" BEGINS--", rectype)
 }
 
-// Where the first BEGINS line starts.
-fn begins_at(text: &[u8]) -> Option<usize>
-    ensures { MatchOption result (opened (lines_in text.now) ≡ missing missing_begins) (Opens text.now) }
+// Where the first line that passes the test starts, from the line at `from` on. The loop goes by places, which the lines that `split` gives do not have.
+fn line_where<F: Fn(&[u8]) -> bool>(text: &[u8], from: usize, passes: F) -> Option<usize>
+    requires { F.IsAlwaysCallable passes }
+    ensures { Finds (FnReturnsAt F.Fn passes) text.now from result }
 {
-    let mut at = 0;
+    let mut at = from;
     while at < text.len() {
         let line = line_from(text, at);
-        if is_begins(line) {
+        if passes(line) {
             return Some(at);
         }
         at += line.len() + 1;
@@ -135,19 +137,18 @@ fn begins_at(text: &[u8]) -> Option<usize>
     None
 }
 
+// Where the first BEGINS line starts.
+fn begins_at(text: &[u8]) -> Option<usize>
+    ensures { MatchOption result (opened (lines_in text.now) ≡ missing missing_begins) (Opens text.now) }
+{
+    line_where(text, 0, is_begins)
+}
+
 // Where the first ENDS line of this record type starts, from the line at `from` on.
 fn ends_at(text: &[u8], from: usize, rectype: &[u8]) -> Option<usize>
     ensures { MatchOption result (closed rectype.now [] (lines_in (drop from text.now)) ≡ missing missing_ends) (Closes text.now from rectype.now) }
 {
-    let mut place = from;
-    while place < text.len() {
-        let line = line_from(text, place);
-        if is_guard(line, b" ENDS--", rectype) {
-            return Some(place);
-        }
-        place += line.len() + 1;
-    }
-    None
+    line_where(text, from, |line| is_guard(line, b" ENDS--", rectype))
 }
 
 // ---- unfolding
@@ -199,11 +200,11 @@ fn give(record: &[u8], rectype: &[u8], out: &mut [u8]) -> put::Written
     }
 }
 
-// The record must be whole before anything may be written into the lent output, so it is joined in an array of its own.
+// The record must be whole before anything may be written into the lent output, so it is joined in an array of its own, whose
+// length is fixed: there is no heap.
 fn read_rows(rows: &[u8], rectype: &[u8], out: &mut [u8]) -> put::Written
     ensures { Writes (read_found (length out.old) (block rectype.now (feedless rows.now))) out.old out.new result }
 {
-    // fixed memory: a project without a heap joins the rows in an array as long as the longest record
     let mut joined = [0u8; reading::LONGEST];
     let Some(len) = unfold(&mut joined, rows) else {
         return put::refuse(numbers::TOO_LONG, 0);
