@@ -1,20 +1,28 @@
 -- Bytes of a place: where it stands, what is written there, and the names in it, as the code looks at them.
 -- Assumes nothing.
-use Prim.Native.Nat.{ℕ, zero, suc, ◌+◌, ◌-◌, ◌*◌, ◌≤◌, ◌<◌}
+use Prim.Native.Nat.{ℕ, ◌+◌, ◌-◌, ◌*◌, ◌≤◌, ◌<◌}
 use Prim.Native.Char.{code}
 use mathlib.Core.Path.{◌≡◌, refl, sym, ap, ap₂, ◌∙◌}
-use mathlib.Core.Bool.{Bool, false}
+use mathlib.Core.Logic.{inl, inr}
+use mathlib.Core.Bool.{Bool, ◌&&◌}
 use mathlib.Core.List.{[], ◌∷◌, ◌++◌, append_assoc, append-nil}
 use native.Mathlib.Omega.{arith}
-use native.Mathlib.Numerals.{add-one}
-use lib.ListN.{length, take, drop, get_or, set, length-append, length-take, length-drop, drop_of_length-le, take-append-drop, get_or-eq_default}
-use lib.Seq.{drop-drop, drop_at, drop-append-le, take_all, take_at, take-add, take-append-add, take-take, length-take-le, paste, paste-zero, paste-suc, length-paste}
-use lib.Dec.{eqb}
-use borrow.Author.Tests.{ne_eqb, le-leb, lt-leb}
+use lib.ListN.{length, take, drop, length-append, length-drop, drop_of_length-le, take-append-drop}
+use lib.Seq.{drop-drop, drop_at, drop-append-le, take_at, take-add, take-append-add, take-take, length-take-le}
+use lib.Dec.{eqb, eqb→eq}
+use lib.Pointwise.{pointwise}
+use mir.Facts.{T_not, yes_eqb}
+use borrow.Author.Tests.{eq-eqb, ne_eqb, le-leb, lt-leb}
 use borrow.Rule.Slice.PartMut.{put_mid}
+use Rattle.std.specs.Option.{unwrap_or}
+use Rattle.std.specs.Slice.{IsGetRangeResult}
+use Rattle.std.specs.List.{starts_with}
+use Rattle.std.specs.Borrow.{Bor}
+use Rattle.std.proofs.Common.{Option, None, Some}
 use Rattle.text.specs.Text.{Bytes, same}
 use Rattle.text.specs.Seconds.{start}
-use Rattle.text.proofs.Tests.{same_false}
+use Rattle.text.proofs.Tests.{T_true, T_false, by_test}
+use Rattle.text.proofs.Loops.{rest_all}
 use Rattle.frame.specs.Frame.{part_start}
 use Rattle.shelf.specs.Cabinet.{zeros}
 use Rattle.shelf.proofs.Images.{length_zeros}
@@ -40,52 +48,6 @@ length_padded n t l = length-append t (zeros (n - length t)) ∙ omega (arith, l
 -- a text of that length is itself
 pub padded_whole : (n : ℕ) (t : Bytes) → length t ≡ n → padded n t ≡ t
 padded_whole n t e = let z : n - length t ≡ 0 = omega arith in rw z (append-nil t)
-
-get_d_zeros : (n i : ℕ) → get_or (zeros n) i 0 ≡ 0
-get_d_zeros zero zero = refl
-get_d_zeros zero (suc i) = refl
-get_d_zeros (suc n) zero = refl
-get_d_zeros (suc n) (suc i) = get_d_zeros n i
-
-get_d_padded : (t : Bytes) (m j : ℕ) → get_or (t ++ zeros m) j 0 ≡ get_or t j 0
-get_d_padded [] m j = get_d_zeros m j ∙ sym (get_or-eq_default [] 0 {n = j} (omega arith))
-get_d_padded (c ∷ t) m zero = refl
-get_d_padded (c ∷ t) m (suc j) = get_d_padded t m j
-
--- j bytes are written
-pub record Filled (o t out : Bytes) (j : ℕ) : Type 0 where
-  pub short : length t ≤ length o
-  pub within : j ≤ length o
-  pub written : out ≡ paste o 0 (padded (length o) t) j
-
-pub filled_none : (o t : Bytes) → length t ≤ length o → Filled o t o 0
-filled_none o t l = record { short = l; within = omega arith; written = paste-zero o 0 (padded (length o) t) }
-
-pub filled_length : {o t out : Bytes} {j : ℕ} → Filled o t out j → length out ≡ length o
-filled_length {o} {t} {out} {j} f =
-    ap length f.written ∙ length-paste o 0 (padded (length o) t) j (omega (arith, f.within)) (omega (arith, f.within, length_padded (length o) t f.short))
-
-pub filled_more : {o t out : Bytes} {j b : ℕ} → Filled o t out j → j < length out → b ≡ get_or t j 0 → Filled o t (set out j b) (j + 1)
-filled_more {o} {t} {out} {j} {b} f l e =
-    let l' : j < length o = omega (arith, filled_length f) in
-    record {
-      short = f.short;
-      within = omega arith;
-      written =
-          ap₂ (λ (x : Bytes) (y : ℕ). set x j y) f.written (e ∙ sym (get_d_padded t (length o - length t) j))
-          ∙ ap (λ (n : ℕ). set (paste o 0 (padded (length o) t) j) n (get_or (padded (length o) t) j 0)) (omega arith)
-          ∙ paste-suc o 0 (padded (length o) t) j 0 (omega arith) (omega (arith, length_padded (length o) t f.short))
-          ∙ ap (paste o 0 (padded (length o) t)) (sym (add-one j));
-    }
-
-pub filled_all : {o t out : Bytes} {j : ℕ} → Filled o t out j → length out ≤ j → out ≡ padded (length o) t
-filled_all {o} {t} {out} {j} f l =
-    let w = padded (length o) t in
-    let e : j ≡ length o = omega (arith, f.within, filled_length f) in
-    let n = length_padded (length o) t f.short in
-    f.written
-    ∙ ap₂ (λ (x y : Bytes). x ++ y) (take_all j w (omega arith)) (drop_of_length-le o {i = 0 + j} (omega arith))
-    ∙ append-nil w
 
 -- ---- text and number in a place, where the TVP between them stays
 
@@ -249,20 +211,30 @@ pub names_there : (s : Bytes) {n : ℕ} → n ≡ part_start (code ":") s 3 → 
 unfolding names_in
 names_there s {n} e l = rw (le-leb (part_start (code ":") s 3) (length s) (rw e at l)) (let m : n - 0 ≡ part_start (code ":") s 3 = omega (arith, e) in rw m)
 
-module _ (s v : Bytes) {n : ℕ} (e : n ≡ part_start (code "|") s 1) where
-  pub starts_past : length s < n → eqb (length v) 0 ≡ starts_so s v
-  unfolding starts_so
-  starts_past l = sym (rw (← e) (ap (λ (x : Bytes). same (take (length v) x) v) (drop_of_length-le s {i = n} (omega arith)) ∙ go v))
-    where
-      go : (u : Bytes) → same (take (length u) []) u ≡ eqb (length u) 0
-      go [] = refl
-      go (c ∷ u) = sym (ne_eqb (length (c ∷ u)) 0 (λ z. omega arith))
+-- as the code takes them from a range that may not be there
+pub names_got : (s : Bytes) {n : ℕ} → n ≡ part_start (code ":") s 3 → (r : Option (Bor Bytes)) (d : Bor Bytes) → d.now ≡ [] → IsGetRangeResult s 0 n r → (unwrap_or r d).now ≡ names_in s
+names_got s e None d z (inl h, there) = absurd (omega arith)
+names_got s e None d z (inr h, there) = z ∙ names_short s e h
+names_got s e (Some x) d z ((from, to, is, long), there) = is ∙ names_there s e to
 
-  pub starts_short : n ≤ length s → length s - n < length v → false ≡ starts_so s v
-  unfolding starts_so
-  starts_short l h =
-      sym (rw (← e) (same_false (take (length v) (drop n s)) v (λ q. omega (arith, ap length q, length-take (length v) (drop n s), length-drop n s))))
+-- what stands from place n on, and nothing past the end
+pub rest_got : (s : Bytes) {n : ℕ} (r : Option (Bor Bytes)) (d : Bor Bytes) → d.now ≡ [] → IsGetRangeResult s n (length s) r → (unwrap_or r d).now ≡ drop n s
+rest_got s {n} None d z (inl h, there) = z ∙ sym (drop_of_length-le s {i = n} (omega arith))
+rest_got s None d z (inr h, there) = absurd (omega arith)
+rest_got s {n} (Some x) d z ((from, to, is, long), there) = is ∙ rest_all s n
 
-  pub starts_there : {b : Bool} → b ≡ same (take (n + length v - n) (drop n s)) v → b ≡ starts_so s v
-  unfolding starts_so
-  starts_there h = h ∙ (let k : n + length v - n ≡ length v = omega arith in rw (k, e))
+eqb_swap : (a b : ℕ) → eqb a b ≡ eqb b a
+eqb_swap a b =
+    by_test (eqb a b)
+    (λ t. T_true (eqb a b) t ∙ sym (eq-eqb b a (sym (eqb→eq a b t))))
+    (λ t. T_false (eqb a b) t ∙ sym (ne_eqb b a (λ e. T_not (eqb a b) (yes_eqb (sym e)) t)))
+
+same_swap : (s v : Bytes) → pointwise eqb v s ≡ same s v
+same_swap [] [] = refl
+same_swap [] (d ∷ v) = refl
+same_swap (c ∷ s) [] = refl
+same_swap (c ∷ s) (d ∷ v) = ap₂ (λ (x y : Bool). x && y) (eqb_swap d c) (same_swap s v)
+
+pub starts_there : (s v : Bytes) {n : ℕ} → n ≡ part_start (code "|") s 1 → {x : Bytes} → x ≡ drop n s → starts_with eqb x v ≡ starts_so s v
+unfolding starts_so
+starts_there s v e q = same_swap (take (length v) _) v ∙ rw (q, e)

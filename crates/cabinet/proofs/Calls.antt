@@ -495,5 +495,8 @@ module _ (s q : Bytes) where
 
 -- ---- what the functions need
 
+pub below : {i : ℕ} → i < 64 → i ≡ 64 → ⊥
+below l e = absurd (omega arith)
+
 pub its_size : (s : Bytes) → true ≡ is_some (shelf s) → length s ≡ 65536
 its_size s e = (some_there s e).2.long

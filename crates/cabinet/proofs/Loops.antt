@@ -2,7 +2,6 @@
 -- Assumes nothing.
 use Prim.Native.Nat.{ℕ, zero, suc, ◌+◌, ◌-◌, ◌≤◌, ◌<◌}
 use mathlib.Core.Path.{◌≡◌, refl, sym, ap, ◌∙◌}
-use mathlib.Core.Logic.{◌≢◌}
 use mathlib.Core.Bool.{Bool, true, false, not, cond, ◌&&◌, and-true, and_assoc}
 use native.Mathlib.Omega.{arith}
 use native.Mathlib.Numerals.{add-one}
@@ -14,7 +13,9 @@ use mir.Facts.{T_not, yes_eqb}
 use borrow.Author.Tests.{eq-eqb, ne_eqb, not-true}
 use Rattle.text.proofs.Tests.{T_true, T_false, by_test}
 use Rattle.text.specs.Text.{Bytes, every}
-use Rattle.cabinet.specs.Steps.{is_zero, first, first_from, all_pass, is_free_at, is_held_at, occupied_of}
+use Rattle.std.specs.Option.{is_some}
+use Rattle.std.proofs.Common.{Option, None, Some}
+use Rattle.cabinet.specs.Steps.{is_zero, first, first_from, Among, all_pass, is_free_at, is_held_at, occupied_of}
 
 -- ---- the first place that passes the test
 
@@ -33,12 +34,19 @@ pub sought_on : {t : ℕ → Bool} {from i : ℕ} → Sought t from i → i < 64
 sought_on {t} {from} {i} k l e =
     record { within = omega arith; so_far = k.so_far ∙ next t i l ∙ rw e (ap (first_from t) (sym (add-one i))) }
 
-pub sought_here : {t : ℕ → Bool} {from i : ℕ} → Sought t from i → i < 64 → t i ≡ true → i ≡ first_from t from
-sought_here {t} {from} {i} k l e = sym (k.so_far ∙ next t i l ∙ rw e)
+pub sought_here : {t : ℕ → Bool} {from i : ℕ} → Sought t from i → i < 64 → t i ≡ true → (i ≡ first_from t from) × (i < 64)
+sought_here {t} {from} {i} k l e = (sym (k.so_far ∙ next t i l ∙ rw e), l)
 
-pub sought_end : {t : ℕ → Bool} {from i : ℕ} → Sought t from i → 64 ≤ i → i ≡ first_from t from
+pub sought_end : {t : ℕ → Bool} {from i : ℕ} → Sought t from i → 64 ≤ i → first_from t from ≡ 64
 unfolding first
-sought_end {t} {from} {i} k l = sym (k.so_far ∙ (let e : 64 - i ≡ 0 = omega arith in rw e))
+sought_end {t} {from} {i} k l = let w = k.within in k.so_far ∙ (let e : 64 - i ≡ 0 = omega arith in rw e (omega arith))
+
+-- whether none was found
+pub none_among : (n : ℕ) (r : Option ℕ) {b : Bool} → Among n r → is_some r ≡ not b → b ≡ eqb n 64
+none_among n None {b = true} e q = sym (eq-eqb n 64 e)
+none_among n None {b = false} e q = let z : ◌≡◌ {A = ℕ} 0 1 = cc in absurd (omega arith)
+none_among n (Some i) {b = true} e q = let z : ◌≡◌ {A = ℕ} 0 1 = cc in absurd (omega arith)
+none_among n (Some i) {b = false} (e, l) q = sym (ne_eqb n 64 (λ f. omega arith))
 
 -- ---- every place passes it
 
@@ -49,10 +57,10 @@ pub passed_on : (t : ℕ → Bool) {i : ℕ} → Passed t i → i < 64 → t i �
 passed_on t k l e = sought_on k l (ap not e)
 
 pub passed_not : (t : ℕ → Bool) {i : ℕ} → Passed t i → i < 64 → t i ≡ false → false ≡ all_pass t
-passed_not t {i} k l e = let f = sought_here k l (ap not e) in sym (ne_eqb (first_from (λ j. not (t j)) 0) 64 (λ z. omega arith))
+passed_not t {i} k l e = let f = (sought_here k l (ap not e)).0 in sym (ne_eqb (first_from (λ j. not (t j)) 0) 64 (λ z. omega arith))
 
 pub passed_all : (t : ℕ → Bool) {i : ℕ} → Passed t i → 64 ≤ i → true ≡ all_pass t
-passed_all t {i} k l = let f = sought_end k l in let w = k.within in sym (eq-eqb (first_from (λ j. not (t j)) 0) 64 (omega arith))
+passed_all t k l = sym (eq-eqb (first_from (λ j. not (t j)) 0) 64 (sought_end k l))
 
 -- ---- how many are occupied
 
@@ -63,18 +71,6 @@ first_after t (suc n) i =
     by_test (t i)
     (λ h. rw (T_true (t i) h) (omega arith))
     (λ h. rw (T_false (t i) h) (omega (arith, first_after t n (suc i))))
-
-first_before : (t : ℕ → Bool) (n i : ℕ) → first t n i ≤ i + n
-unfolding first
-first_before t zero i = omega arith
-first_before t (suc n) i =
-    by_test (t i)
-    (λ h. rw (T_true (t i) h) (omega arith))
-    (λ h. rw (T_false (t i) h) (omega (arith, first_before t n (suc i))))
-
--- a place that was found, of all 64
-pub found_below : (t : ℕ → Bool) {i : ℕ} → i ≡ first_from t 0 → (i ≡ 64 → ⊥) → i < 64
-found_below t {i} e n = let n' : i ≢ 64 = n in omega (arith, first_before t 64 0)
 
 first_passes : (t : ℕ → Bool) (n i : ℕ) → first t n i < i + n → t (first t n i) ≡ true
 unfolding first
@@ -95,25 +91,18 @@ tally_skip s (suc n) i =
     (λ h. let e : i + suc n ≡ suc i + n = omega arith in rw (T_true (is_free_at s i) h, e) (omega (arith, tally_skip s n (suc i))))
     (λ h. let e : i + suc n - i ≡ suc n = omega arith in rw (T_false (is_free_at s i) h, e) (rw (T_false (is_free_at s i) h)))
 
--- the next that is occupied is at place `at`, and so many are before it
-pub record Tallied (s : Bytes) (at count : ℕ) : Type 0 where
-  pub few : count ≤ at
-  pub here : at < 64 → is_held_at s at ≡ true
-  pub so_far : count + occupied_of s (64 - at) at ≡ occupied_of s 64 0
+-- so many are before place `from`
+pub record Tallied (s : Bytes) (from count : ℕ) : Type 0 where
+  pub few : count ≤ from
+  pub within : from ≤ 64
+  pub so_far : count + occupied_of s (64 - from) from ≡ occupied_of s 64 0
 
--- from place i on, behind so many
-tallied_from : (s : Bytes) (i count : ℕ) → i ≤ 64 → count ≤ i → count + occupied_of s (64 - i) i ≡ occupied_of s 64 0 → {at : ℕ} → at ≡ first_from (is_held_at s) i → Tallied s at count
-tallied_from s i count l f e {at} a =
-    let n : i + (64 - i) ≡ 64 = omega arith in
-    let skip : occupied_of s (64 - i) i ≡ occupied_of s (64 - at) at = tally_skip s (64 - i) i ∙ rw (n, ← a) in
-    record {
-      few = omega (arith, first_after (is_held_at s) (64 - i) i);
-      here = λ m. rw a (first_passes (is_held_at s) (64 - i) i (omega (arith, a)));
-      so_far = omega (arith, e);
-    }
+pub tallied_none : (s : Bytes) → Tallied s 0 0
+tallied_none s = record { few = omega arith; within = omega arith; so_far = omega arith }
 
-pub tallied_none : (s : Bytes) {at : ℕ} → at ≡ first_from (is_held_at s) 0 → Tallied s at 0
-tallied_none s a = tallied_from s 0 0 (omega arith) (omega arith) (omega arith) a
+-- none of those before the next that is occupied
+tally_on : (s : Bytes) {from at : ℕ} → from ≤ 64 → at ≡ first_from (is_held_at s) from → occupied_of s (64 - from) from ≡ occupied_of s (64 - at) at
+tally_on s {from} l a = let n : from + (64 - from) ≡ 64 = omega arith in tally_skip s (64 - from) from ∙ rw (n, ← a)
 
 tally_one : (s : Bytes) (at : ℕ) → at < 64 → is_held_at s at ≡ true → occupied_of s (64 - at) at ≡ 1 + occupied_of s (64 - (at + 1)) (at + 1)
 unfolding occupied_of
@@ -121,17 +110,23 @@ tally_one s at l h =
     let e : 64 - at ≡ suc (64 - (at + 1)) = omega arith in
     rw (e, not-true (is_free_at s at) h, add-one at)
 
-pub tallied_more : (s : Bytes) {at count next : ℕ} → Tallied s at count → at < 64 → next ≡ first_from (is_held_at s) (at + 1) → Tallied s next (count + 1)
-tallied_more s {at} {count} k l a =
-    let one = tally_one s at l (k.here l) in
-    tallied_from s (at + 1) (count + 1) (omega arith) (omega (arith, k.few)) (omega (arith, k.so_far)) a
+module _ {s : Bytes} {from count at : ℕ} (k : Tallied s from count) (a : at ≡ first_from (is_held_at s) from) where
+  pub next_after : from ≤ at
+  next_after = omega (arith, first_after (is_held_at s) (64 - from) from)
 
-pub next_after : (s : Bytes) {at next : ℕ} → next ≡ first_from (is_held_at s) (at + 1) → at < next
-next_after s {at} a = omega (arith, first_after (is_held_at s) (64 - (at + 1)) (at + 1))
+  pub tallied_more : at < 64 → Tallied s (at + 1) (count + 1)
+  tallied_more l =
+      let w = k.within in
+      let here : is_held_at s at ≡ true = rw a (first_passes (is_held_at s) (64 - from) from (omega (arith, a))) in
+      record {
+        few = omega (arith, k.few, next_after);
+        within = omega arith;
+        so_far = omega (arith, k.so_far, tally_on s w a, tally_one s at l here);
+      }
 
-pub tallied_all : {s : Bytes} {at count : ℕ} → Tallied s at count → 64 ≤ at → count ≡ occupied_of s 64 0
+pub tallied_all : {s : Bytes} {from count : ℕ} → Tallied s from count → first_from (is_held_at s) from ≡ 64 → count ≡ occupied_of s 64 0
 unfolding occupied_of
-tallied_all {s} {at} {count} k l = let e : 64 - at ≡ 0 = omega arith in sym (sym k.so_far ∙ rw e (omega arith))
+tallied_all {s} k e = omega (arith, k.so_far, tally_on s k.within (sym e))
 
 -- ---- all bytes are zeros: what was seen before i is in d
 

@@ -1,6 +1,7 @@
 -- What the private functions of the crate answer, by the bytes of the places. No clause of a document stands here.
 -- Assumes nothing.
-use Rattle.std.specs.Prelude.{ℕ, zero, suc, ◌+◌, ◌-◌, ◌*◌, ◌≤◌, ◌<◌, ◌≡◌, Bool, true, false, not, cond, List, [], ◌++◌, length, take, drop, get_or, leb, eqb}
+use Rattle.std.specs.Prelude.{ℕ, zero, suc, ◌+◌, ◌-◌, ◌*◌, ◌≤◌, ◌<◌, ◌≡◌, Bool, true, false, not, cond, List, [], ◌++◌, length, take, drop, get_or, leb, eqb, MatchOption}
+use Rattle.std.specs.Prelude as prelude
 use Prim.Native.Char.{code}
 use Rattle.std.proofs.Math.Option.{Option, none, some}
 use Rattle.text.specs.Text.{Bytes, same}
@@ -79,6 +80,10 @@ first t (suc n) i = cond (t i) i (first t n (suc i))
 -- of the places from i on
 abbrev pub first_from : (ℕ → Bool) → ℕ → ℕ
 first_from t i = first t (64 - i) i
+
+-- place n, and none where n is 64, as the code answers it
+abbrev pub Among : ℕ → prelude.Option ℕ → Type 0
+Among n r = MatchOption r (n ≡ 64) (λ i. (i ≡ n) × (i < 64))
 
 -- place i; 64 where there is none, or where its record is old
 unfoldable pub unless_old_at : Bytes → ℕ → ℕ

@@ -12,7 +12,7 @@ ghost use Rattle.std.specs.Prelude.{◌≡◌, ◌+◌, ◌-◌, ◌≤◌, ◌<
 ghost use Rattle.text.specs.Text.{every};
 ghost use Rattle.shelf.specs.Cabinet.{decode, shelf, make_cabinet, put_key, remove_key, admit, find_key};
 ghost use Rattle.cabinet.specs.Cabinet.{Files, counted, checked, FindSaid, FindPart};
-ghost use Rattle.cabinet.specs.Steps.{is_zero, is_place, is_some, part_at, first_from, current_of, all_pass, has_names, is_place_at, is_free_at, is_held_at, alone_at, occupied_of, Sized, PlaceIn};
+ghost use Rattle.cabinet.specs.Steps.{is_zero, is_place, is_some, part_at, first_from, Among, current_of, all_pass, has_names, is_place_at, is_free_at, is_held_at, alone_at, occupied_of, Sized, PlaceIn};
 
 pub const PLACES: usize = 64;
 
@@ -55,10 +55,8 @@ fn are_zeros(s: &[u8]) -> bool
     ensures { result ≡ every is_zero s.now }
 {
     let mut seen = 0u8;
-    let mut i = 0;
-    while i < s.len() {
-        seen = seen | s[i];
-        i += 1;
+    for byte in s {
+        seen |= *byte;
     }
     seen == 0
 }
@@ -72,21 +70,12 @@ fn is_place(place: &[u8]) -> bool
     if len == 0 {
         return are_zeros(place);
     }
-    if TVP_AT < len {
-        return false;
-    }
-    if !are_zeros(&place[len..TVP_AT]) {
-        return false;
-    }
-    if !tvps::is_tvp(&place[TVP_AT..NUMBER_AT]) {
+    if TVP_AT < len || !are_zeros(&place[len..TVP_AT]) || !tvps::is_tvp(&place[TVP_AT..NUMBER_AT]) {
         return false;
     }
     let expiry = expiry::expiry_under(format::Rules::UpToE10, &place[0..len]);
-    if expiry.no != numbers::ACCEPTED {
-        return false;
-    }
     let number = text::seconds_bytes(expiry.seconds);
-    text::are_same(&place[NUMBER_AT..], &number)
+    expiry.no == numbers::ACCEPTED && text::are_same(&place[NUMBER_AT..], &number)
 }
 
 // Place i of a cabinet, from 0.
@@ -101,34 +90,29 @@ fn place_at<'a>(cabinet: &'a [u8], i: usize) -> &'a [u8]
 
 // ---- all places
 
-// The lowest place at or after `from` whose record has these names, or PLACES.
-fn place_of(cabinet: &[u8], from: usize, names: &[u8]) -> usize
+// The lowest place at or after `from` whose record has these names.
+fn place_of(cabinet: &[u8], from: usize, names: &[u8]) -> Option<usize>
     requires { Sized cabinet.now × (from ≤ 64) }
-    ensures { result ≡ first_from (has_names cabinet.now names.now) from }
+    ensures { Among (first_from (has_names cabinet.now names.now) from) result }
 {
-    let mut i = from;
-    while i < PLACES {
+    for i in from..PLACES {
         if naming::has_names(place_at(cabinet, i), names) {
-            return i;
+            return Some(i);
         }
-        i += 1;
     }
-    i
+    None
 }
 
-// The place of the record with these names; PLACES where there is none, or where it is old.
-fn current_of(cabinet: &[u8], names: &[u8]) -> usize
+// The place of the record with these names, unless it is old.
+fn current_of(cabinet: &[u8], names: &[u8]) -> Option<usize>
     requires { Sized cabinet.now }
-    ensures { result ≡ current_of cabinet.now names.now }
+    ensures { Among (current_of cabinet.now names.now) result }
 {
-    let its = place_of(cabinet, 0, names);
-    if its == PLACES {
-        return PLACES;
-    }
+    let its = place_of(cabinet, 0, names)?;
     if ages::is_old(place_at(cabinet, its)) {
-        return PLACES;
+        return None;
     }
-    its
+    Some(its)
 }
 
 // Whether every place is all zeros or holds a record.
@@ -136,12 +120,10 @@ fn are_places(cabinet: &[u8]) -> bool
     requires { Sized cabinet.now }
     ensures { result ≡ all_pass (is_place_at cabinet.now) }
 {
-    let mut i = 0;
-    while i < PLACES {
+    for i in 0..PLACES {
         if !is_place(place_at(cabinet, i)) {
             return false;
         }
-        i += 1;
     }
     true
 }
@@ -152,10 +134,7 @@ fn is_alone(cabinet: &[u8], i: usize) -> bool
     ensures { result ≡ alone_at cabinet.now i }
 {
     let place = place_at(cabinet, i);
-    if place[0] == 0 {
-        return true;
-    }
-    place_of(cabinet, i + 1, naming::names_in(naming::subject_in(place))) == PLACES
+    place[0] == 0 || place_of(cabinet, i + 1, naming::names_in(naming::subject_in(place))).is_none()
 }
 
 // Whether no two places share their names.
@@ -163,12 +142,10 @@ fn are_distinct(cabinet: &[u8]) -> bool
     requires { Sized cabinet.now }
     ensures { result ≡ all_pass (alone_at cabinet.now) }
 {
-    let mut i = 0;
-    while i < PLACES {
+    for i in 0..PLACES {
         if !is_alone(cabinet, i) {
             return false;
         }
-        i += 1;
     }
     true
 }
@@ -179,40 +156,33 @@ fn is_cabinet(cabinet: &[u8]) -> bool
     if cabinet.len() != SIZE {
         return false;
     }
-    if !are_places(cabinet) {
-        return false;
-    }
-    are_distinct(cabinet)
+    are_places(cabinet) && are_distinct(cabinet)
 }
 
-// The lowest free place, or PLACES.
-fn free_at(cabinet: &[u8]) -> usize
+// The lowest free place.
+fn free_at(cabinet: &[u8]) -> Option<usize>
     requires { Sized cabinet.now }
-    ensures { result ≡ first_from (is_free_at cabinet.now) 0 }
+    ensures { Among (first_from (is_free_at cabinet.now) 0) result }
 {
-    let mut i = 0;
-    while i < PLACES {
+    for i in 0..PLACES {
         if cabinet[i * WIDTH] == 0 {
-            return i;
+            return Some(i);
         }
-        i += 1;
     }
-    i
+    None
 }
 
-// The lowest occupied place at or after `from`, or PLACES.
-fn occupied_from(cabinet: &[u8], from: usize) -> usize
+// The lowest occupied place at or after `from`.
+fn occupied_from(cabinet: &[u8], from: usize) -> Option<usize>
     requires { Sized cabinet.now × (from ≤ 64) }
-    ensures { result ≡ first_from (is_held_at cabinet.now) from }
+    ensures { Among (first_from (is_held_at cabinet.now) from) result }
 {
-    let mut at = from;
-    while at < PLACES {
+    for at in from..PLACES {
         if cabinet[at * WIDTH] != 0 {
-            return at;
+            return Some(at);
         }
-        at += 1;
     }
-    at
+    None
 }
 
 // How many places are occupied, each looked for behind the one before it: of a loop that looked at them all LLVM would make
@@ -222,10 +192,10 @@ fn occupied_in(cabinet: &[u8]) -> usize
     ensures { result ≡ occupied_of cabinet.now 64 0 }
 {
     let mut count = 0;
-    let mut at = occupied_from(cabinet, 0);
-    while at < PLACES {
+    let mut from = 0;
+    while let Some(at) = occupied_from(cabinet, from) {
         count += 1;
-        at = occupied_from(cabinet, at + 1);
+        from = at + 1;
     }
     count
 }
@@ -239,8 +209,7 @@ pub fn make_cabinet(cabinet: &mut [u8]) -> Filed
     if cabinet.len() != SIZE {
         return file(numbers::NOT_CABINET, 0);
     }
-    let none = [0u8; 1];
-    writing::fill(cabinet, &none[0..0]);
+    writing::fill(cabinet, &[]);
     file(numbers::ACCEPTED, 0)
 }
 
@@ -285,18 +254,16 @@ pub fn put_key(cabinet: &mut [u8], record: &[u8]) -> Filed
     }
     let number = text::seconds_bytes(expiry.seconds);
     let subject = naming::subject_in(record);
-    let its = place_of(cabinet, 0, naming::names_in(subject));
-    if its < PLACES {
+    if let Some(its) = place_of(cabinet, 0, naming::names_in(subject)) {
         if !naming::is_later_than(subject, place_at(cabinet, its)) {
             return file(numbers::NOT_LATER, 0);
         }
         writing::write_key(cabinet, its, record, &number);
         return file(numbers::ACCEPTED, 0);
     }
-    let free = free_at(cabinet);
-    if free == PLACES {
+    let Some(free) = free_at(cabinet) else {
         return file(numbers::NO_PLACE, 0);
-    }
+    };
     writing::write_place(cabinet, free, record, &tvps::START, &number);
     file(numbers::ACCEPTED, 0)
 }
@@ -313,12 +280,10 @@ pub fn remove_key(cabinet: &mut [u8], identity: &[u8]) -> Filed
     if answer.no != numbers::ACCEPTED {
         return file(answer.no, answer.field);
     }
-    let its = place_of(cabinet, 0, naming::names_in(identity));
-    if its == PLACES {
+    let Some(its) = place_of(cabinet, 0, naming::names_in(identity)) else {
         return file(numbers::NOT_THERE, 0);
-    }
-    let none = &identity[0..0];
-    writing::write_place(cabinet, its, none, none, none);
+    };
+    writing::write_place(cabinet, its, &[], &[], &[]);
     file(numbers::ACCEPTED, 0)
 }
 
@@ -335,14 +300,11 @@ pub fn admit(cabinet: &mut [u8], request: &[u8]) -> Filed
     if answer.no != numbers::ACCEPTED {
         return file(answer.no, answer.field);
     }
-    let starts = answer.starts;
-    let lens = answer.lens;
-    let id_sm = places::field_at(request, &starts, &lens, table::REQ_ID_SM);
-    let its = current_of(cabinet, naming::names_in(id_sm));
-    if its == PLACES {
+    let id_sm = places::field_at(request, &answer.starts, &answer.lens, table::REQ_ID_SM);
+    let Some(its) = current_of(cabinet, naming::names_in(id_sm)) else {
         return file(numbers::NOT_THERE, 0);
-    }
-    let tvp = places::field_at(request, &starts, &lens, table::REQ_TVP);
+    };
+    let tvp = places::field_at(request, &answer.starts, &answer.lens, table::REQ_TVP);
     if !tvps::is_later_tvp(tvp, place_at(cabinet, its)) {
         return file(numbers::TVP_NOT_LATER, 0);
     }
@@ -373,10 +335,9 @@ pub fn key_place(cabinet: &[u8], identity: &[u8]) -> fields::Place
     if answer.no != numbers::ACCEPTED {
         return find_none(answer.no, answer.field);
     }
-    let its = current_of(cabinet, naming::names_in(identity));
-    if its == PLACES {
+    let Some(its) = current_of(cabinet, naming::names_in(identity)) else {
         return find_none(numbers::NOT_THERE, 0);
-    }
+    };
     fields::Place {
         no: numbers::ACCEPTED,
         field: 0,

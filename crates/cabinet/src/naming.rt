@@ -8,10 +8,7 @@ pub(crate) fn names_in<'a>(identity: &'a [u8]) -> &'a [u8]
     ensures { result.now ≡ names_in identity.now }
 {
     let end = frame::part_start(b':', identity, table::IDENTITY_GNT);
-    if identity.len() < end {
-        return &identity[0..0];
-    }
-    &identity[0..end]
+    identity.get(..end).unwrap_or(&[])
 }
 
 // The Subject of a record, alone or in its place.
@@ -26,14 +23,7 @@ pub(crate) fn has_names(place: &[u8], names: &[u8]) -> bool
     ensures { result ≡ starts_so place.now names.now }
 {
     let start = frame::part_start(b'|', place, table::PUBKEY_SUBJECT);
-    if place.len() < start {
-        return names.len() == 0;
-    }
-    if place.len() - start < names.len() {
-        return false;
-    }
-    let end = start + names.len();
-    text::are_same(&place[start..end], names)
+    place.get(start..).unwrap_or(&[]).starts_with(names)
 }
 
 // The GNT of this Subject is later than that of the record in a place.

@@ -11,10 +11,7 @@ pub(crate) fn is_tvp(tvp: &[u8]) -> bool
     ensures { result ≡ is_tvp tvp.now }
 {
     let moment = text::moment_of(tvp);
-    if !moment.valid {
-        return false;
-    }
-    0 <= moment.seconds
+    moment.valid && 0 <= moment.seconds
 }
 
 // The TVP is later than the one in a place.

@@ -15,6 +15,15 @@ use Rattle.reading.specs.Reading.{answer_of}
 use Rattle.files.specs.Walk.{line_said, totals_of}
 use Rattle.files.specs.declared.Line.TheVariants.{Finished, Read}
 
+-- the law of a form of files, as the laws of outcomes have it
+pub never_zero : {call : Bytes → Outcome} → ((line : Bytes) (field : ℕ) → call line ≡ refused 0 field → ⊥) → NeverZero call
+never_zero {call} law s = go (call s) (law s)
+  where
+    go : (o : Outcome) → ((field : ℕ) → o ≡ refused 0 field → ⊥) → Numbered o
+    go (accepted k fs) h = tt
+    go (refused zero i) h = h i refl
+    go (refused (suc n) i) h = tt
+
 -- ---- the number of a line: 0 is an accepted line's alone
 
 abbrev Counts : ℕ → Outcome → Type 0
@@ -59,6 +68,13 @@ module _ {call : Bytes → Outcome} {file : Bytes} {place n next : ℕ} (t : Tol
 
   pub told_inside : next ≤ length file
   told_inside = rw t.its_next (next_inside call file place t.line t.is)
+
+-- a walk comes nearer to the end with the line that was read
+pub nearer : (call : Bytes → Outcome) → NeverZero call → (file : Bytes) (place n f k start len next : ℕ) → Read n f k start len next ≡ line_said (line_at_over call file place)
+    → length file - next < length file - place
+nearer call never-zero file place n f k start len next q =
+    let t = told call never-zero file place n f k start len next q in
+    omega (arith, told_beyond t, told_inside t)
 
 -- ---- so many lines, and so many accepted ones, stand before the place
 pub record Counted (call : Bytes → Outcome) (file : Bytes) (lines accepted place : ℕ) : Type 0 where

@@ -2,8 +2,14 @@
 // any bytes and any place have an answer.
 #![tactic(auto)]
 
-ghost use Rattle.std.specs.Prelude.{◌≡◌};
-ghost use Rattle.format.specs.Files.{line_at, walk};
+ghost use Rattle.std.specs.Prelude.{◌≡◌, ℕ};
+ghost use mathlib.Core.Path.{subst};
+ghost use Rattle.text.specs.Text.{Bytes};
+ghost use Rattle.format.specs.Read.{Outcome, refused, read_record};
+ghost use Rattle.format.specs.Files.{line_at, walk, line_at_over, walk_over};
+ghost use Rattle.format.proofs.Outcomes.{Numbered};
+ghost use Rattle.format.proofs.Damage.{record_never_zero};
+ghost use Rattle.reading.specs.Reading.{answer_of};
 ghost use Rattle.files.specs.Walk.{line_end, last_line, line_said, next_of, totals_of};
 ghost use Rattle.files.specs.Steps.{Begins, Stepped, step_from};
 
@@ -26,6 +32,18 @@ pub enum Line {
     },
 }
 
+impl Line {
+    // The next place that an answer names.
+    fn next_place(self) -> usize
+        ensures { result ≡ next_of self }
+    {
+        match self {
+            Line::Finished { place } => place,
+            Line::Read { next, .. } => next,
+        }
+    }
+}
+
 // How many lines a file has, and how many of them are accepted records.
 #[repr(C)]
 #[derive(Clone, Copy)]
@@ -34,23 +52,20 @@ pub struct Totals {
     pub accepted: usize,
 }
 
-// ---- the plain calls
+// ---- a walk over any file of lines
 
 // The first line feed at or after the place, or the end of the bytes when none follows; a place past the end is answered as it is.
 pub fn line_end(file: &[u8], place: usize) -> usize
     ensures { result ≡ line_end file.now place }
 {
+    // document 01 names this form: a loop that yields the index by break
     let mut i = place;
-    let at = loop {
-        if i >= file.len() {
-            break i;
-        }
-        if file[i] == b'\n' {
+    loop {
+        if i >= file.len() || file[i] == b'\n' {
             break i;
         }
         i += 1;
-    };
-    at
+    }
 }
 
 // What is said at a place after which no line feed follows, in a file of so many bytes: that it is finished, or that its last line is not, 11.
@@ -70,56 +85,83 @@ pub fn last_line(bytes: usize, place: usize) -> Line
     }
 }
 
+// A form of a file's lines: what is asked about a line without its line feed, and the walk that asks it.
+pub trait Form {
+    ghost call: { Bytes → Outcome };
+
+    fn read(line: &[u8]) -> reading::Answer
+        ensures { result ≡ answer_of (call line.now) };
+
+    ghost never_zero: { (line : Bytes) (field : ℕ) → call line ≡ refused 0 field → ⊥ };
+
+    // The line at a place: the call's answer for it, and where it stands. An unfinished last line answers 11, before any other number and at any
+    // length; its next place is the end.
+    final fn line_at(file: &[u8], place: usize) -> Line
+        ensures { result ≡ line_said (line_at_over call file.now place) }
+    {
+        let end = line_end(file, place);
+        if file.len() <= end {
+            return last_line(file.len(), place);
+        }
+        let answer = Self::read(&file[place..end]);
+        Line::Read {
+            no: answer.no,
+            field: answer.field,
+            kind: answer.kind,
+            start: place,
+            len: end - place,
+            next: end + 1,
+        }
+    }
+
+    // The lines of a file from its start to its end, an unfinished last line too, and those that are accepted.
+    final fn count(file: &[u8]) -> Totals
+        ensures { result ≡ totals_of (walk_over call file.now) }
+    {
+        let mut lines: usize = 0;
+        let mut accepted: usize = 0;
+        let mut place: usize = 0;
+        while let Line::Read { no, next, .. } = Self::line_at(file, place) {
+            if no == numbers::ACCEPTED {
+                accepted += 1;
+            }
+            lines += 1;
+            place = next;
+        }
+        Totals { lines, accepted }
+    }
+}
+
+// ---- a plain file: every line is a record
+
+struct Plain;
+
+impl Form for Plain {
+    ghost call = { read_record };
+
+    ghost never_zero = { λ line field e. subst Numbered e (record_never_zero line) };
+
+    fn read(line: &[u8]) -> reading::Answer {
+        reading::read_record(line)
+    }
+}
+
 // The line at a place: the record call's answer for it (an empty line answers 2, one over 1,024 bytes 1), and where it
 // stands. An unfinished last line answers 11, before any other number and at any length; its next place is the end.
 pub fn line_at(file: &[u8], place: usize) -> Line
     ensures { result ≡ line_said (line_at file.now place) }
 {
-    let end = line_end(file, place);
-    if file.len() <= end {
-        return last_line(file.len(), place);
-    }
-    let answer = reading::read_record(&file[place..end]);
-    Line::Read {
-        no: answer.no,
-        field: answer.field,
-        kind: answer.kind,
-        start: place,
-        len: end - place,
-        next: end + 1,
-    }
+    Plain::line_at(file, place)
 }
 
 // The lines of a file from its start to its end, an unfinished last line too, and those that are accepted.
 pub fn count(file: &[u8]) -> Totals
     ensures { result ≡ totals_of (walk file.now) }
 {
-    let mut lines: usize = 0;
-    let mut accepted: usize = 0;
-    let mut place: usize = 0;
-    loop {
-        let Line::Read { no, next, .. } = line_at(file, place) else {
-            return Totals { lines, accepted };
-        };
-        if no == numbers::ACCEPTED {
-            accepted += 1;
-        }
-        lines += 1;
-        place = next;
-    }
+    Plain::count(file)
 }
 
 // ---- a reader
-
-// The next place that an answer names.
-fn next_of(line: Line) -> usize
-    ensures { result ≡ next_of line }
-{
-    match line {
-        Line::Finished { place } => place,
-        Line::Read { next, .. } => next,
-    }
-}
 
 // A reader holds the lent bytes and the place of the next line.
 #[derive(Clone, Copy)]
@@ -141,7 +183,7 @@ impl<'a> Reader<'a> {
         ensures { Stepped self.old result self.new }
     {
         let line = line_at(self.file, self.place);
-        self.place = next_of(line);
+        self.place = line.next_place();
         line
     }
 }

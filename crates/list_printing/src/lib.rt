@@ -35,8 +35,7 @@ pub fn print_list(output: Stdout, file: &[u8]) -> Printed
     ensures { result.len ≡ print_list file.now }
 {
     let mut text = room();
-    let made = list_text::write_list(file, &mut text);
-    let len = made.len;
-    let taken = hand_over(output, file, &text[0..len]);
+    let put::Written { len, .. } = list_text::write_list(file, &mut text);
+    let taken = hand_over(output, file, &text[..len]);
     Printed { len, taken }
 }

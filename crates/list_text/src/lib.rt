@@ -24,25 +24,35 @@ fn put_number(out: &mut [u8], at: usize, n: usize, mark: u8) -> usize
     put::put_byte(out, next, mark)
 }
 
-// A line of the file: its number from 1, its start, its length without line feed, and its answer's number.
-fn put_line(out: &mut [u8], at: usize, number: usize, start: usize, len: usize, no: u8) -> usize
-    requires { at + length (line_text number start len no) ≤ length out.old }
-    ensures { Put out.old at (line_text number start len no) out.new result }
-{
-    let after_number = put_number(out, at, number, b' ');
-    let after_start = put_number(out, after_number, start, b' ');
-    let after_len = put_number(out, after_start, len, b' ');
-    put_number(out, after_len, no as usize, b'\n')
+// What is printed of a line: its number from 1, its start, its length without line feed, and its answer's number.
+#[derive(Clone, Copy)]
+struct Row {
+    number: usize,
+    start: usize,
+    len: usize,
+    no: u8,
+}
+
+impl Row {
+    fn put(self, out: &mut [u8], at: usize) -> usize
+        requires { at + length (line_text self.number self.start self.len self.no) ≤ length out.old }
+        ensures { Put out.old at (line_text self.number self.start self.len self.no) out.new result }
+    {
+        let after_number = put_number(out, at, self.number, b' ');
+        let after_start = put_number(out, after_number, self.start, b' ');
+        let after_len = put_number(out, after_start, self.len, b' ');
+        put_number(out, after_len, self.no as usize, b'\n')
+    }
 }
 
 // The end of the list: how many lines the file has, and how many of them are accepted.
-fn put_end(out: &mut [u8], at: usize, lines: usize, accepted: usize) -> usize
-    requires { at + length (end_text lines accepted) ≤ length out.old }
-    ensures { Put out.old at (end_text lines accepted) out.new result }
+fn put_end(out: &mut [u8], at: usize, totals: files::Totals) -> usize
+    requires { at + length (end_text totals.lines totals.accepted) ≤ length out.old }
+    ensures { Put out.old at (end_text totals.lines totals.accepted) out.new result }
 {
     let after_label = put::put(out, at, b"end ");
-    let after_lines = put_number(out, after_label, lines, b' ');
-    put_number(out, after_lines, accepted, b'\n')
+    let after_lines = put_number(out, after_label, totals.lines, b' ');
+    put_number(out, after_lines, totals.accepted, b'\n')
 }
 
 // Every line of a file that is not too big, and the end.
@@ -55,24 +65,28 @@ fn put_list(file: &[u8], out: &mut [u8]) -> usize
     let mut accepted: usize = 0;
     let mut place: usize = 0;
     let mut at: usize = 0;
-    loop {
-        let files::Line::Read {
-            no,
-            start,
-            len,
-            next,
-            ..
-        } = files::line_at(file, place)
-        else {
-            return put_end(out, at, lines, accepted);
-        };
+    while let files::Line::Read {
+        no,
+        start,
+        len,
+        next,
+        ..
+    } = files::line_at(file, place)
+    {
         if no == numbers::ACCEPTED {
             accepted += 1;
         }
         lines += 1;
-        at = put_line(out, at, lines, start, len, no);
+        let row = Row {
+            number: lines,
+            start,
+            len,
+            no,
+        };
+        at = row.put(out, at);
         place = next;
     }
+    put_end(out, at, files::Totals { lines, accepted })
 }
 
 // The list of a file from the front of a lent output, or "too big". Where the output has less than `ROOM`, the call refuses
@@ -83,15 +97,11 @@ pub fn write_list(file: &[u8], out: &mut [u8]) -> put::Written
     if out.len() < ROOM {
         return put::refuse(numbers::SHORT_OUTPUT, 0);
     }
-    if file.len() > MOST {
-        let len = put::put(out, 0, b"too big\n");
-        return put::Written {
-            no: numbers::ACCEPTED,
-            field: 0,
-            len,
-        };
-    }
-    let len = put_list(file, out);
+    let len = if file.len() > MOST {
+        put::put(out, 0, b"too big\n")
+    } else {
+        put_list(file, out)
+    };
     put::Written {
         no: numbers::ACCEPTED,
         field: 0,

@@ -1,37 +1,49 @@
 -- The walks over the lines of a text: to the first BEGINS line, and from there to the first ENDS line, with the rows between them.
 -- Assumes nothing.
 use Prim.Native.Nat.{ℕ, suc, ◌+◌, ◌-◌, ◌≤◌, ◌<◌}
-use mathlib.Core.Path.{◌≡◌, refl, ap, ◌∙◌}
+use mathlib.Core.Path.{◌≡◌, refl, sym, ap, ◌∙◌}
 use mathlib.Core.Bool.{Bool, true, false, cond}
 use mathlib.Core.List.{[], ◌∷◌, ◌++◌}
 use native.Mathlib.Omega.{arith}
 use lib.Dec.{eqb}
 use lib.ListN.{length, take, drop, drop_of_length-le}
 use lib.Seq.{take-add, drop-drop}
+use mathlib.Core.Logic.{inl, inr}
+use Rattle.std.specs.Borrow.{Bor}
+use Rattle.std.proofs.Common.{Option, None, Some, MatchOption}
+use Rattle.std.specs.Slice.{IsGetRangeResult}
+use Rattle.std.specs.Option.{unwrap_or}
 use Rattle.text.specs.Text.{Bytes, same}
 use Rattle.text.proofs.Tests.{less_or}
 use Rattle.format.specs.Files.{line_feed, up_to}
 use Rattle.format.proofs.Lines.{take_up_to}
 use Rattle.frame.specs.Frame.{next_mark}
-use Rattle.frame.proofs.Parts.{cut_at, cut_none, next_within}
-use Rattle.mail.specs.Mail.{lines_in, ends_line, is_begins, closed, opened}
-use Rattle.mail.specs.Steps.{line_from, Opens, feedless, rows_in, Closes}
+use Rattle.frame.proofs.Parts.{cut_at, cut_none, next_from, next_within}
+use Rattle.numbers.specs.Numbers.{missing_begins, missing_ends}
+use Rattle.mail.specs.Mail.{lines_in, ends_line, is_begins, missing, closed, opened}
+use Rattle.mail.specs.Steps.{line_from, Walked, none, more, Finds, Opens, feedless, rows_in, Closes}
 
 -- ---- the line at a place, and those after it
 
 module _ (text : Bytes) (i : ℕ) where
   -- as the code takes it
-  pub line_none : {e : ℕ} → e ≡ next_mark line_feed text i → length text < e → [] ≡ line_from text i
+  line_none : {e : ℕ} → e ≡ next_mark line_feed text i → length text < e → [] ≡ line_from text i
   line_none n h =
       less_or (length text) i
       (λ l. rw (drop_of_length-le text {i = i} (omega arith)))
       (λ l. absurd (omega (arith, h, n, next_within line_feed text i l)))
 
-  pub line_there : {e : ℕ} → e ≡ next_mark line_feed text i → take (e - i) (drop i text) ≡ line_from text i
+  line_there : {e : ℕ} → e ≡ next_mark line_feed text i → take (e - i) (drop i text) ≡ line_from text i
   unfolding next_mark
   line_there {e} n =
       let long : e - i ≡ length (line_from text i) = omega (arith, n) in
       rw long (take_up_to line_feed (drop i text))
+
+  -- as the library gives a range that may not be there
+  pub line_got : {e : ℕ} → e ≡ next_mark line_feed text i → (r : Option (Bor Bytes)) (d : Bor Bytes) → d.now ≡ [] → IsGetRangeResult text i e r → (unwrap_or r d).now ≡ line_from text i
+  line_got n None d z (inl h, there) = absurd (omega (arith, h, n, next_from line_feed text i))
+  line_got n None d z (inr h, there) = z ∙ line_none n h
+  line_got n (Some x) d z ((from, to, is, long), there) = is ∙ line_there n
 
   pub line_within : i < length text → {l : Bytes} → l ≡ line_from text i → i + length l ≤ length text
   unfolding next_mark
@@ -43,18 +55,21 @@ module _ (text : Bytes) (i : ℕ) where
       let next : next_mark line_feed text i + 1 ≡ i + (length (line_from text i) + 1) = omega arith in
       rw (line_there refl, next) at (cut_at line_feed text i h)
 
--- ---- to the first BEGINS line: those before place i are passed over, and l is the line there
+-- one line more that does not pass, l as the code has it
+pub walked_on : {Said : Bytes → Bool → Type 0} {text : Bytes} {from i : ℕ} → Walked Said text from i → i < length text → {l : Bytes} → l ≡ line_from text i → Said (line_from text i) false
+    → Walked Said text from (i + (length l + 1))
+walked_on w h e s = rw e (more w h s)
 
-module _ (text : Bytes) (i : ℕ) (p : opened (lines_in text) ≡ opened (lines_in (drop i text))) where
-  module _ (h : i < length text) {l : Bytes} (is : l ≡ line_from text i) where
-    pub opened_on : is_begins l ≡ false → opened (lines_in text) ≡ opened (lines_in (drop (i + (length l + 1)) text))
-    opened_on b = p ∙ rw (lines_at text i h, ← is, b)
+-- ---- to the first BEGINS line, by a test that says of each line whether it is one
 
-    pub opens_here : is_begins l ≡ true → Opens text i
-    opens_here b = record { passed = p; here = λ _. rw (← is) b }
+module _ (text : Bytes) {Said : Bytes → Bool → Type 0} (right : (l : Bytes) (b : Bool) → Said l b → b ≡ is_begins l) where
+  opened_walked : {from i : ℕ} → Walked Said text from i → opened (lines_in (drop from text)) ≡ opened (lines_in (drop i text))
+  opened_walked none = refl
+  opened_walked (more {i} w h s) = opened_walked w ∙ rw (lines_at text i h, ← right (line_from text i) false s)
 
-  pub opens_end : length text ≤ i → Opens text i
-  opens_end h = record { passed = p; here = λ l. absurd (omega (arith, h, l)) }
+  pub opens_first : (r : Option ℕ) → Finds Said text 0 r → MatchOption r (opened (lines_in text) ≡ missing missing_begins) (Opens text)
+  opens_first None (i, w, h) = opened_walked w ∙ rw (cut_none line_feed text i h)
+  opens_first (Some i) (w, h, s) = record { inside = h; passed = opened_walked w; here = sym (right (line_from text i) true s) }
 
 -- ---- without line feeds
 
@@ -84,33 +99,26 @@ rows_more text from i l =
 
 -- ---- from there to the first ENDS line: none of the lines before place i is one, and they are joined
 
-pub record Passed (text : Bytes) (from : ℕ) (t : Bytes) (i : ℕ) : Type 0 where
+record Passed (text : Bytes) (from : ℕ) (t : Bytes) (i : ℕ) : Type 0 where
   pub on : from ≤ i
   pub rows : closed t [] (lines_in (drop from text)) ≡ closed t (rows_in text from i) (lines_in (drop i text))
 
-pub passed_none : (text : Bytes) (from : ℕ) (t : Bytes) → Passed text from t from
+passed_none : (text : Bytes) (from : ℕ) (t : Bytes) → Passed text from t from
 passed_none text from t = record { on = omega arith; rows = let z : from - from ≡ 0 = omega arith in rw z }
 
-module _ {text : Bytes} {from : ℕ} {t : Bytes} {i : ℕ} (p : Passed text from t i) where
-  pub closes_nowhere : length text ≤ i → Closes text from t i
-  closes_nowhere h = record {
-    further = p.on;
-    there = λ l. absurd (omega (arith, h, l));
-    nowhere = λ _. p.rows ∙ rw (cut_none line_feed text i h);
-  }
+passed_on : {text : Bytes} {from : ℕ} {t : Bytes} {i : ℕ} → Passed text from t i → i < length text → same (line_from text i) (ends_line t) ≡ false → Passed text from t (i + (length (line_from text i) + 1))
+passed_on {text} {from} {t} {i} p h b = record {
+  on = omega (arith, p.on);
+  rows = p.rows ∙ rw (lines_at text i h, b) (ap (λ (f : Bytes). closed t f (lines_in (drop (i + (length (line_from text i) + 1)) text))) (rows_more text from i p.on));
+}
 
-  module _ (h : i < length text) {l : Bytes} (is : l ≡ line_from text i) where
-    pub passed_on : same l (ends_line t) ≡ false → Passed text from t (i + (length l + 1))
-    passed_on b =
-        let more : rows_in text from i ++ l ≡ rows_in text from (i + (length l + 1)) = rw is (rows_more text from i p.on) in
-        record {
-          on = omega (arith, p.on);
-          rows = p.rows ∙ rw (lines_at text i h, ← is, b) (ap (λ (f : Bytes). closed t f (lines_in (drop (i + (length l + 1)) text))) more);
-        }
+module _ (text t : Bytes) {Said : Bytes → Bool → Type 0} (right : (l : Bytes) (b : Bool) → Said l b → b ≡ same l (ends_line t)) where
+  passed_walked : {from i : ℕ} → Walked Said text from i → Passed text from t i
+  passed_walked {from} none = passed_none text from t
+  passed_walked (more {i} w h s) = passed_on (passed_walked w) h (sym (right (line_from text i) false s))
 
-    pub closes_there : same l (ends_line t) ≡ true → Closes text from t i
-    closes_there b = record {
-      further = p.on;
-      there = λ _. p.rows ∙ rw (lines_at text i h, ← is, b);
-      nowhere = λ z. absurd (omega (arith, h, z));
-    }
+  pub closes_first : (from : ℕ) (r : Option ℕ) → Finds Said text from r → MatchOption r (closed t [] (lines_in (drop from text)) ≡ missing missing_ends) (Closes text from t)
+  closes_first from None (i, w, h) = (passed_walked w).rows ∙ rw (cut_none line_feed text i h)
+  closes_first from (Some i) (w, h, s) =
+      let p = passed_walked w in
+      record { further = p.on; inside = h; there = p.rows ∙ rw (lines_at text i h, ← right (line_from text i) true s) }

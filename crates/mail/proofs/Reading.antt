@@ -1,6 +1,6 @@
 -- The ways of the call that reads: no BEGINS line, no ENDS line, too long, refused, too little room, given.
 -- Assumes nothing.
-use Prim.Native.Nat.{ℕ, ◌+◌, ◌-◌, ◌≤◌, ◌<◌}
+use Prim.Native.Nat.{ℕ, ◌+◌, ◌≤◌, ◌<◌}
 use mathlib.Core.Path.{◌≡◌, refl, sym, ap, ◌∙◌, subst}
 use mathlib.Core.Option.{Option, none, some}
 use mathlib.Core.List.{List, [], ◌∷◌}
@@ -14,9 +14,7 @@ use Rattle.numbers.specs.Numbers.{too_long, short_output, missing_begins, missin
 use Rattle.format.specs.Kinds.{Kind, SMMAN, SMID, KMCID, ECDSA, ECDH, REQ, RESP, KEY, name, record_kinds, all_kinds}
 use Rattle.format.specs.Build.{Built}
 use Rattle.format.specs.Read.{read_over, read_under, read_of}
-use Rattle.format.specs.Files.{line_feed}
 use Rattle.format.proofs.Exactly.{read_says}
-use Rattle.frame.proofs.Parts.{cut_none}
 use Rattle.table.specs.Table.{row_of, row_for, named, kinds_from}
 use Rattle.table.proofs.Names.{named_some, named_none}
 use Rattle.put.specs.Put.{Puts, Put}
@@ -27,9 +25,8 @@ use Rattle.reading.specs.Reading.{answer_of}
 use Rattle.reading.specs.declared.Answer.{Answer}
 use Rattle.reading.proofs.Answers.{Taken, taken}
 use Rattle.given.proofs.Given.{given_refused, given_short, given_put}
-use Rattle.mail.specs.Mail.{lines_in, rectype_in, block, closed, opened, alone, read_found, read_mail}
+use Rattle.mail.specs.Mail.{lines_in, rectype_in, block, closed, opened, missing, alone, read_found, read_mail}
 use Rattle.mail.specs.Steps.{line_from, Opens, rows_in, Closes}
-use Rattle.mail.proofs.Guards.{ident_short, begins_ident}
 use Rattle.mail.proofs.Finding.{lines_at}
 
 -- ---- the kind of a name, by its row: an identity's row has no record kind, and no row has one where there is no kind
@@ -80,42 +77,34 @@ unfolding read_under read_over
 too_long_found t s out h w e = rw (lt-leb (length s) 1024 h) (put_denied w e)
 
 -- the part of the array a that holds the record
-joined_part : {o v a : Bytes} {n : ℕ} → Put o 0 v a n → take (n - 0) a ≡ v
+joined_part : {o v a : Bytes} {n : ℕ} → Put o 0 v a n → take n a ≡ v
 joined_part {o} {v} {a} {n} p =
-    let e : n - 0 ≡ length v = omega (arith, p.next) in
+    let e : n ≡ length v = omega (arith, p.next) in
     rw (e, p.written, zero-add) (take-append_seam v (drop (length v) o))
 
-pub rows_given : (t v : Bytes) {out out' : Bytes} {z a : Bytes} {n : ℕ} (w : Written) → Put z 0 v a n → Writes (read_found (length out) (block t (take (n - 0) a))) out out' w
+pub rows_given : (t v : Bytes) {out out' : Bytes} {z a : Bytes} {n : ℕ} (w : Written) → Put z 0 v a n → Writes (read_found (length out) (block t (take n a))) out out' w
     → Writes (read_found (length out) (block t v)) out out' w
 rows_given t v {out} {out'} w p = subst (λ (s : Bytes). Writes (read_found (length out) (block t s)) out out' w) (joined_part p)
 
--- ---- the lines of the text: the first BEGINS line is at place p, if there is one
+-- ---- the lines of the text: no BEGINS line, or the first one, l, at place p with the record type t
 
-module _ (text : Bytes) {p : ℕ} (opens : Opens text p) where
-  pub mail_unopened : length text ≤ p → (out : Bytes) (w : Written) → w ≡ says (denied missing_begins 0) → Writes (read_mail text (length out)) out out w
+pub mail_unopened : (text : Bytes) → opened (lines_in text) ≡ missing missing_begins → (out : Bytes) (w : Written) → w ≡ says (denied missing_begins 0) → Writes (read_mail text (length out)) out out w
+unfolding read_mail
+mail_unopened text absent out w e = rw absent (put_denied w e)
+
+module _ (text : Bytes) {p : ℕ} (opens : Opens text p) {l t : Bytes} (is : l ≡ line_from text p) (names : t ≡ rectype_in l) where
+  opened_here : opened (lines_in text) ≡ closed t [] (lines_in (drop (p + length l + 1) text))
+  opened_here =
+      let next : p + length l + 1 ≡ p + (length (line_from text p) + 1) = omega (arith, ap length is) in
+      opens.passed ∙ rw (lines_at text p opens.inside, opens.here, next, names ∙ ap rectype_in is)
+
+  -- no ENDS line matches it, or the first one is at place i
+  pub mail_unclosed : closed t [] (lines_in (drop (p + length l + 1) text)) ≡ missing missing_ends → (out : Bytes) (w : Written) → w ≡ says (denied missing_ends 0)
+      → Writes (read_mail text (length out)) out out w
   unfolding read_mail
-  mail_unopened h out w e = rw (opens.passed, cut_none line_feed text p h) (put_denied w e)
+  mail_unclosed absent out w e = rw (opened_here, absent) (put_denied w e)
 
-  -- there is one, l, with the record type t
-  module _ (h : p < length text) {l t : Bytes} (is : l ≡ line_from text p) (names : t ≡ rectype_in l) where
-    its_rectype : t ≡ rectype_in (line_from text p)
-    its_rectype = names ∙ ap rectype_in is
-
-    pub rectype_short : length t ≤ 32
-    rectype_short = rw its_rectype (ident_short (rectype_in (line_from text p)) (begins_ident (line_from text p) (opens.here h)))
-
-    opened_here : opened (lines_in text) ≡ closed t [] (lines_in (drop (p + length l + 1) text))
-    opened_here =
-        let next : p + length l + 1 ≡ p + (length (line_from text p) + 1) = omega (arith, ap length is) in
-        opens.passed ∙ rw (lines_at text p h, opens.here h, next, its_rectype)
-
-    -- and its ENDS line is at place i, if there is one
-    module _ {i : ℕ} (closes : Closes text (p + length l + 1) t i) where
-      pub mail_unclosed : length text ≤ i → (out : Bytes) (w : Written) → w ≡ says (denied missing_ends 0) → Writes (read_mail text (length out)) out out w
-      unfolding read_mail
-      mail_unclosed z out w e = rw (opened_here, closes.nowhere z) (put_denied w e)
-
-      pub mail_read : i < length text → {out out' : Bytes} (w : Written)
-          → Writes (read_found (length out) (block t (rows_in text (p + length l + 1) i))) out out' w → Writes (read_mail text (length out)) out out' w
-      unfolding read_mail
-      mail_read z w v = rw (opened_here, closes.there z) v
+  pub mail_read : {i : ℕ} → Closes text (p + length l + 1) t i → {out out' : Bytes} (w : Written)
+      → Writes (read_found (length out) (block t (rows_in text (p + length l + 1) i))) out out' w → Writes (read_mail text (length out)) out out' w
+  unfolding read_mail
+  mail_read closes w v = rw (opened_here, closes.there) v

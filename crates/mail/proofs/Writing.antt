@@ -1,15 +1,14 @@
 -- The block is written piece after piece: the rows in a loop, and the guards around them; its length; and the ways of the call that writes.
 -- Assumes nothing.
-use Prim.Native.Nat.{ℕ, zero, suc, ◌+◌, ◌-◌, ◌*◌, ◌/◌, ◌≤◌, ◌<◌}
+use Prim.Native.Nat.{ℕ, zero, suc, ◌+◌, ◌*◌, ◌/◌, ◌≤◌, ◌<◌}
 use mathlib.Core.Path.{◌≡◌, refl, sym, ap, ◌∙◌}
-use mathlib.Core.Bool.{cond}
 use mathlib.Core.List.{[], ◌∷◌, ◌++◌, append_assoc}
 use native.Mathlib.Omega.{arith}
-use lib.Dec.{ltb, ltb→lt, nltb→le}
 use lib.ListN.{length, take, drop, length-append, length-drop, drop_of_length-le, take-append-drop}
-use lib.Seq.{take_all, drop-drop}
+use lib.Seq.{take_all, take_at, drop_at}
+use Rattle.std.specs.Prelude.{min}
 use Rattle.text.specs.Text.{Bytes, ascii}
-use Rattle.text.proofs.Tests.{by_test, cond_yes, cond_no}
+use Rattle.text.proofs.Tests.{less_or}
 use Rattle.format.specs.Files.{line_feed}
 use Rattle.format.proofs.Parts.{joined_append}
 use Rattle.put.specs.Put.{Puts, Put}
@@ -43,51 +42,36 @@ folded_more s h =
     let e : (length s + 63) / 64 ≡ suc ((length (drop 64 s) + 63) / 64) = omega (arith, length-drop 64 s) in
     ap (λ (n : ℕ). rows n s) e
 
--- a row of r characters at place i, as the code takes it
-abbrev pub row_at : Bytes → ℕ → ℕ → Bytes
-row_at s i r = take (i + r - i) (drop i s)
-
-module _ (s : Bytes) (i r : ℕ) (h : i < length s) (e : r ≡ cond (ltb (length s - i) 64) (length s - i) 64) where
-  row_is : (row_at s i r ≡ take 64 (drop i s)) × (drop (i + r) s ≡ drop 64 (drop i s))
+-- the row r that comes off the front of s, and what it leaves
+module _ (s r rest : Bytes) (parts : s ≡ r ++ rest) (size : length r ≡ min 64 (length s)) (some : 0 < length s) where
+  row_is : (r ≡ take 64 s) × (rest ≡ drop 64 s)
   row_is =
-      let size : i + r - i ≡ r = omega arith in
-      by_test (ltb (length s - i) 64)
-      (λ t.
-      let short = ltb→lt (length s - i) 64 t in
-      let e' : r ≡ length s - i = e ∙ cond_yes (ltb (length s - i) 64) (length s - i) 64 t in (
-        take_all (i + r - i) (drop i s) (omega (arith, length-drop i s)) ∙ sym (take_all 64 (drop i s) (omega (arith, length-drop i s))),
-        drop_of_length-le s {i = i + r} (omega arith) ∙ sym (drop_of_length-le (drop i s) {i = 64} (omega (arith, length-drop i s))),
+      less_or 64 (length s)
+      (λ l. (
+        sym (ap (take 64) parts ∙ take_at r rest 64 (omega (arith, size))),
+        sym (ap (drop 64) parts ∙ drop_at r rest 64 (omega (arith, size))),
       ))
-      (λ t.
-      let e' : r ≡ 64 = e ∙ cond_no (ltb (length s - i) 64) (length s - i) 64 t in
-      rw (size, e') (refl, sym (drop-drop 64 i s)))
+      (λ l. (
+        sym (ap (take (length r)) parts ∙ take_at r rest (length r) refl) ∙ take_all (length r) s (omega (arith, size)) ∙ sym (take_all 64 s l),
+        sym (ap (drop (length r)) parts ∙ drop_at r rest (length r) refl) ∙ drop_of_length-le s {i = length r} (omega (arith, size)) ∙ sym (drop_of_length-le s {i = 64} l),
+      ))
 
-  pub rows_more : rows_of (drop i s) ≡ (row_at s i r ++ line_feed ∷ []) ++ rows_of (drop (i + r) s)
+  rows_more : rows_of s ≡ (r ++ line_feed ∷ []) ++ rows_of rest
   rows_more =
-      rw (row_is.0, row_is.1)
-      (ap (joined line_feed) (folded_more (drop i s) (omega (arith, length-drop i s))) ∙ sym (append_assoc (take 64 (drop i s)) (line_feed ∷ []) (rows_of (drop 64 (drop i s)))))
+      rw (row_is.0, row_is.1) (ap (joined line_feed) (folded_more s some) ∙ sym (append_assoc (take 64 s) (line_feed ∷ []) (rows_of (drop 64 s))))
 
-  pub row_inside : (i < i + r) × (i + r ≤ length s)
-  row_inside =
-      by_test (ltb (length s - i) 64)
-      (λ t. let e' : r ≡ length s - i = e ∙ cond_yes (ltb (length s - i) 64) (length s - i) 64 t in (omega arith, omega arith))
-      (λ t.
-      let long = nltb→le (length s - i) 64 t in
-      let e' : r ≡ 64 = e ∙ cond_no (ltb (length s - i) 64) (length s - i) 64 t in
-      (omega arith, omega arith))
+  pub row_put : {o v out out' out'' : Bytes} {k at at' at'' : ℕ} → Underway o k v (rows_of s) out at → Puts out at r out' at' → Puts out' at' (line_feed ∷ []) out'' at''
+      → Underway o k v (rows_of rest) out'' at''
+  row_put u p q =
+      let room = has_room u (r ++ line_feed ∷ []) (rows_of rest) rows_more in
+      let first = put_of (omega (arith, room, length-append r (line_feed ∷ []))) p in
+      let second = put_of (omega (arith, room, length-append r (line_feed ∷ []), first.next, put_length first)) q in
+      go_on u (r ++ line_feed ∷ []) (rows_of rest) rows_more (put_then first second)
 
-  module _ {o v out : Bytes} {k at : ℕ} (u : Underway o k v (rows_of (drop i s)) out at) where
-    pub row_put : {out' out'' : Bytes} {at' at'' : ℕ} → Puts out at (row_at s i r) out' at' → Puts out' at' (line_feed ∷ []) out'' at''
-        → Underway o k v (rows_of (drop (i + r) s)) out'' at''
-    row_put p q =
-        let room = has_room u (row_at s i r ++ line_feed ∷ []) (rows_of (drop (i + r) s)) rows_more in
-        let first = put_of (omega (arith, room, length-append (row_at s i r) (line_feed ∷ []))) p in
-        let second = put_of (omega (arith, room, length-append (row_at s i r) (line_feed ∷ []), first.next, put_length first)) q in
-        go_on u (row_at s i r ++ line_feed ∷ []) (rows_of (drop (i + r) s)) rows_more (put_then first second)
-
-pub rows_none : (s : Bytes) (i : ℕ) → length s ≤ i → rows_of (drop i s) ≡ []
+pub rows_none : (s : Bytes) → length s ≡ 0 → rows_of s ≡ []
 unfolding rows
-rows_none s i h = rw (drop_of_length-le s h)
+rows_none [] h = refl
+rows_none (c ∷ s) h = absurd (omega arith)
 
 rows_length : (m n : ℕ) (s : Bytes) → length s ≤ 64 * n → length (joined m (rows n s)) ≡ length s + n
 unfolding rows

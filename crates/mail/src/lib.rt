@@ -2,14 +2,16 @@
 // characters, and read back from a longer text. The calls take any bytes and have no `requires`.
 #![tactic(auto)]
 
-ghost use Rattle.std.specs.Prelude.{◌≡◌, cond, [], ◌∷◌, ◌++◌, ◌+◌, ◌≤◌, length, ltb};
+ghost use Rattle.std.specs.Prelude.{◌≡◌, [], ◌∷◌, ◌++◌, ◌+◌, ◌≤◌, length, drop, MatchOption};
+ghost use Rattle.std.specs.Fn.{FnReturnsAt};
 ghost use Rattle.text.specs.Text.{same};
 ghost use Rattle.format.specs.Build.{joined};
 ghost use Rattle.format.specs.Files.{line_feed};
 ghost use Rattle.put.specs.Put.{Put};
 ghost use Rattle.put.specs.Made.{Writes};
-ghost use Rattle.mail.specs.Mail.{guard, rectype_in, is_begins, folded, block_of, block, write_mail, read_found, read_mail};
-ghost use Rattle.mail.specs.Steps.{line_from, Opens, Closes, feedless, Added};
+ghost use Rattle.numbers.specs.Numbers.{missing_begins, missing_ends};
+ghost use Rattle.mail.specs.Mail.{lines_in, guard, rectype_in, is_begins, folded, block_of, block, missing, closed, opened, write_mail, read_found, read_mail};
+ghost use Rattle.mail.specs.Steps.{line_from, Finds, Opens, Closes, feedless, Added};
 
 // The characters of a full row.
 const ROW: usize = 64;
@@ -30,28 +32,15 @@ fn put_guard(out: &mut [u8], at: usize, word: &[u8], rectype: &[u8]) -> usize
     put::put_byte(out, third, FEED)
 }
 
-// A row holds so many of the characters that are left.
-fn row_length(left: usize) -> usize
-    ensures { result ≡ cond (ltb left 64) left 64 }
-{
-    if left < ROW {
-        return left;
-    }
-    ROW
-}
-
 // The rows, a line feed after each.
 fn put_rows(out: &mut [u8], at: usize, record: &[u8]) -> usize
     requires { at + length (joined line_feed (folded «record».now)) ≤ length out.old }
     ensures { Put out.old at (joined line_feed (folded «record».now)) out.new result }
 {
     let mut next = at;
-    let mut i = 0;
-    while i < record.len() {
-        let end = i + row_length(record.len() - i);
-        next = put::put(out, next, &record[i..end]);
+    for row in record.chunks(ROW) {
+        next = put::put(out, next, row);
         next = put::put_byte(out, next, FEED);
-        i = end;
     }
     next
 }
@@ -71,8 +60,7 @@ fn block_length(rectype: &[u8], record: &[u8]) -> usize
     requires { (length rectype.now ≤ 32) × (length «record».now ≤ 1024) }
     ensures { result ≡ length (block_of rectype.now «record».now) }
 {
-    let rows = (record.len() + ROW - 1) / ROW;
-    30 + 2 * rectype.len() + record.len() + rows
+    30 + 2 * rectype.len() + record.len() + record.len().div_ceil(ROW)
 }
 
 // Writes a record between its guards from the front of a lent output; or refuses, with the record's own number, then 10, and leaves it untouched.
@@ -102,112 +90,92 @@ fn line_from<'a>(text: &'a [u8], place: usize) -> &'a [u8]
     ensures { result.now ≡ line_from text.now place }
 {
     let end = frame::next_mark(FEED, text, place);
-    if text.len() < end {
-        return &text[0..0];
-    }
-    &text[place..end]
+    text.get(place..end).unwrap_or(&[])
 }
 
 // The line is the guard of this word and this record type.
 fn is_guard(line: &[u8], word: &[u8], rectype: &[u8]) -> bool
-    requires { (length word.now ≤ 9) × (length rectype.now ≤ 32) }
     ensures { result ≡ same line.now (guard word.now rectype.now) }
 {
-    let end = 6 + rectype.len();
-    if line.len() != end + word.len() {
+    let Some(rest) = line.strip_prefix(b"--STS:") else {
         return false;
-    }
-    if !text::are_same(&line[0..6], b"--STS:") {
+    };
+    let Some(rest) = rest.strip_prefix(rectype) else {
         return false;
-    }
-    if !text::are_same(&line[6..end], rectype) {
-        return false;
-    }
-    text::are_same(&line[end..], word)
+    };
+    text::are_same(rest, word)
 }
 
 // What stands where a BEGINS line has its record type, and nothing in a line that is too short to be one.
 fn rectype_in<'a>(line: &'a [u8]) -> &'a [u8]
     ensures { result.now ≡ rectype_in line.now }
 {
-    if line.len() < 15 {
-        return &line[0..0];
-    }
-    let end = line.len() - 9;
-    &line[6..end]
+    let end = line.len().saturating_sub(9);
+    line.get(6..end).unwrap_or(&[])
 }
 
 fn is_begins(line: &[u8]) -> bool
     ensures { result ≡ is_begins line.now }
 {
     let rectype = rectype_in(line);
-    if !text::is_ident(rectype) {
-        return false;
-    }
-    is_guard(line, b" BEGINS--", rectype)
+    text::is_ident(rectype) && is_guard(line, b" BEGINS--", rectype)
 }
 
-// Where the first BEGINS line starts; the end or behind it where there is none.
-fn begins_at(text: &[u8]) -> usize
-    ensures { Opens text.now result }
+// Where the first line that passes the test starts, from the line at `from` on. The loop goes by places, which the lines that `split` gives do not have.
+fn line_where<F: Fn(&[u8]) -> bool>(text: &[u8], from: usize, passes: F) -> Option<usize>
+    requires { F.IsAlwaysCallable passes }
+    ensures { Finds (FnReturnsAt F.Fn passes) text.now from result }
 {
-    let mut at = 0;
+    let mut at = from;
     while at < text.len() {
         let line = line_from(text, at);
-        if is_begins(line) {
-            return at;
+        if passes(line) {
+            return Some(at);
         }
         at += line.len() + 1;
     }
-    at
+    None
 }
 
-// Where the first ENDS line of this record type starts, from the line at `from` on; the end or behind it where there is none.
-fn ends_at(text: &[u8], from: usize, rectype: &[u8]) -> usize
-    requires { length rectype.now ≤ 32 }
-    ensures { Closes text.now from rectype.now result }
+// Where the first BEGINS line starts.
+fn begins_at(text: &[u8]) -> Option<usize>
+    ensures { MatchOption result (opened (lines_in text.now) ≡ missing missing_begins) (Opens text.now) }
 {
-    let mut place = from;
-    while place < text.len() {
-        let line = line_from(text, place);
-        if is_guard(line, b" ENDS--", rectype) {
-            return place;
-        }
-        place += line.len() + 1;
-    }
-    place
+    line_where(text, 0, is_begins)
+}
+
+// Where the first ENDS line of this record type starts, from the line at `from` on.
+fn ends_at(text: &[u8], from: usize, rectype: &[u8]) -> Option<usize>
+    ensures { MatchOption result (closed rectype.now [] (lines_in (drop from text.now)) ≡ missing missing_ends) (Closes text.now from rectype.now) }
+{
+    line_where(text, from, |line| is_guard(line, b" ENDS--", rectype))
 }
 
 // ---- unfolding
 
-// Writes the byte unless it is a line feed, and answers the place after it; one beyond the end where it does not fit.
-fn add(out: &mut [u8], at: usize, byte: u8) -> usize
+// Writes the byte unless it is a line feed, and answers the place after it, if it fits.
+fn add(out: &mut [u8], at: usize, byte: u8) -> Option<usize>
     requires { at ≤ length out.old }
     ensures { Added out.old at (feedless (byte ∷ [])) out.new result }
 {
     if byte == FEED {
-        return at;
+        return Some(at);
     }
     if at == out.len() {
-        return at + 1;
+        return None;
     }
-    put::put_byte(out, at, byte)
+    Some(put::put_byte(out, at, byte))
 }
 
-// Joins the rows from the front of the output and answers their length; more than the output's where they do not fit.
-fn unfold(out: &mut [u8], rows: &[u8]) -> usize
+// Joins the rows from the front of the output and answers their length, if they fit.
+fn unfold(out: &mut [u8], rows: &[u8]) -> Option<usize>
     ensures { Added out.old 0 (feedless rows.now) out.new result }
 {
     let mut len = 0;
-    let mut i = 0;
-    while i < rows.len() {
-        len = add(out, len, rows[i]);
-        if out.len() < len {
-            return len;
-        }
-        i += 1;
+    for byte in rows {
+        len = add(out, len, *byte)?;
     }
-    len
+    Some(len)
 }
 
 // ---- reading
@@ -232,16 +200,16 @@ fn give(record: &[u8], rectype: &[u8], out: &mut [u8]) -> put::Written
     }
 }
 
-// The record must be whole before anything may be written into the lent output, so it is joined in an array of its own.
+// The record must be whole before anything may be written into the lent output, so it is joined in an array of its own, whose
+// length is fixed: there is no heap.
 fn read_rows(rows: &[u8], rectype: &[u8], out: &mut [u8]) -> put::Written
     ensures { Writes (read_found (length out.old) (block rectype.now (feedless rows.now))) out.old out.new result }
 {
-    let mut joined = [0u8; 1024];
-    let len = unfold(&mut joined, rows);
-    if reading::LONGEST < len {
+    let mut joined = [0u8; reading::LONGEST];
+    let Some(len) = unfold(&mut joined, rows) else {
         return put::refuse(numbers::TOO_LONG, 0);
-    }
-    give(&joined[0..len], rectype, out)
+    };
+    give(&joined[..len], rectype, out)
 }
 
 // Reads the record between the first BEGINS line of a text and the first matching ENDS line after it into a lent output. 21 where there is no BEGINS
@@ -250,16 +218,14 @@ fn read_rows(rows: &[u8], rectype: &[u8], out: &mut [u8]) -> put::Written
 pub fn read_mail(text: &[u8], out: &mut [u8]) -> put::Written
     ensures { Writes (read_mail text.now (length out.old)) out.old out.new result }
 {
-    let begins = begins_at(text);
-    if text.len() <= begins {
+    let Some(begins) = begins_at(text) else {
         return put::refuse(numbers::MISSING_BEGINS, 0);
-    }
+    };
     let line = line_from(text, begins);
     let rectype = rectype_in(line);
     let from = begins + line.len() + 1;
-    let ends = ends_at(text, from, rectype);
-    if text.len() <= ends {
+    let Some(ends) = ends_at(text, from, rectype) else {
         return put::refuse(numbers::MISSING_ENDS, 0);
-    }
+    };
     read_rows(&text[from..ends], rectype, out)
 }

@@ -3,13 +3,11 @@
 use Prim.Native.Nat.{ℕ, ◌+◌, ◌-◌, ◌≤◌, ◌<◌}
 use mathlib.Core.Path.{◌≡◌, refl, sym, ap, ◌∙◌}
 use mathlib.Core.Bool.{Bool, true, false}
-use mathlib.Core.List.{[], ◌∷◌, ◌++◌, append-nil}
+use mathlib.Core.List.{◌∷◌, ◌++◌, append-nil}
 use native.Mathlib.Omega.{arith}
-use lib.ListN.{length, take, drop, get_or, replicate}
-use borrow.Author.Tests.{eq-eqb, ne_eqb}
-use Rattle.text.specs.Text.{Bytes, same, is_hex}
+use lib.ListN.{length, take, drop, replicate}
+use Rattle.text.specs.Text.{Bytes, same}
 use Rattle.text.specs.Base16.{base16}
-use Rattle.text.proofs.Loops.{rest_all}
 use Rattle.sha_1.specs.Sha1.{sha1}
 use Rattle.sha_1.proofs.Digest.{digest_size}
 use Rattle.numbers.specs.Numbers.{short_output, missing_trailer, wrong_hash}
@@ -29,20 +27,6 @@ use Rattle.given.proofs.Given.{given_short, given_put}
 use Rattle.trailed.specs.Trailed.{sharp, hash_text, trailer, trailed, record_in, trailer_in, is_trailer, only_if, read_trailed, write_trailed}
 use Rattle.trailed.proofs.Trailed.{only_if_true, trailer_length, trailed_length}
 
--- ---- '#' and HEX(40)
-
-pub no_trailer : (s : Bytes) → length s ≡ 0 → false ≡ is_trailer s
-no_trailer [] e = refl
-no_trailer (c ∷ s) e = absurd (omega arith)
-
-pub other_mark : (s : Bytes) → (get_or s 0 0 ≡ sharp → ⊥) → false ≡ is_trailer s
-other_mark [] n = refl
-other_mark (c ∷ s) n = rw (ne_eqb c sharp n)
-
-pub is_marked : (s : Bytes) {b : Bool} → (length s ≡ 0 → ⊥) → get_or s 0 0 ≡ sharp → b ≡ is_hex 40 (take (length s - 1) (drop 1 s)) → b ≡ is_trailer s
-is_marked [] n e h = absurd (n refl)
-is_marked (c ∷ s) n e h = h ∙ rw (rest_all (c ∷ s) 1, eq-eqb c sharp e)
-
 -- ---- the trailer of a record
 
 pub trailer_written : (r h : Bytes) {out : Bytes} {n : ℕ} → h ≡ sha1 (hash_text r) → Puts (sharp ∷ replicate 40 0) 1 (base16 h) out n → out ≡ trailer r
@@ -53,15 +37,15 @@ trailer_written r h e p =
 
 -- ---- reading a line
 
--- the line s, whose record ends at e, and the test for a trailer after it
-module _ (s : Bytes) {e : ℕ} (end : e ≡ length s - 41) {b : Bool} (test : b ≡ is_trailer (take (length s - e) (drop e s))) where
-  front : take (e - 0) (drop 0 s) ≡ record_in s
-  front = let z : e - 0 ≡ length s - 41 = omega (arith, end) in rw z
+-- the line s in two parts, the record and what stands behind it, and the test of that
+module _ (s : Bytes) {x y : Bytes} {e : ℕ} {b : Bool} (end : e ≡ length s - 41) (front : x ≡ take e s) (behind : y ≡ drop e s) (test : b ≡ is_trailer y) where
+  back : y ≡ trailer_in s
+  back = behind ∙ ap (λ (n : ℕ). drop n s) end
 
-  back : take (length s - e) (drop e s) ≡ trailer_in s
-  back = rest_all s e ∙ ap (λ (j : ℕ). drop j s) end
+  its_record : x ≡ record_in s
+  its_record = front ∙ ap (λ (n : ℕ). take n s) end
 
-  there : {x : Bool} → b ≡ x → is_trailer (trailer_in s) ≡ x
+  there : {c : Bool} → b ≡ c → is_trailer (trailer_in s) ≡ c
   there q = ap is_trailer (sym back) ∙ sym test ∙ q
 
   pub says_missing : {a : Answer} → b ≡ false → a ≡ answer_of (refused missing_trailer 0) → a ≡ answer_of (read_trailed s)
@@ -69,11 +53,11 @@ module _ (s : Bytes) {e : ℕ} (end : e ≡ length s - 41) {b : Bool} (test : b 
   says_missing q h = h ∙ rw (there q)
 
   -- there is one, and a is the record call's answer for what stands before it
-  module _ {a : Answer} (has : b ≡ true) (own : a ≡ answer_of (read_record (take (e - 0) (drop 0 s)))) where
+  module _ {a : Answer} (has : b ≡ true) (own : a ≡ answer_of (read_record x)) where
     own_said : a ≡ answer_of (read_record (record_in s))
-    own_said = own ∙ ap (λ (x : Bytes). answer_of (read_record x)) front
+    own_said = own ∙ ap (λ (r : Bytes). answer_of (read_record r)) its_record
 
-    read_by : {x : Bool} {o : Outcome} → same (trailer_in s) (trailer (record_in s)) ≡ x → read_record (record_in s) ≡ o → read_trailed s ≡ only_if x wrong_hash o
+    read_by : {c : Bool} {o : Outcome} → same (trailer_in s) (trailer (record_in s)) ≡ c → read_record (record_in s) ≡ o → read_trailed s ≡ only_if c wrong_hash o
     unfolding read_trailed
     read_by p q = rw (there has, p, q)
 
@@ -83,9 +67,9 @@ module _ (s : Bytes) {e : ℕ} (end : e ≡ length s - 41) {b : Bool} (test : b 
         own_said ∙ ap answer_of (o ∙ sym (read_by refl o))
 
     -- the record is accepted, and t is the trailer that is right for it
-    module _ {t : Bytes} {c : Bool} (right : t ≡ trailer (take (e - 0) (drop 0 s))) (compared : c ≡ same (take (length s - e) (drop e s)) t) where
-      as_compared : {x : Bool} → c ≡ x → same (trailer_in s) (trailer (record_in s)) ≡ x
-      as_compared q = sym (compared ∙ rw (back, right, front)) ∙ q
+    module _ {t : Bytes} {c : Bool} (right : t ≡ trailer x) (compared : c ≡ same y t) where
+      as_compared : {d : Bool} → c ≡ d → same (trailer_in s) (trailer (record_in s)) ≡ d
+      as_compared q = sym (compared ∙ rw (back, right, its_record)) ∙ q
 
       pub says_right : c ≡ true → a ≡ answer_of (read_trailed s)
       says_right q = own_said ∙ ap answer_of (sym (read_by (as_compared q) refl ∙ only_if_true wrong_hash (read_record (record_in s))))

@@ -2,7 +2,7 @@
 -- what the record call catches in a record is caught wherever it stands in the line.
 -- Assumes nothing.
 use Prim.Native.Nat.{ℕ, ◌+◌, ◌-◌}
-use mathlib.Core.Path.{◌≡◌, refl, sym, ap, ◌∙◌}
+use mathlib.Core.Path.{◌≡◌, refl, sym, ap, ◌∙◌, subst}
 use mathlib.Core.Logic.{◌↔◌}
 use mathlib.Core.Bool.{Bool, true, false}
 use mathlib.Core.List.{List, ◌++◌}
@@ -18,7 +18,7 @@ use Rattle.put.proofs.Hex.{base16_hex}
 use Rattle.sha_1.specs.Sha1.{sha1}
 use Rattle.sha_1.proofs.Digest.{digest_bytes, digest_size}
 use Rattle.text.proofs.Types.{hex_length}
-use Rattle.numbers.specs.Numbers.{missing_trailer, wrong_hash}
+use Rattle.numbers.specs.Numbers.{wrong_hash}
 use Rattle.format.specs.Kinds.{Kind, record_kinds}
 use Rattle.format.specs.Build.{Built}
 use Rattle.format.specs.Read.{Outcome, accepted, refused, provided, read_record}
@@ -27,6 +27,8 @@ use Rattle.format.proofs.Outcomes.{never, Numbered, NeverZero}
 use Rattle.format.proofs.Exactly.{record_exact}
 use Rattle.format.proofs.DamagedLines.{damaged_by_two, part_bytes, within_part, all_lines_caught}
 use Rattle.format.proofs.Damage.{record_catches_by_two, record_never_zero}
+use Rattle.files.proofs.Counting.{never_zero}
+use Rattle.trailed.specs.Law as law
 use Rattle.trailed.specs.Trailed.{sharp, hash_text, trailer, trailed, record_in, trailer_in, is_trailer, only_if, InRecord, read_trailed, walk_trailed}
 
 -- ---- a test that passes changes nothing
@@ -91,14 +93,7 @@ trailed_exact s k fs = (
 -- ---- damage
 
 pub trailed_never_zero : NeverZero read_trailed
-unfolding read_trailed
-trailed_never_zero s = go (is_trailer (trailer_in s)) (same (trailer_in s) (trailer (record_in s))) (read_record (record_in s)) (record_never_zero (record_in s))
-  where
-    go : (b c : Bool) (o : Outcome) → Numbered o → Numbered (provided b missing_trailer (only_if c wrong_hash o))
-    go true true (accepted k fs) h = tt
-    go true false (accepted k fs) h = tt
-    go true c (refused n i) h = h
-    go false c o h = tt
+trailed_never_zero = never_zero (law.never_zero (λ s i e. subst Numbered e (record_never_zero s)))
 
 -- what the record call catches in the record is caught in the line
 pub trailed_catches_by : (Harm : Bytes → Bytes → Type 0) → CatchesBy read_record Harm → CatchesBy read_trailed (InRecord Harm)

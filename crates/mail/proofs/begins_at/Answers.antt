@@ -1,27 +1,8 @@
--- `mail::begins_at` meets its contract. The loop's invariant: no line before the place is a BEGINS line.
+-- `mail::begins_at` meets its contract.
 -- Assumes nothing.
-use mathlib.Core.Path.{refl, sym, ◌∙◌}
-use native.Mathlib.Omega.{arith}
-use Rattle.mail.proofs.Finding.{line_within, opened_on, opens_here, opens_end}
+use Rattle.std.proofs.Common.{rules}
+use Rattle.mail.proofs.Finding.{opens_first}
 use Rattle.mail.proofs.begins_at.Goals as goal
 
-pub loop-at-init : goal.loop-at-init
-loop-at-init c = refl
-
-pub returns-then-is_begins : goal.returns-then-is_begins
-returns-then-is_begins c = opens_here _ _ c.loop-at.invariant c.loop-at-test.true c.line_from-line.ensures (sym c.is_begins.ensures ∙ c.if-is_begins.true)
-
-pub overflow_add-at : goal.overflow_add-at
-overflow_add-at c = omega (arith, line_within c.args.text.now c.loop-at.at c.loop-at-test.true c.line_from-line.ensures)
-
-pub overflow_add-at-in-loop-at : goal.overflow_add-at-in-loop-at
-overflow_add-at-in-loop-at c = omega (arith, line_within c.args.text.now c.loop-at.at c.loop-at-test.true c.line_from-line.ensures)
-
-pub loop-at-smaller : goal.loop-at-smaller
-loop-at-smaller c = omega (arith, line_within c.args.text.now c.loop-at.at c.loop-at-test.true c.line_from-line.ensures)
-
-pub loop-at-preserved : goal.loop-at-preserved
-loop-at-preserved c = opened_on _ _ c.loop-at.invariant c.loop-at-test.true c.line_from-line.ensures (sym c.is_begins.ensures ∙ c.if-is_begins.false)
-
 pub returns : goal.returns
-returns c = opens_end _ _ c.loop-at.invariant c.loop-at-test.false
+returns c = opens_first c.args.text.now (λ l b h. search rules) _ c.line_where.ensures

@@ -1,19 +1,21 @@
 -- `mail::is_guard` meets its contract.
 -- Assumes nothing.
 use mathlib.Core.Path.{sym, ◌∙◌}
-use borrow.Author.Tests.{not-true, not-false}
-use Rattle.text.proofs.Tests.{and_stop, and_on}
-use Rattle.mail.proofs.Guards.{guard_apart, guard_parts}
+use mathlib.Core.List.{◌++◌}
+use Rattle.text.specs.Text.{ascii}
+use Rattle.mail.proofs.Guards.{front_apart, front_stripped}
 use Rattle.mail.proofs.is_guard.Goals as goal
 
-pub returns-then-line-end : goal.returns-then-line-end
-returns-then-line-end c = guard_apart c.args.line.now c.args.word.now c.args.rectype.now c.if-line-end.true
+pub returns-in_default : goal.returns-in_default
+returns-in_default c = sym (front_apart (ascii "--STS:") (c.args.rectype.now ++ c.args.word.now) c.args.line.now c.in_default.ensures.cases)
 
-pub returns-then-not-are_same : goal.returns-then-not-are_same
-returns-then-not-are_same c = sym (guard_parts c.args.line.now c.args.word.now c.args.rectype.now c.if-line-end.false ∙ and_stop _ _ (sym c.are_same.ensures ∙ not-true _ c.if-not-are_same.true-raw))
-
-pub returns-then-not-are_same-2 : goal.returns-then-not-are_same-2
-returns-then-not-are_same-2 c = sym (guard_parts c.args.line.now c.args.word.now c.args.rectype.now c.if-line-end.false ∙ and_on _ _ (sym c.are_same.ensures ∙ not-false _ c.if-not-are_same.false-raw) ∙ and_stop _ _ (sym c.are_same-2.ensures ∙ not-true _ c.if-not-are_same-2.true-raw))
+pub returns-in_default-strip_prefix : goal.returns-in_default-strip_prefix
+returns-in_default-strip_prefix c =
+    let front = c.in-Some.ensures.cases in
+    sym (front_stripped (ascii "--STS:") (c.args.rectype.now ++ c.args.word.now) c.args.line.now front.0 front.1 ∙ front_apart c.args.rectype.now c.args.word.now c.in-Some.rest.now c.in_default-strip_prefix.ensures.cases)
 
 pub returns : goal.returns
-returns c = c.are_same-3.ensures ∙ sym (guard_parts c.args.line.now c.args.word.now c.args.rectype.now c.if-line-end.false ∙ and_on _ _ (sym c.are_same.ensures ∙ not-false _ c.if-not-are_same.false-raw) ∙ and_on _ _ (sym c.are_same-2.ensures ∙ not-false _ c.if-not-are_same-2.false-raw))
+returns c =
+    let front = c.in-Some.ensures.cases in
+    let middle = c.in-Some-strip_prefix.ensures.cases in
+    c.are_same.ensures ∙ sym (front_stripped (ascii "--STS:") (c.args.rectype.now ++ c.args.word.now) c.args.line.now front.0 front.1 ∙ front_stripped c.args.rectype.now c.args.word.now c.in-Some.rest.now middle.0 middle.1)

@@ -1,28 +1,21 @@
--- `mail::put_rows` meets its contract. The loop's invariant: the rows before place i are written.
+-- `mail::put_rows` meets its contract. The loop's invariant: the rows that came are written.
 -- Assumes nothing.
-use native.Mathlib.Omega.{arith}
+use mathlib.Core.Path.{◌∙◌}
 use Rattle.put.proofs.Pieces.{put_length}
 use Rattle.put.proofs.Underway.{begin, finish}
-use Rattle.mail.proofs.Writing.{row_inside, row_put, rows_none}
+use Rattle.mail.proofs.Writing.{row_put, rows_none}
 use Rattle.mail.proofs.put_rows.Goals as goal
 
-pub loop-i-init : goal.loop-i-init
-loop-i-init c = begin c.requires
+pub loop-row-init : goal.loop-row-init
+loop-row-init c = rw (c.into_iter-row-iterator.ensures.into_iter_gives, c.chunks-row-items.ensures.rest) (begin c.requires, c.chunks-row-items.ensures.size)
 
-pub overflow_add-end : goal.overflow_add-end
-overflow_add-end c = omega (arith, (row_inside c.args.record.now c.loop-i.i c.row_length.result c.loop-i-test.true c.row_length.ensures).1)
-
-pub slice_bounds-put-end : goal.slice_bounds-put-end
-slice_bounds-put-end c = omega (arith, (row_inside c.args.record.now c.loop-i.i c.row_length.result c.loop-i-test.true c.row_length.ensures).1)
-
-pub loop-i-smaller : goal.loop-i-smaller
-loop-i-smaller c = let s = row_inside c.args.record.now c.loop-i.i c.row_length.result c.loop-i-test.true c.row_length.ensures in omega (arith, s.0, s.1)
-
-pub loop-i-preserved : goal.loop-i-preserved
-loop-i-preserved c = row_put _ _ _ c.loop-i-test.true c.row_length.ensures c.loop-i.invariant c.put-next.ensures c.put_byte-next.ensures
+pub loop-row-preserved : goal.loop-row-preserved
+loop-row-preserved c =
+    let (size, came) = c.in-Some.ensures.steps in
+    (row_put _ _ _ came.0 (rw c.loop-row.invariant.1 at came.1) came.2 c.loop-row.invariant.0 c.put-next.ensures c.put_byte-next.ensures, size ∙ c.loop-row.invariant.1)
 
 pub shape_of-out : goal.shape_of-out
-shape_of-out c = put_length c.loop-i.invariant.put
+shape_of-out c = put_length c.loop-row.invariant.0.put
 
 pub returns : goal.returns
-returns c = finish c.loop-i.invariant (rows_none _ _ c.loop-i-test.false)
+returns c = finish c.loop-row.invariant.0 (rows_none _ c.in-None.ensures.steps.1.0)

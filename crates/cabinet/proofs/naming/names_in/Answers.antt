@@ -1,10 +1,8 @@
 -- `cabinet::naming::names_in` meets its contract.
 -- Assumes nothing.
-use Rattle.cabinet.proofs.Bytes.{names_short, names_there}
+use mathlib.Core.Path.{refl, ap, ◌∙◌}
+use Rattle.cabinet.proofs.Bytes.{names_got}
 use Rattle.cabinet.proofs.naming.names_in.Goals as goal
 
-pub returns-then-identity-end : goal.returns-then-identity-end
-returns-then-identity-end c = names_short c.args.identity.now c.part_start-end.ensures c.if-identity-end.true
-
 pub returns : goal.returns
-returns c = names_there c.args.identity.now c.part_start-end.ensures c.if-identity-end.false
+returns c = ap (λ b. b.now) c.unwrap_or.ensures ∙ names_got c.args.identity.now c.part_start-end.ensures c.get.result _ refl c.get.ensures.lookup

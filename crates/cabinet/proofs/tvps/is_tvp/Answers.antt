@@ -1,11 +1,11 @@
 -- `cabinet::tvps::is_tvp` meets its contract.
 -- Assumes nothing.
-use borrow.Author.Tests.{not-true, not-false}
+use mathlib.Core.Path.{◌∙◌}
 use Rattle.cabinet.proofs.Decoding.{tvp_invalid, tvp_valid}
 use Rattle.cabinet.proofs.tvps.is_tvp.Goals as goal
 
-pub returns-then-not-moment : goal.returns-then-not-moment
-returns-then-not-moment c = tvp_invalid _ c.moment_of-moment.ensures (not-true _ c.if-not-moment.true)
+pub returns-then-moment : goal.returns-then-moment
+returns-then-moment c = tvp_valid _ c.moment_of-moment.ensures c.if-moment.true
 
-pub returns : goal.returns
-returns c = tvp_valid _ c.moment_of-moment.ensures (not-false _ c.if-not-moment.false)
+pub returns-else-moment : goal.returns-else-moment
+returns-else-moment c = c.if-moment.false ∙ tvp_invalid _ c.moment_of-moment.ensures c.if-moment.false
