@@ -26,7 +26,7 @@ use Rattle.reading.specs.declared.Refused.{Refused}
 use Rattle.reading.specs.Steps.{form_no, places_in, kinds_or, parts_by, AllPass, FirstRefused}
 use Rattle.reading.proofs.Outcomes.{passing_stop, passing_on, over_kind}
 use Rattle.reading.proofs.Form.{from_fields, from_count, of_form, form_found, Placed, placed, unplaced}
-use Rattle.reading.proofs.Answers.{denied, agreed, agreed_kinds}
+use Rattle.reading.proofs.Answers.{denied_so, agreed_so, agreed_kinds}
 use Rattle.reading.proofs.Fields.{judged_on, judged_stop}
 use Rattle.reading.proofs.Whole.{judged_kind}
 
@@ -162,10 +162,10 @@ module _ (rules : Rules) {ks : List Kind} {s : Bytes} {row : ℕ} (b : Begun ks 
   read = under_is rules ks s ∙ to_fields read_identity b e rules
 
   pub record_refused : (x : Refused) → Err x ≡ r → read_under rules ks s ≡ refused x.no x.field
-  record_refused x u = read ∙ denied rules kind parts said x u (accepted kind parts)
+  record_refused x u = read ∙ denied_so rules kind parts said x u (accepted kind parts)
 
   pub record_accepted : (kinds : List ℕ) → Ok kinds ≡ r → read_under rules ks s ≡ accepted kind parts
-  record_accepted kinds u = read ∙ agreed rules kind parts said kinds u (accepted kind parts)
+  record_accepted kinds u = read ∙ agreed_so rules kind parts said kinds u (accepted kind parts)
 
   pub record-kinds : (kinds : List ℕ) → Ok kinds ≡ r → kinds ≡ kinds_of kind parts
   record-kinds kinds u = agreed_kinds rules kind parts said kinds u
