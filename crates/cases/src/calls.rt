@@ -1,4 +1,5 @@
-// The other calls, by their numbers in the case file.
+// The other calls, by their numbers in the case file, which compare/README.md lists. Each number stands where its call is made: an enum would
+// say every call once more.
 use crate::{confirmations, hashes, say};
 use std::io;
 
@@ -16,20 +17,14 @@ pub(crate) fn test(op: usize, n: usize, a: &[u8]) -> bool {
 
 // The check of a, by its state.
 fn check_by_state(a: &[u8]) -> u16 {
-    let mut crc = crc16::Crc::begin();
-    let mut i: usize = 0;
-    while i < a.len() {
-        crc = crc.add(a[i]);
-        i += 1;
-    }
-    crc.end()
+    a.iter()
+        .fold(crc16::Crc::begin(), |crc, byte| crc.add(*byte))
+        .end()
 }
 
-fn print_each(rt: &impl Print, numbers: &[usize; 7]) -> io::Result<()> {
-    let mut i: usize = 0;
-    while i < 7 {
-        say::number(rt, numbers[i])?;
-        i += 1;
+fn print_each(rt: &impl Print, numbers: &[usize]) -> io::Result<()> {
+    for &n in numbers {
+        say::number(rt, n)?;
     }
     Ok(())
 }
@@ -37,12 +32,9 @@ fn print_each(rt: &impl Print, numbers: &[usize; 7]) -> io::Result<()> {
 // The answer, then the starts of all fields, their lengths, and the kinds of the identities among them.
 fn print_answer(rt: &impl Print, read: reading::Answer) -> io::Result<()> {
     say::outcome(rt, read.no, read.field, read.kind)?;
-    let starts = read.starts;
-    print_each(rt, &starts)?;
-    let lens = read.lens;
-    print_each(rt, &lens)?;
-    let kinds = read.kinds;
-    print_each(rt, &kinds)
+    print_each(rt, &read.starts)?;
+    print_each(rt, &read.lens)?;
+    print_each(rt, &read.kinds)
 }
 
 // The calls that hand back a part: a field's text, the answer, and the part's length and check.
@@ -103,8 +95,7 @@ fn print_choice(rt: &impl Print, chosen: newer::Choice) -> io::Result<()> {
 
 // The first line, by a reader.
 fn first_line(file: &[u8]) -> files::Line {
-    let mut reader = files::Reader::new(file);
-    reader.step()
+    files::Reader::new(file).step()
 }
 
 // A place alone where the file is finished.

@@ -56,22 +56,16 @@ fn part_of<'a>(a: &'a [u8], step: &[u8]) -> &'a [u8] {
 fn prepare_by(lent: &mut [u8], a: &[u8], step: &[u8]) {
     let op = input::number(step, 0, 1);
     let part = part_of(a, step);
-    match op {
-        0 => {
-            put::put(lent, input::number(step, 7, 9), part);
-        }
-        _ => {
-            change(op, lent, part);
-        }
+    if op == 0 {
+        put::put(lent, input::number(step, 7, 9), part);
+    } else {
+        change(op, lent, part);
     }
 }
 
 fn prepare(lent: &mut [u8], a: &[u8], c: &[u8]) {
-    let end = c.len() % 4294967296;
-    let mut at: usize = 0;
-    while at < end {
+    for at in (0..c.len() % 4294967296).step_by(9) {
         prepare_by(lent, a, input::cut(c, at, at + 9));
-        at += 9;
     }
 }
 
@@ -102,11 +96,8 @@ fn go_on(rt: &impl Print, lent: &mut [u8], a: &[u8], step: &[u8], count: usize) 
 }
 
 fn go_through(rt: &impl Print, lent: &mut [u8], a: &[u8], c: &[u8]) -> io::Result<()> {
-    let end = c.len() % 4294967296;
-    let mut at: usize = 0;
-    while at < end {
+    for at in (0..c.len() % 4294967296).step_by(9) {
         go_on(rt, lent, a, input::cut(c, at, at + 9), at / 9)?;
-        at += 9;
     }
     Ok(())
 }

@@ -4,22 +4,14 @@
 
 // The bytes from a place to another, and none where they are not all there.
 pub(crate) fn cut<'a>(s: &'a [u8], from: usize, to: usize) -> &'a [u8] {
-    if to <= s.len() {
-        if from <= to {
-            return &s[from..to];
-        }
-    }
-    &s[0..0]
+    s.get(from..to).unwrap_or(&[])
 }
 
 // The bytes from a place to another as a number, of which the last eight count.
 pub(crate) fn number(s: &[u8], from: usize, to: usize) -> usize {
-    let part = cut(s, from, to);
-    let mut n: usize = 0;
-    let mut i: usize = 0;
-    while i < part.len() {
-        n = n % 72057594037927936 * 256 + (part[i] as usize);
-        i += 1;
+    let mut n = 0;
+    for &byte in cut(s, from, to) {
+        n = n % 72057594037927936 * 256 + byte as usize;
     }
     n
 }

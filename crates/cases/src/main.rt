@@ -49,10 +49,8 @@ fn run_case(rt: &impl Print, file: &[u8], head: &[u8]) -> io::Result<()> {
 
 fn run_all(rt: &impl Print, file: &[u8]) -> io::Result<()> {
     let end = input::number(file, 1024, 1032) % 4294967296;
-    let mut at: usize = 1032;
-    while at < end {
+    for at in (1032..end).step_by(41) {
         run_case(rt, file, input::cut(file, at, at + 41))?;
-        at += 41;
     }
     Ok(())
 }

@@ -75,22 +75,14 @@ pub(crate) fn sweep(
     c: &[u8],
 ) -> io::Result<()> {
     let mut last: usize = 65536;
-    let mut byte: usize = 0;
-    while byte < 256 {
-        let said = answer_of(
-            op,
-            n,
-            a,
-            byte as u8,
-            b,
-            input::cut(c, byte * 4, byte * 4 + 4),
-        );
+    for byte in 0..=u8::MAX {
+        let at = byte as usize * 4;
+        let said = answer_of(op, n, a, byte, b, input::cut(c, at, at + 4));
         if said != last {
-            say::number(rt, byte)?;
+            say::number(rt, byte as usize)?;
             say::number(rt, said)?;
         }
         last = said;
-        byte += 1;
     }
     Ok(())
 }

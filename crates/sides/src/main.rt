@@ -12,14 +12,9 @@ fn print(rt: &impl Print, text: &[u8]) -> io::Result<()> {
     rt.write_all(text)
 }
 
-fn space(rt: &impl Print) -> io::Result<()> {
-    print(rt, b" ")
-}
-
 // A space and a number.
 fn then(rt: &impl Print, n: usize) -> io::Result<()> {
-    space(rt)?;
-    rt.print(n)
+    print!(rt; " {n}")
 }
 
 fn print_answer(rt: &impl Print, call: &[u8], answer: reading::Answer) -> io::Result<()> {
@@ -30,9 +25,7 @@ fn print_answer(rt: &impl Print, call: &[u8], answer: reading::Answer) -> io::Re
 }
 
 fn print_field(rt: &impl Print, n: usize, field: &[u8]) -> io::Result<()> {
-    space(rt)?;
-    then(rt, n)?;
-    space(rt)?;
+    print!(rt; "  {n} ")?;
     print(rt, field)?;
     print(rt, b"\n")
 }
@@ -79,10 +72,10 @@ fn show_text(rt: &impl Print, s: &[u8]) -> io::Result<()> {
 
 // The value of a single character, and the character of that value.
 fn show_value(rt: &impl Print, s: &[u8]) -> io::Result<()> {
-    if s.len() != 1 {
+    let [character] = s else {
         return Ok(());
-    }
-    let value = text::hex_value(s[0]);
+    };
+    let value = text::hex_value(*character);
     print(rt, b"\n  value")?;
     then(rt, value as usize)?;
     print(rt, b", character")?;
@@ -114,14 +107,12 @@ fn room() -> [u8; ROOM]
 
 // A pair with no label ends the list.
 fn show_all(rt: &impl Print, input: &[u8]) -> io::Result<()> {
-    let mut line: usize = 0;
-    while line < ROOM {
+    for line in (0..ROOM).step_by(2) {
         let label = frame::part(b'\n', input, line);
-        if label.len() == 0 {
+        if label.is_empty() {
             break;
         }
         show(rt, label, frame::part(b'\n', input, line + 1))?;
-        line += 2;
     }
     Ok(())
 }

@@ -9,42 +9,29 @@
 mod calls;
 mod confirmations;
 mod dates;
+mod files_of_records;
 mod filing;
+mod rebuilding;
 mod say;
+mod step;
 mod writing;
 
 ghost use Rattle.std.specs.Prelude.{◌≡◌, length};
 
 use std::io;
+use step::Step;
 
-// The number that a word of one digit is; 0 for any other word.
-fn digit(word: &[u8]) -> usize {
-    if word.len() != 1 {
-        return 0;
-    }
-    text::hex_value(word[0]) as usize
-}
-
-// 1 where the step agrees, else 0.
-fn run_step(rt: &impl Print, title: &[u8], step: &[u8], known: &[u8]) -> io::Result<usize> {
-    say::text(rt, title)?;
-    say::text(rt, b"\n  ")?;
-    let agrees_to = calls::run(
-        rt,
-        frame::part(b'\t', step, 0),
-        digit(frame::part(b'\t', step, 1)),
-        frame::part(b'\t', step, 2),
-        frame::part(b'\t', step, 3),
-        frame::part(b'\t', step, 4),
-        step,
-        known,
-    )?;
-    if agrees_to == known.len() {
-        say::text(rt, b"\n  agrees\n")?;
-        return Ok(1);
-    }
-    say::text(rt, b"\n  DIFFERS\n")?;
-    Ok(0)
+// Whether the step agrees.
+fn run_step(rt: &impl Print, title: &[u8], step: Step, known: &[u8]) -> io::Result<bool> {
+    rt.write_all(title)?;
+    rt.write_all(b"\n  ")?;
+    let agrees = calls::run(rt, step, known)?;
+    rt.write_all(if agrees {
+        b"\n  agrees\n"
+    } else {
+        b"\n  DIFFERS\n"
+    })?;
+    Ok(agrees)
 }
 
 // Room for the input, which has no more lines than it has bytes. The length is stated because a proof that looked at this
@@ -59,19 +46,23 @@ fn room() -> [u8; ROOM]
 
 // A step with no title ends the list.
 fn run_all(rt: &impl Print, input: &[u8]) -> io::Result<()> {
-    let mut agree: usize = 0;
-    let mut line: usize = 0;
-    while line < ROOM {
+    let mut agree = 0u64;
+    let mut differ = 0u64;
+    for line in (0..ROOM).step_by(3) {
         let title = frame::part(b'\n', input, line);
-        if title.len() == 0 {
+        if title.is_empty() {
             break;
         }
-        let step = frame::part(b'\n', input, line + 1);
+        let bytes = frame::part(b'\n', input, line + 1);
         let known = frame::part(b'\n', input, line + 2);
-        agree = std::num::wrapping_add_usize(agree, run_step(rt, title, step, known)?);
-        line += 3;
+        if run_step(rt, title, Step { bytes }, known)? {
+            agree = agree.saturating_add(1);
+        } else {
+            differ = differ.saturating_add(1);
+        }
     }
-    say::totals(rt, agree, std::num::wrapping_sub_usize(line / 3, agree))
+    println!(rt; "steps that agree: {agree}")?;
+    println!(rt; "steps that differ: {differ}")
 }
 
 fn main(rt: HostRuntime) -> io::Result<()> {

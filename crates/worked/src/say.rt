@@ -1,92 +1,74 @@
 // What a call hands back, as text: the bytes themselves, those of a key agreement text, a hash, a key or a tag in hexadecimal
-// characters, or `refused` and the number. It is printed piece by piece and held against the value known: a function is told
-// up to which place that agrees, and answers up to which it agrees then. A place past the end of the value known stands for
-// none.
+// characters, or `refused` and the number. It is printed piece by piece and held against the value known.
 use std::io;
 
-pub(crate) fn text(rt: &impl Print, s: &[u8]) -> io::Result<()> {
-    rt.write_all(s)
+// The first bytes, and none where there are not so many.
+pub(crate) fn front<'a>(bytes: &'a [u8], len: usize) -> &'a [u8] {
+    bytes.get(..len).unwrap_or(&[])
 }
 
-pub(crate) fn totals(rt: &impl Print, agree: usize, differ: usize) -> io::Result<()> {
-    println!(rt; "steps that agree: {agree}")?;
-    println!(rt; "steps that differ: {differ}")
+// What is said of a step, and what is left of the value known: nothing of it once a piece has differed.
+#[derive(Drop)]
+pub(crate) struct Saying<'a, P: Print> {
+    rt: &'a P,
+    left: Option<&'a [u8]>,
 }
 
-// The bytes from a place to another, and none where they are not all there.
-pub(crate) fn cut<'a>(s: &'a [u8], from: usize, to: usize) -> &'a [u8] {
-    if to <= s.len() {
-        if from <= to {
-            return &s[from..to];
-        }
+impl<'a, P: Print> Saying<'a, P> {
+    pub(crate) fn new(rt: &'a P, known: &'a [u8]) -> Saying<'a, P> {
+        let left = Some(known);
+        Saying { rt, left }
     }
-    &s[0..0]
-}
 
-pub(crate) fn piece(rt: &impl Print, known: &[u8], at: usize, piece: &[u8]) -> io::Result<usize> {
-    text(rt, piece)?;
-    let end = std::num::wrapping_add_usize(at, piece.len());
-    if text::are_same(piece, cut(known, at, end)) {
-        return Ok(end);
+    // All that is known was said, and nothing else.
+    pub(crate) fn agrees(&self) -> bool {
+        self.left.is_some_and(|left| left.is_empty())
     }
-    Ok(std::num::wrapping_add_usize(known.len(), 1))
-}
 
-// Two decimal digits.
-pub(crate) fn number(rt: &impl Print, known: &[u8], at: usize, n: usize) -> io::Result<usize> {
-    piece(
-        rt,
-        known,
-        at,
-        &[
+    pub(crate) fn piece(&mut self, piece: &[u8]) -> io::Result<()> {
+        self.rt.write_all(piece)?;
+        self.left = self.left.and_then(|left| left.strip_prefix(piece));
+        Ok(())
+    }
+
+    // Two decimal digits.
+    pub(crate) fn number(&mut self, n: usize) -> io::Result<()> {
+        self.piece(&[
             text::hex_digit((n / 10 % 10) as u8),
             text::hex_digit((n % 10) as u8),
-        ],
-    )
-}
+        ])
+    }
 
-// The number, and the field's where one is named.
-pub(crate) fn answer(
-    rt: &impl Print,
-    known: &[u8],
-    at: usize,
-    no: u8,
-    field: u8,
-) -> io::Result<usize> {
-    let end = number(rt, known, at, no as usize)?;
-    if field == 0 {
-        return Ok(end);
+    // The number, and the field's where one is named.
+    pub(crate) fn answer(&mut self, no: u8, field: u8) -> io::Result<()> {
+        self.number(no as usize)?;
+        if field == 0 {
+            return Ok(());
+        }
+        self.piece(b" field ")?;
+        self.number(field as usize)
     }
-    number(
-        rt,
-        known,
-        piece(rt, known, end, b" field ")?,
-        field as usize,
-    )
-}
 
-pub(crate) fn part(rt: &impl Print, known: &[u8], no: u8, part: &[u8]) -> io::Result<usize> {
-    if no != numbers::ACCEPTED {
-        return number(rt, known, piece(rt, known, 0, b"refused ")?, no as usize);
+    pub(crate) fn part(&mut self, no: u8, part: &[u8]) -> io::Result<()> {
+        if no == numbers::ACCEPTED {
+            return self.piece(part);
+        }
+        self.piece(b"refused ")?;
+        self.number(no as usize)
     }
-    piece(rt, known, 0, part)
-}
 
-pub(crate) fn hex(rt: &impl Print, known: &[u8], no: u8, bytes: &[u8]) -> io::Result<usize> {
-    if no != numbers::ACCEPTED {
-        return part(rt, known, no, bytes);
+    pub(crate) fn hex(&mut self, no: u8, bytes: &[u8]) -> io::Result<()> {
+        if no != numbers::ACCEPTED {
+            return self.part(no, bytes);
+        }
+        for &byte in bytes {
+            self.piece(&[text::hex_digit(byte / 16), text::hex_digit(byte % 16)])?;
+        }
+        Ok(())
     }
-    let mut at: usize = 0;
-    let mut i: usize = 0;
-    while i < bytes.len() {
-        let byte = bytes[i];
-        at = piece(
-            rt,
-            known,
-            at,
-            &[text::hex_digit(byte / 16), text::hex_digit(byte % 16)],
-        )?;
-        i += 1;
+
+    // What was written into a lent output.
+    pub(crate) fn written(&mut self, made: put::Written, out: &[u8]) -> io::Result<()> {
+        self.part(made.no, front(out, made.len))
     }
-    Ok(at)
 }

@@ -1,89 +1,48 @@
 // What is written into a lent output: a line with a trailer, a block by mail, and a record out of a text.
-use crate::{calls, say};
+use crate::say::{self, Saying};
+use crate::step::Step;
 use std::io;
 
-fn write_to(call: usize, text: &[u8], out: &mut [u8]) -> put::Written {
-    match call {
-        calls::WRITE_TRAILED => trailed::write_trailed(text, out),
-        calls::WRITE_MAIL => mail::write_mail(text, out),
-        _ => mail::read_mail(text, out),
-    }
-}
-
-// The number, and the whole output.
-fn output(
-    rt: &impl Print,
-    known: &[u8],
-    no: u8,
-    out: &[u8; 2048],
-    room: usize,
-) -> io::Result<usize> {
-    let at = say::piece(rt, known, say::number(rt, known, 0, no as usize)?, b" ")?;
-    say::piece(rt, known, at, say::cut(out, 0, room))
-}
-
-// The call is lent an output that holds `before`.
-pub(crate) fn write(
-    rt: &impl Print,
-    known: &[u8],
-    call: usize,
+// The call is lent an output that holds `before`. What is said is the number, and the whole output.
+pub(crate) fn write<P: Print, F: Fn(&[u8], &mut [u8]) -> put::Written>(
+    say: &mut Saying<P>,
+    call: F,
     text: &[u8],
     before: &[u8],
-) -> io::Result<usize> {
+) -> io::Result<()>
+    requires { F.IsAlwaysCallable call }
+{
     let mut out = [0u8; 2048];
     put::put(&mut out, 0, before);
     let room = before.len() % 2049;
-    let w = write_to(call, text, &mut out[..room]);
-    output(rt, known, w.no, &out, room)
-}
-
-fn fed(byte: u8) -> u8 {
-    if byte == b'\t' {
-        return b'\n';
-    }
-    byte
+    let made = call(text, &mut out[..room]);
+    say.number(made.no as usize)?;
+    say.piece(b" ")?;
+    say.piece(say::front(&out, room))
 }
 
 // The bytes, with a line feed for each tab; answers how many they are.
-fn put_fed(bytes: &[u8], out: &mut [u8; 2048]) -> usize {
-    let mut at: usize = 0;
-    while at < bytes.len() {
-        put::put_byte(out, at, fed(bytes[at]));
-        at += 1;
+fn put_fed(bytes: &[u8], out: &mut [u8]) -> usize {
+    for (at, &byte) in bytes.iter().enumerate() {
+        put::put_byte(out, at, if byte == b'\t' { b'\n' } else { byte });
     }
-    at
+    bytes.len()
 }
 
-fn of_mail(
-    rt: &impl Print,
-    value: &[u8; 2048],
-    known_len: usize,
-    call: usize,
-    text: &[u8; 2048],
-    len: usize,
-    before: &[u8],
-) -> io::Result<usize> {
-    write(
-        rt,
-        say::cut(value, 0, known_len),
-        call,
-        say::cut(text, 0, len),
-        before,
-    )
-}
-
-// The text is the rest of the step, from the fourth part on.
-pub(crate) fn by_mail(
-    rt: &impl Print,
+// The text is the rest of the step, from the fourth part on. Whether what the call says is the value known.
+pub(crate) fn by_mail<P: Print, F: Fn(&[u8], &mut [u8]) -> put::Written>(
+    rt: &P,
+    call: F,
+    step: Step,
     known: &[u8],
-    call: usize,
-    before: &[u8],
-    step: &[u8],
-) -> io::Result<usize> {
+) -> io::Result<bool>
+    requires { F.IsAlwaysCallable call }
+{
     let mut value = [0u8; 2048];
     let known_len = put_fed(known, &mut value);
     let mut text = [0u8; 2048];
-    let start = frame::part_start(b'\t', step, 3);
-    let len = put_fed(say::cut(step, start, step.len()), &mut text);
-    of_mail(rt, &value, known_len, call, &text, len, before)
+    let len = put_fed(step.rest(3), &mut text);
+    let mut say = Saying::new(rt, say::front(&value, known_len));
+    write(&mut say, call, say::front(&text, len), step.part(2))?;
+    Ok(say.agrees())
 }
