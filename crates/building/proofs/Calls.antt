@@ -1,7 +1,7 @@
 -- The whole call, step by step.
 -- Assumes nothing.
 use Prim.Native.Nat.{ℕ, ◌+◌, ◌≤◌, ◌<◌}
-use mathlib.Core.Path.{◌≡◌, sym, ap, ap₂, ◌∙◌}
+use mathlib.Core.Path.{◌≡◌, refl, sym, ap, ap₂, ◌∙◌}
 use mathlib.Core.List.{List, ◌∷◌}
 use native.Mathlib.Omega.{arith}
 use lib.ListN.{length}
@@ -53,6 +53,9 @@ module _ (t bytes : Bytes) (ns : List ℕ) where
 pub record Begun (t bytes : Bytes) (ns : List ℕ) (row no : ℕ) : Type 0 where
   pub row_is : row ≡ row_for (named all_kinds t)
   pub no_is : no ≡ count_no row bytes ns
+
+pub begun : (t bytes : Bytes) (ns : List ℕ) {row : ℕ} → row ≡ row_for (named all_kinds t) → Begun t bytes ns row (count_no row bytes ns)
+begun t bytes ns e = record { row_is = e; no_is = refl }
 
 module _ {t bytes : Bytes} {ns : List ℕ} {row no : ℕ} (b : Begun t bytes ns row no) (room : ℕ) where
   to_form : build_of t bytes ns room ≡ passing no 0 (of_kind (named all_kinds t) (from_fields bytes ns room))

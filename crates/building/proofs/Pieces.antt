@@ -79,11 +79,10 @@ pub found_none : (s : Bytes) (ns : List ℕ) → length ns ≤ 7 → sum ns ≡ 
 found_none s ns few e = record { left = omega (arith, e); few = few; seven_starts = refl; seven_sizes = refl; all_starts = refl; all_sizes = refl }
 
 module _ {s : Bytes} {ns starts sizes : List ℕ} {p j : ℕ} (w : Found s ns starts sizes p j) where
-  pub found_all : j ≤ length ns → length ns ≤ j → record { count = j; starts = starts; lens = sizes } ≡ places_by ns
-  found_all l h =
+  pub found_all : length ns ≤ j → record { count = length ns; starts = starts; lens = sizes } ≡ places_by ns
+  found_all h =
       let none = drop_of_length-le ns {i = j} h in
-      let all : j ≡ length ns = omega arith in
-      ap (λ (n : ℕ). made n starts sizes) all ∙ ap₂ (made (length ns)) (rw none at w.all_starts) (rw none at w.all_sizes)
+      ap₂ (made (length ns)) (rw none at w.all_starts) (rw none at w.all_sizes)
     where
       made : ℕ → List ℕ → List ℕ → Places
       made n x y = record { count = n; starts = x; lens = y }

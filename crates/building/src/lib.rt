@@ -5,6 +5,7 @@
 
 ghost use Rattle.std.specs.Prelude.{◌≡◌, ◌∷◌, ◌+◌, ◌≤◌, length, eqb};
 ghost use Rattle.format.specs.Build.{joined, with_check};
+ghost use Rattle.reading.specs.Steps.{unless};
 ghost use Rattle.put.specs.Put.{Put};
 ghost use Rattle.put.specs.Made.{Writes};
 ghost use Rattle.building.specs.Building.{sum, pieces, build};
@@ -19,30 +20,28 @@ fn do_add_up(lens: &[usize], total: usize) -> bool
     ensures { result ≡ eqb (sum lens.now) total }
 {
     let mut left = total;
-    let mut j: usize = 0;
-    while j < lens.len() {
-        if left < lens[j] {
+    for &len in lens {
+        if left < len {
             return false;
         }
-        left -= lens[j];
-        j += 1;
+        left -= len;
     }
     left == 0
 }
 
-fn count_no(row: usize, bytes: &[u8], lens: &[usize]) -> u8
-    ensures { result ≡ count_no row bytes.now lens.now }
+fn count_no(row: usize, bytes: &[u8], lens: &[usize]) -> Result<(), u8>
+    ensures { result ≡ unless (count_no row bytes.now lens.now) tt }
 {
     if row == table::NONE {
-        return numbers::UNKNOWN_KIND;
+        return Err(numbers::UNKNOWN_KIND);
     }
     if lens.len() != table::count_of(row) {
-        return numbers::WRONG_COUNT;
+        return Err(numbers::WRONG_COUNT);
     }
     if do_add_up(lens, bytes.len()) {
-        return numbers::ACCEPTED;
+        return Ok(());
     }
-    numbers::WRONG_COUNT
+    Err(numbers::WRONG_COUNT)
 }
 
 // ---- the fields
@@ -55,15 +54,13 @@ fn places_by(bytes: &[u8], lens: &[usize]) -> places::Places
     let mut starts = [0; 7];
     let mut sizes = [0; 7];
     let mut start: usize = 0;
-    let mut j: usize = 0;
-    while j < lens.len() {
+    for (j, &len) in lens.iter().enumerate() {
         starts[j] = start;
-        sizes[j] = lens[j];
-        start += lens[j];
-        j += 1;
+        sizes[j] = len;
+        start += len;
     }
     places::Places {
-        count: j,
+        count: lens.len(),
         starts,
         lens: sizes,
     }
@@ -77,18 +74,16 @@ fn put_fields(
     mark: u8,
     bytes: &[u8],
     lens: &[usize],
-    starts: &[usize; 7],
-    sizes: &[usize; 7],
+    found: &places::Places,
 ) -> usize
-    requires { (sum lens.now ≡ length bytes.now) × Lie bytes.now lens.now starts.now sizes.now × (at + length bytes.now + length lens.now ≤ length out.old) }
+    requires { (sum lens.now ≡ length bytes.now) × Lie bytes.now lens.now found.now.starts found.now.lens × (at + length bytes.now + length lens.now ≤ length out.old) }
     ensures { Put out.old at (joined mark (pieces lens.now bytes.now)) out.new result }
 {
     let mut next = at;
-    let mut j: usize = 0;
-    while j < lens.len() {
-        next = put::put(out, next, places::part_at(bytes, starts, sizes, j));
+    for j in 0..lens.len() {
+        let field = places::part_at(bytes, &found.starts, &found.lens, j);
+        next = put::put(out, next, field);
         next = put::put_byte(out, next, mark);
-        j += 1;
     }
     next
 }
@@ -100,15 +95,14 @@ fn put_record(
     mark: u8,
     bytes: &[u8],
     lens: &[usize],
-    starts: &[usize; 7],
-    sizes: &[usize; 7],
+    found: &places::Places,
 ) -> usize
-    requires { (sum lens.now ≡ length bytes.now) × Lie bytes.now lens.now starts.now sizes.now × (length kind.now + 1 + length bytes.now + length lens.now + 4 ≤ length out.old) }
+    requires { (sum lens.now ≡ length bytes.now) × Lie bytes.now lens.now found.now.starts found.now.lens × (length kind.now + 1 + length bytes.now + length lens.now + 4 ≤ length out.old) }
     ensures { Put out.old 0 (with_check (joined mark (kind.now ∷ pieces lens.now bytes.now))) out.new result }
 {
     let named = put::put(out, 0, kind);
     let marked = put::put_byte(out, named, mark);
-    let end = put_fields(out, marked, mark, bytes, lens, starts, sizes);
+    let end = put_fields(out, marked, mark, bytes, lens, found);
     let check = text::check_text(crc16::crc_of(&out[0..end]));
     put::put(out, end, &check)
 }
@@ -121,14 +115,11 @@ pub fn build(kind: &[u8], bytes: &[u8], lens: &[usize], out: &mut [u8]) -> put::
     ensures { Writes (build kind.now bytes.now lens.now (length out.old)) out.old out.new result }
 {
     let row = table::kind_named(kind);
-    let no = count_no(row, bytes, lens);
-    if no != numbers::ACCEPTED {
+    if let Err(no) = count_no(row, bytes, lens) {
         return put::refuse(no, 0);
     }
     let found = places_by(bytes, lens);
-    let starts = found.starts;
-    let sizes = found.lens;
-    let judged = reading::judge(row, bytes, &starts, &sizes);
+    let judged = reading::judge(row, bytes, &found.starts, &found.lens);
     if judged.no != numbers::ACCEPTED {
         return put::refuse(judged.no, judged.field);
     }
@@ -139,7 +130,7 @@ pub fn build(kind: &[u8], bytes: &[u8], lens: &[usize], out: &mut [u8]) -> put::
     if out.len() < needed {
         return put::refuse(numbers::SHORT_OUTPUT, 0);
     }
-    let len = put_record(out, kind, table::mark_of(row), bytes, lens, &starts, &sizes);
+    let len = put_record(out, kind, table::mark_of(row), bytes, lens, &found);
     put::Written {
         no: numbers::ACCEPTED,
         field: 0,

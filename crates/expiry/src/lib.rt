@@ -27,15 +27,11 @@ pub fn expiry_under(rules: format::Rules, record: &[u8]) -> Expiry
             seconds: 0,
         };
     }
-    let starts = answer.starts;
-    let lens = answer.lens;
-    let expiry = places::field_at(record, &starts, &lens, table::PUBKEY_EXPIRY);
-    let moment = text::moment_of(expiry);
-    let seconds = moment.seconds;
+    let expiry = places::field_at(record, &answer.starts, &answer.lens, table::PUBKEY_EXPIRY);
     Expiry {
         no: numbers::ACCEPTED,
         field: 0,
-        seconds,
+        seconds: text::moment_of(expiry).seconds,
     }
 }
 

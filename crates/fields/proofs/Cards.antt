@@ -151,6 +151,13 @@ module _ (s : Bytes) (wanted : ℕ) where
               (placed s 0 0 (start + i) (end - i) (rw (← its_list, in-range)) refl
               (rw (← its_list, in-range) (ap (λ (x : ℕ). x + i) (its_start ∙ first) ∙ ap (λ (x : ℕ). start_in k fs 2 + x) q)) card_within (rw (← its_list) at))
 
+-- the number of card n
+pub card_number : (n : ℕ) → n ≡ suc n - 1
+card_number n = omega arith
+
+pub card_some : (n : ℕ) → suc n ≡ 0 → ⊥
+card_some n z = omega (arith, z)
+
 -- ---- by name: a turn of the loop at place i, where a card stands that ends at `end` and has this number
 
 module _ (list name : Bytes) (i number : ℕ) where

@@ -1,6 +1,6 @@
 -- What the private functions of the crate answer. No clause of a document stands here.
 -- Assumes nothing.
-use Rattle.std.specs.Prelude.{ℕ, ◌≡◌, List, take, drop}
+use Rattle.std.specs.Prelude.{ℕ, suc, ◌≡◌, List, take, drop, Option, Some, None}
 use Rattle.std.specs.Borrow.{Bor}
 use Rattle.text.specs.Text.{Bytes}
 use Rattle.text.specs.Part.{Part}
@@ -12,6 +12,15 @@ use Rattle.fields.specs.declared.Place.{Place}
 pub data Reads (s : Bytes) : Outcome → Type 0 where
   identity : Reads s (read_identity s)
   records : (ks : List Kind) → Reads s (read_of ks s)
+
+-- the number, from 1, of what is counted from 0; 0 for none
+abbrev pub number_of : Option ℕ → ℕ
+number_of None = 0
+number_of (Some n) = suc n
+
+-- nowhere, with the number of a refusal
+abbrev pub nowhere : ℕ → ℕ → Place
+nowhere n i = record { no = n; field = i; start = 0; len = 0 }
 
 -- the part of s at a place, and the place's numbers
 pub record Handed (at : Place) (s r : Bor Bytes) (no field : ℕ) : Type 0 where

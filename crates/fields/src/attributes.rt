@@ -6,17 +6,16 @@ ghost use Rattle.format.specs.Attributes.{cards_in};
 ghost use Rattle.format.specs.Read.{read_of};
 ghost use Rattle.reading.specs.Reading.{answer_of};
 ghost use Rattle.fields.specs.Attributes.{list_said, cards_said, number_named, AttributeSaid, AttributePlaced};
+ghost use Rattle.fields.specs.Steps.{number_of};
 
 // ---- the list and its cards
 
 // The list: field 2, empty with a refusal.
-fn list_of<'a>(answer: reading::Answer, record: &'a [u8]) -> &'a [u8]
-    requires { answer ≡ answer_of (read_of key_kinds «record».now) }
+fn list_of<'a>(answer: &reading::Answer, record: &'a [u8]) -> &'a [u8]
+    requires { answer.now ≡ answer_of (read_of key_kinds «record».now) }
     ensures { result.now ≡ list_said (read_of key_kinds «record».now) }
 {
-    let starts = answer.starts;
-    let lens = answer.lens;
-    places::field_at(record, &starts, &lens, table::KEY_ATTRIBUTES)
+    places::field_at(record, &answer.starts, &answer.lens, table::KEY_ATTRIBUTES)
 }
 
 fn name_of<'a>(card: &'a [u8]) -> &'a [u8]
@@ -28,52 +27,41 @@ fn name_of<'a>(card: &'a [u8]) -> &'a [u8]
     &card[0..3]
 }
 
-// The number, from 1, of the card with this name; 0 where no card has it.
-fn number_named(list: &[u8], name: &[u8]) -> usize
-    ensures { result ≡ number_named name.now (cards_in list.now) }
+// Which card has this name, from 0.
+fn card_named(list: &[u8], name: &[u8]) -> Option<usize>
+    ensures { number_of result ≡ number_named name.now (cards_in list.now) }
 {
-    let mut number: usize = 1;
+    let mut card: usize = 0;
     let mut i: usize = 0;
+    // from mark to mark: `split` has one more card, an empty one, behind the last ';' of a list
     while i < list.len() {
         let end = frame::next_mark(b';', list, i);
         if text::are_same(name_of(&list[i..end]), name) {
-            return number;
+            return Some(card);
         }
-        number += 1;
+        card += 1;
         i = end + 1;
     }
-    0
+    None
 }
 
 // ---- where a card stands
 
-// Nowhere, with the number of a refusal.
-fn nowhere(no: u8, field: u8) -> crate::Place
-    ensures { result ≡ record { no = no; field = field; start = 0; len = 0 } }
-{
-    crate::Place {
-        no,
-        field,
-        start: 0,
-        len: 0,
-    }
-}
-
-// Where the wanted card stands in the record that a reading call answered so.
-fn card_place(answer: reading::Answer, record: &[u8], wanted: usize) -> crate::Place
-    requires { answer ≡ answer_of (read_of key_kinds «record».now) }
-    ensures { AttributePlaced (read_of key_kinds «record».now) wanted «record».now result }
+// Where this card, from 0, stands in the record that a reading call answered so.
+fn card_place(answer: &reading::Answer, record: &[u8], card: Option<usize>) -> crate::Place
+    requires { answer.now ≡ answer_of (read_of key_kinds «record».now) }
+    ensures { AttributePlaced (read_of key_kinds «record».now) (number_of card) «record».now result }
 {
     if answer.no != numbers::ACCEPTED {
-        return nowhere(answer.no, answer.field);
+        return crate::nowhere(answer.no, answer.field);
     }
-    if wanted == 0 {
-        return nowhere(numbers::MISSING_ITEM, 0);
-    }
+    let Some(card) = card else {
+        return crate::nowhere(numbers::MISSING_ITEM, 0);
+    };
     let list = list_of(answer, record);
-    let start = frame::part_start(b';', list, wanted - 1);
+    let start = frame::part_start(b';', list, card);
     if list.len() <= start {
-        return nowhere(numbers::MISSING_ITEM, 0);
+        return crate::nowhere(numbers::MISSING_ITEM, 0);
     }
     let end = frame::next_mark(b';', list, start);
     let at = table::KEY_ATTRIBUTES - 1;
@@ -92,11 +80,8 @@ fn card_place(answer: reading::Answer, record: &[u8], wanted: usize) -> crate::P
 pub fn attribute_place(record: &[u8], wanted: usize) -> crate::Place
     ensures { AttributePlaced (read_of key_kinds «record».now) wanted «record».now result }
 {
-    card_place(
-        reading::read_of(table::KEY, table::ROWS, record),
-        record,
-        wanted,
-    )
+    let answer = reading::read_of(table::KEY, table::ROWS, record);
+    card_place(&answer, record, wanted.checked_sub(1))
 }
 
 // The same of the attribute with a name, which is its card's first three characters; 12 where no card has it.
@@ -104,8 +89,8 @@ pub fn attribute_named_place(record: &[u8], name: &[u8]) -> crate::Place
     ensures { AttributePlaced (read_of key_kinds «record».now) (number_named name.now (cards_said (read_of key_kinds «record».now))) «record».now result }
 {
     let answer = reading::read_of(table::KEY, table::ROWS, record);
-    let wanted = number_named(list_of(answer, record), name);
-    card_place(answer, record, wanted)
+    let card = card_named(list_of(&answer, record), name);
+    card_place(&answer, record, card)
 }
 
 // The attribute that stands there, as a part of the caller's own bytes; with a refusal an empty one, at their front.

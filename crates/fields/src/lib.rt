@@ -5,13 +5,14 @@
 
 mod attributes;
 
-ghost use Rattle.std.specs.Prelude.{◌≡◌, ◌+◌, ◌≤◌, length, T};
+ghost use Rattle.std.specs.Prelude.{◌≡◌, ◌+◌, ◌≤◌, length, T, IfOk};
 ghost use Rattle.text.specs.Text.{Bytes, between};
 ghost use Rattle.format.specs.Read.{Outcome, read_identity, read_of, read_record};
 ghost use Rattle.table.specs.Table.{kinds_from};
 ghost use Rattle.reading.specs.Reading.{answer_of};
+ghost use Rattle.reading.specs.Steps.{unless};
 ghost use Rattle.fields.specs.Fields.{wanted_no, FieldSaid, Placed};
-ghost use Rattle.fields.specs.Steps.{Reads, Handed};
+ghost use Rattle.fields.specs.Steps.{Reads, nowhere, Handed};
 
 pub use attributes::{attribute, attribute_named, attribute_named_place, attribute_place};
 
@@ -25,38 +26,44 @@ pub struct Place {
     pub len: usize,
 }
 
+// Nowhere, with the number of a refusal.
+pub(crate) fn nowhere(no: u8, field: u8) -> Place
+    ensures { result ≡ nowhere no field }
+{
+    Place {
+        no,
+        field,
+        start: 0,
+        len: 0,
+    }
+}
+
 // A refusal's own number, and 12 for a field that the accepted kind hasn't.
-fn wanted_no(answer: reading::Answer, wanted: usize) -> u8
-    ensures { ((o : Outcome) (s : Bytes) → Reads s o → answer ≡ answer_of o → result ≡ wanted_no o wanted) × (result ≡ 0 → T (between 1 7 wanted)) }
+fn wanted_no(answer: &reading::Answer, wanted: usize) -> Result<(), u8>
+    ensures { ((o : Outcome) (s : Bytes) → Reads s o → answer.now ≡ answer_of o → result ≡ unless (wanted_no o wanted) tt) × IfOk result (λ u. T (between 1 7 wanted)) }
 {
     if answer.no != numbers::ACCEPTED {
-        return answer.no;
+        return Err(answer.no);
     }
     if wanted == 0 {
-        return numbers::MISSING_ITEM;
+        return Err(numbers::MISSING_ITEM);
     }
     if table::count_of(answer.kind) < wanted {
-        return numbers::MISSING_ITEM;
+        return Err(numbers::MISSING_ITEM);
     }
-    numbers::ACCEPTED
+    Ok(())
 }
 
 // Where the wanted field stands in what a reading call answered so.
 fn place_from(answer: reading::Answer, wanted: usize) -> Place
     ensures { (o : Outcome) (s : Bytes) → Reads s o → answer ≡ answer_of o → Placed o wanted s result }
 {
-    let no = wanted_no(answer, wanted);
-    if no != numbers::ACCEPTED {
-        return Place {
-            no,
-            field: answer.field,
-            start: 0,
-            len: 0,
-        };
+    if let Err(no) = wanted_no(&answer, wanted) {
+        return nowhere(no, answer.field);
     }
     let at = wanted - 1;
     Place {
-        no,
+        no: numbers::ACCEPTED,
         field: answer.field,
         start: answer.starts[at],
         len: answer.lens[at],

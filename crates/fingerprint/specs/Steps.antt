@@ -1,6 +1,6 @@
 -- What the private functions of the crate answer. No clause of a document stands here.
 -- Assumes nothing.
-use Rattle.std.specs.Prelude.{ℕ, cond, [], ◌++◌, length, take, leb}
+use Rattle.std.specs.Prelude.{cond, [], ◌++◌, length, take, leb}
 use Prim.Native.Char.{code}
 use Rattle.text.specs.Text.{Bytes, ascii}
 use Rattle.format.specs.Read.{body}

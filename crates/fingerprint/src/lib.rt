@@ -75,10 +75,8 @@ pub fn check_fingerprint(record: &[u8]) -> Checked
             field: answer.field,
         };
     }
-    let starts = answer.starts;
-    let lens = answer.lens;
-    let right = right_print(record, &starts, &lens);
-    let subject = places::field_at(record, &starts, &lens, table::PUBKEY_SUBJECT);
+    let right = right_print(record, &answer.starts, &answer.lens);
+    let subject = places::field_at(record, &answer.starts, &answer.lens, table::PUBKEY_SUBJECT);
     let print = subjects::field_in(subject, table::IDENTITY_FINGERPRINT);
     if text::are_same(print, &right) {
         return Checked {
@@ -104,9 +102,7 @@ pub fn write_fingerprint(record: &[u8], out: &mut [u8]) -> put::Written
     if out.len() < CHARACTERS {
         return put::refuse(numbers::SHORT_OUTPUT, 0);
     }
-    let starts = answer.starts;
-    let lens = answer.lens;
-    let right = right_print(record, &starts, &lens);
+    let right = right_print(record, &answer.starts, &answer.lens);
     let len = put::put(out, 0, &right);
     put::Written {
         no: numbers::ACCEPTED,

@@ -42,20 +42,14 @@ fn by_subjects(first: &[u8], second: &[u8]) -> Choice
             which: NEITHER,
         };
     }
-    if text::is_later(
+    let is_second = text::is_later(
         subjects::field_in(second, table::IDENTITY_GNT),
         subjects::field_in(first, table::IDENTITY_GNT),
-    ) {
-        return Choice {
-            no: numbers::ACCEPTED,
-            field: 0,
-            which: SECOND,
-        };
-    }
+    );
     Choice {
         no: numbers::ACCEPTED,
         field: 0,
-        which: FIRST,
+        which: if is_second { SECOND } else { FIRST },
     }
 }
 
@@ -69,12 +63,10 @@ fn read_key(key: &[u8]) -> reading::Answer
 }
 
 // The Subject of a key that was answered so.
-fn subject_of<'a>(key: &'a [u8], answer: reading::Answer) -> &'a [u8]
-    ensures { result.now ≡ field_at key.now answer.starts answer.lens 1 }
+fn subject_of<'a>(key: &'a [u8], answer: &reading::Answer) -> &'a [u8]
+    ensures { result.now ≡ field_at key.now answer.now.starts answer.now.lens 1 }
 {
-    let starts = answer.starts;
-    let lens = answer.lens;
-    places::field_at(key, &starts, &lens, table::PUBKEY_SUBJECT)
+    places::field_at(key, &answer.starts, &answer.lens, table::PUBKEY_SUBJECT)
 }
 
 // Which of two public keys is the newer: the one whose Subject has the later GNT, the first when equal. The first record's
@@ -98,7 +90,7 @@ pub fn newer_of(first: &[u8], second: &[u8]) -> Choice
             which: SECOND,
         };
     }
-    by_subjects(subject_of(first, one), subject_of(second, other))
+    by_subjects(subject_of(first, &one), subject_of(second, &other))
 }
 
 // The same record itself, as it was lent, and an empty part at the front of the first with a refusal. The two lenders share

@@ -1,6 +1,8 @@
 -- What an answer tells of the outcome: its numbers; with no number it is accepted, of the answer's row, and with a number it is
 -- that refusal.
 -- Assumes nothing.
+use Rattle.std.specs.Prelude.{Result, Ok, Err, is_ok}
+use mathlib.Core.Bool.{true≢false, false≢true}
 use Prim.Native.Nat.{ℕ, zero, suc}
 use mathlib.Core.Path.{◌≡◌, refl, sym, ap, ap₂, ◌∙◌}
 use mathlib.Core.Logic.{◌⊎◌, inl, inr}
@@ -16,6 +18,8 @@ use Rattle.places.specs.Places.{starts_of, lens_of}
 use Rattle.reading.specs.Reading.{kinds_of, answer_of, judged_said}
 use Rattle.reading.specs.declared.Answer.{Answer}
 use Rattle.reading.specs.declared.Judged.{Judged}
+use Rattle.reading.specs.declared.Refused.{Refused}
+use Rattle.reading.specs.Steps.{kinds_or}
 
 pub told : (o : Outcome) (a : Answer) → a ≡ answer_of o → (a.no ≡ answer o) × (a.field ≡ place o)
 told (accepted k fs) a e = (ap (λ (x : Answer). x.no) e, ap (λ (x : Answer). x.field) e)
@@ -64,33 +68,56 @@ each_either ask i [] fs f e = e
 each_either ask i (t ∷ ts) [] f e = e
 each_either ask i (t ∷ ts) (b ∷ fs) f e = passing_either (field_answer ask t b) i (λ o. each ask (suc i) ts fs (f o)) (each_either ask (suc i) ts fs f e)
 
-module _ (rules : Rules) (k : Kind) (fs : List Bytes) (j : Judged) (q : j ≡ judged_said (judged rules read_identity k fs (accepted k fs))) where
+module _ (rules : Rules) (k : Kind) (fs : List Bytes) where
   either : Either (judged rules read_identity k fs)
   unfolding judged
   either = each_either read_identity 1 (fields_of k) fs (passing (whole_answer rules k fs) 0) (passing_either (whole_answer rules k fs) 0 (λ o. o) (inl (λ o. refl)))
 
-  its_number : {o : Outcome} → judged rules read_identity k fs (accepted k fs) ≡ o → j.no ≡ answer o
-  its_number {o} e = ap (λ (x : Judged). x.no) (q ∙ ap judged_said e) ∙ go o
-    where
-      go : (p : Outcome) → (judged_said p).no ≡ answer p
-      go (accepted i gs) = refl
-      go (refused n i) = refl
+  -- in what `judge` answers
 
-  -- with another number than 0 they are refused
-  pub denied : (j.no ≡ 0 → ⊥) → (o : Outcome) → judged rules read_identity k fs o ≡ refused j.no j.field
-  denied z o = go either
-    where
-      go : Either (judged rules read_identity k fs) → judged rules read_identity k fs o ≡ refused j.no j.field
-      go (inl f) = absurd (z (its_number (f (accepted k fs))))
-      go (inr (n, i, f)) = f o ∙ sym (ap₂ {C = Outcome} refused (its_number (f (accepted k fs))) (ap (λ (x : Judged). x.field) (q ∙ ap judged_said (f (accepted k fs)))))
+  module _ (j : Judged) (q : j ≡ judged_said (judged rules read_identity k fs (accepted k fs))) where
+    its_number : {o : Outcome} → judged rules read_identity k fs (accepted k fs) ≡ o → j.no ≡ answer o
+    its_number {o} e = ap (λ (x : Judged). x.no) (q ∙ ap judged_said e) ∙ go o
+      where
+        go : (p : Outcome) → (judged_said p).no ≡ answer p
+        go (accepted i gs) = refl
+        go (refused n i) = refl
 
-  -- with 0 they pass
-  pub agreed : j.no ≡ 0 → (o : Outcome) → judged rules read_identity k fs o ≡ o
-  agreed z o = go either
-    where
-      go : Either (judged rules read_identity k fs) → judged rules read_identity k fs o ≡ o
-      go (inl f) = f o
-      go (inr (n, i, f)) = absurd (omega (arith, its_number (f (accepted k fs))))
+    -- with another number than 0 they are refused
+    pub denied : (j.no ≡ 0 → ⊥) → (o : Outcome) → judged rules read_identity k fs o ≡ refused j.no j.field
+    denied z o = go either
+      where
+        go : Either (judged rules read_identity k fs) → judged rules read_identity k fs o ≡ refused j.no j.field
+        go (inl f) = absurd (z (its_number (f (accepted k fs))))
+        go (inr (n, i, f)) = f o ∙ sym (ap₂ {C = Outcome} refused (its_number (f (accepted k fs))) (ap (λ (x : Judged). x.field) (q ∙ ap judged_said (f (accepted k fs)))))
 
-  pub agreed_kinds : j.no ≡ 0 → j.kinds ≡ kinds_of k fs
-  agreed_kinds z = ap (λ (x : Judged). x.kinds) (q ∙ ap judged_said (agreed z (accepted k fs)))
+    -- with 0 they pass
+    pub agreed : j.no ≡ 0 → (o : Outcome) → judged rules read_identity k fs o ≡ o
+    agreed z o = go either
+      where
+        go : Either (judged rules read_identity k fs) → judged rules read_identity k fs o ≡ o
+        go (inl f) = f o
+        go (inr (n, i, f)) = absurd (omega (arith, its_number (f (accepted k fs))))
+
+  -- in what `judge_under` answers
+
+  module _ {r : Result (List ℕ) Refused} (q : r ≡ kinds_or (judged rules read_identity k fs (accepted k fs))) where
+    its : {o : Outcome} → judged rules read_identity k fs (accepted k fs) ≡ o → r ≡ kinds_or o
+    its e = q ∙ ap kinds_or e
+
+    pub denied_so : (d : Refused) → Err d ≡ r → (o : Outcome) → judged rules read_identity k fs o ≡ refused d.no d.field
+    denied_so d z o = go either
+      where
+        go : Either (judged rules read_identity k fs) → judged rules read_identity k fs o ≡ refused d.no d.field
+        go (inl f) = absurd (false≢true (ap is_ok (z ∙ its (f (accepted k fs)))))
+        go (inr (n, i, f)) = let e : d ≡ record { no = suc n; field = i } = search (z ∙ its (f (accepted k fs))) in rw e (f o)
+
+    pub agreed_so : (kinds : List ℕ) → Ok kinds ≡ r → (o : Outcome) → judged rules read_identity k fs o ≡ o
+    agreed_so kinds z o = go either
+      where
+        go : Either (judged rules read_identity k fs) → judged rules read_identity k fs o ≡ o
+        go (inl f) = f o
+        go (inr (n, i, f)) = absurd (true≢false (ap is_ok (z ∙ its (f (accepted k fs)))))
+
+    pub agreed_kinds : (kinds : List ℕ) → Ok kinds ≡ r → kinds ≡ kinds_of k fs
+    agreed_kinds kinds z = search (z ∙ its (agreed_so kinds z (accepted k fs)))

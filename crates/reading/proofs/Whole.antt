@@ -10,13 +10,13 @@ use native.Mathlib.Omega.{arith}
 use lib.ListN.{length, get_or}
 use lib.Dec.{T, eqb, eqb→eq}
 use mir.Facts.{or_yes}
-use borrow.Author.Tests.{eq-eqb, ne_eqb}
+use borrow.Author.Tests.{ne_eqb}
 use Rattle.text.specs.Text.{Bytes, same}
 use Rattle.text.proofs.Tests.{less_or, true_T, all_below, below}
 use Rattle.format.specs.Kinds.{Kind, SMID, ECDSA, ECDH, KEY, Field, name, fields_of, title}
 use Rattle.format.specs.Attributes.{are_attributes}
 use Rattle.format.specs.Build.{empty, signed}
-use Rattle.format.specs.Read.{accepted, refused, whole_answer, judged, read_identity}
+use Rattle.format.specs.Read.{accepted, refused, passing, whole_answer, judged, read_identity}
 use Rattle.format.specs.declared.Rules.{Rules}
 use Rattle.format.specs.declared.Rules.TheVariants.{UpToE10, Today}
 use Rattle.format.proofs.Earlier.{other_signed}
@@ -24,12 +24,12 @@ use Rattle.table.specs.Table.{row_of, row_count, missing_row, of_row, fields_at,
 use Rattle.table.proofs.Rows.{kind_at, row_at, in_row, of-kind, past_rows, pubkey_rows}
 use Rattle.places.specs.Places.{seven, field_at}
 use Rattle.places.proofs.Stands.{parts_at}
-use Rattle.reading.specs.Reading.{kinds_within, kinds_of, judged_by, judged_said}
-use Rattle.reading.specs.declared.Judged.{Judged}
-use Rattle.reading.specs.Steps.{parts_by, FirstRefused, whole_no, unsigned_no, module_no, pubkey_no}
+use Rattle.reading.specs.Reading.{kinds_within, kinds_of, judged_by}
+use Rattle.reading.specs.declared.Refused.{Refused}
+use Rattle.reading.specs.Steps.{parts_by, AllPass, FirstRefused, whole_no, unsigned_no, module_no, pubkey_no}
 use Rattle.reading.proofs.Types.{empty_is}
-use Rattle.reading.proofs.Fields.{judged_first}
-use Rattle.reading.proofs.Outcomes.{passing_stop, passing_on}
+use Rattle.reading.proofs.Fields.{judged_on, judged_stop}
+use Rattle.reading.proofs.Outcomes.{passing_stop, passing_on, passing_as}
 
 -- ---- the unsigned key of a module
 
@@ -53,17 +53,17 @@ module_as Today fs = go (unsigned (get_or fs 0 []) (get_or fs 4 []))
 
 -- with the title, and whether it is the module's, as the code has them
 module _ (rules : Rules) (subject signature : Bytes) where
-  pub signed_so : (length signature ≡ 0 → ⊥) → 0 ≡ module_no rules subject signature
+  pub signed_so : eqb (length signature) 0 ≡ false → 0 ≡ module_no rules subject signature
   unfolding module_no
-  signed_so n = rw (empty_is signature, ne_eqb (length signature) 0 n) (go (same (title subject) (name SMID)))
+  signed_so n = rw (empty_is signature, n) (go (same (title subject) (name SMID)))
     where
       go : (b : Bool) → 0 ≡ cond (b && false) (unsigned_no rules) 0
       go true = refl
       go false = refl
 
-  pub unsigned_so : (t : Bytes) → t ≡ title subject → (b : Bool) → of_row (λ k. same t (name k)) false 1 ≡ b → length signature ≡ 0 → cond b (unsigned_no rules) 0 ≡ module_no rules subject signature
+  pub unsigned_so : (t : Bytes) → t ≡ title subject → (b : Bool) → of_row (λ k. same t (name k)) false 1 ≡ b → eqb (length signature) 0 ≡ true → cond b (unsigned_no rules) 0 ≡ module_no rules subject signature
   unfolding of_row module_no
-  unsigned_so t et b eb z = rw (← eb, et, empty_is signature, eq-eqb (length signature) 0 z) (go (same (title subject) (name SMID)))
+  unsigned_so t et b eb z = rw (← eb, et, empty_is signature, z) (go (same (title subject) (name SMID)))
     where
       go : (b : Bool) → cond b (unsigned_no rules) 0 ≡ cond (b && true) (unsigned_no rules) 0
       go true = refl
@@ -141,30 +141,29 @@ pub judged_kind : (rules : Rules) (k : Kind) (row : ℕ) (fs : List Bytes) → r
 unfolding judged_by
 judged_kind rules k row fs e = rw (e, of-kind some none k)
 
--- the first field that is refused has number n
-module _ (rules : Rules) (row : ℕ) (fs : List Bytes) (h : row < row_count) {n place : ℕ} (c : FirstRefused read_identity row fs n place) where
+module _ (rules : Rules) (row : ℕ) (fs : List Bytes) (h : row < row_count) where
   its_row : row ≡ row_of (kind_at row)
   its_row = sym (row_at row h)
 
-  pub judged_field : (n ≡ 0 → ⊥) → judged_by rules row fs ≡ refused n place
-  judged_field z = judged_kind rules (kind_at row) row fs its_row ∙ judged_first rules read_identity (kind_at row) row fs n place its_row c _ ∙ passing_stop n place _ z
+  pub judged_field : {r : Refused} → FirstRefused read_identity row fs r → judged_by rules row fs ≡ refused r.no r.field
+  judged_field c = judged_kind rules (kind_at row) row fs its_row ∙ judged_stop rules (kind_at row) its_row c _
 
   -- each is accepted, and the number of all is w
-  module _ (z : n ≡ 0) (w : ℕ) (ew : w ≡ whole_no rules row fs) where
-    its_whole : w ≡ whole_answer rules (kind_at row) fs
+  module _ (c : AllPass read_identity row fs) {w : ℕ} (ew : w ≡ whole_no rules row fs) where
+    whole : judged_by rules row fs ≡ passing w 0 (accepted (kind_at row) fs)
     unfolding whole_no
-    its_whole = ew ∙ in_row (λ k. whole_answer rules k fs) 0 row h
+    whole =
+        judged_kind rules (kind_at row) row fs its_row
+        ∙ judged_on rules (kind_at row) its_row c _
+        ∙ passing_as 0 _ (sym (ew ∙ in_row (λ k. whole_answer rules k fs) 0 row h))
 
     pub judged_whole : (w ≡ 0 → ⊥) → judged_by rules row fs ≡ refused w 0
-    judged_whole u = judged_kind rules (kind_at row) row fs its_row ∙ judged_first rules read_identity (kind_at row) row fs n place its_row c _ ∙ passing_on n place _ z ∙ rw (← its_whole) (passing_stop w 0 _ u)
+    judged_whole u = whole ∙ passing_stop w 0 _ u
 
     pub judged_all : w ≡ 0 → judged_by rules row fs ≡ accepted (kind_at row) fs
-    judged_all u = judged_kind rules (kind_at row) row fs its_row ∙ judged_first rules read_identity (kind_at row) row fs n place its_row c _ ∙ passing_on n place _ z ∙ rw (← its_whole) (passing_on w 0 _ u)
+    judged_all u = whole ∙ passing_on w 0 _ u
 
 -- the kinds of the fields by the row are those by the kind
-pub kinds_said : (row : ℕ) (fs : List Bytes) → row < row_count → (kinds : List ℕ) → kinds ≡ seven missing_row (kinds_within 0 (fields_at row) fs) → record { no = 0; field = 0; kinds = kinds } ≡ judged_said (accepted (kind_at row) fs)
+pub kinds_said : (row : ℕ) (fs : List Bytes) → row < row_count → (kinds : List ℕ) → kinds ≡ seven missing_row (kinds_within 0 (fields_at row) fs) → kinds ≡ kinds_of (kind_at row) fs
 unfolding kinds_of
-kinds_said row fs h kinds e = ap made (e ∙ ap (λ (ts : List Field). seven missing_row (kinds_within 0 ts fs)) (in_row fields_of [] row h))
-  where
-    made : List ℕ → Judged
-    made x = record { no = 0; field = 0; kinds = x }
+kinds_said row fs h kinds e = e ∙ ap (λ (ts : List Field). seven missing_row (kinds_within 0 ts fs)) (in_row fields_of [] row h)

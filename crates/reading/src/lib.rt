@@ -6,13 +6,13 @@
 
 mod together;
 
-ghost use Rattle.std.specs.Prelude.{◌≡◌, cond, ◌&&◌, ◌||◌, ◌<◌, eqb, ltb};
+ghost use Rattle.std.specs.Prelude.{◌≡◌, cond, ◌&&◌, ◌||◌, ◌<◌, eqb, ltb, MatchResult};
 ghost use Rattle.numbers.specs.Numbers.{wrong_text};
 ghost use Rattle.format.specs.Build.{empty};
 ghost use Rattle.format.specs.Read.{refused, identity_answer, nobody, read_identity, read_under, read_of, read_record};
 ghost use Rattle.table.specs.Table.{field_type, is_identity, may_be_empty, permitted, kinds_from};
-ghost use Rattle.reading.specs.Reading.{kind_said, answer_of, judged_said, judge_under, judge};
-ghost use Rattle.reading.specs.Steps.{form_no, is_text, field_said, parts_by, FirstRefused, Walked};
+ghost use Rattle.reading.specs.Reading.{kind_said, answer_of, judged_by, judge};
+ghost use Rattle.reading.specs.Steps.{no_field, unless, form_no, places_in, is_text, field_said, parts_by, AllPass, FirstRefused, Kinds, kinds_or, answer_or};
 
 // No record that is read or built is longer.
 pub const LONGEST: usize = 1024;
@@ -39,18 +39,18 @@ pub struct Judged {
     pub kinds: [usize; 7],
 }
 
-// The first field that is refused; both are 0 where none is.
-#[derive(Clone, Copy)]
-struct Refusal {
+// Why a record is refused: its number, and the number of the field that it is about, 0 where it names none.
+struct Refused {
     no: u8,
     field: u8,
 }
 
-// What one field is answered: its number, and the row of the identity in it.
-#[derive(Clone, Copy)]
-struct FieldSaid {
-    no: u8,
-    kind: usize,
+impl From<u8> for Refused {
+    ghost from_gives = { λ n r. r ≡ no_field n };
+
+    fn from(no: u8) -> Refused {
+        Refused { no, field: 0 }
+    }
 }
 
 // The answer of a call that refuses.
@@ -67,16 +67,32 @@ pub fn refuse(no: u8, field: u8) -> Answer
     }
 }
 
-// ---- numbers 2 to 4
+// ---- numbers 2 to 5
 
 // By the row that the title and its mark have.
-fn form_no(row: usize, s: &[u8]) -> u8
-    ensures { result ≡ form_no row s.now }
+fn form_no(row: usize, s: &[u8]) -> Result<(), u8>
+    ensures { result ≡ unless (form_no row s.now) tt }
 {
     if row == table::NONE {
-        return numbers::UNKNOWN_KIND;
+        return Err(numbers::UNKNOWN_KIND);
     }
-    frame::check_no(table::mark_of(row), s)
+    let no = frame::check_no(table::mark_of(row), s);
+    if no != numbers::ACCEPTED {
+        return Err(no);
+    }
+    Ok(())
+}
+
+// The places of the fields in the body of a record whose form is right and which has as many as its kind.
+fn places_in(row: usize, s: &[u8]) -> Result<places::Places, u8>
+    ensures { result ≡ places_in row s.now }
+{
+    form_no(row, s)?;
+    let found = places::places_of(table::mark_of(row), frame::body_of(s));
+    if found.count != table::count_of(row) {
+        return Err(numbers::WRONG_COUNT);
+    }
+    Ok(found)
 }
 
 // ---- a field that is a text: number 6
@@ -85,13 +101,7 @@ fn form_no(row: usize, s: &[u8]) -> u8
 fn is_ident_code(code: u8) -> bool
     ensures { result ≡ (eqb code 0 || (ltb 13 code || is_identity (field_type code))) }
 {
-    if code == table::IDENT {
-        return true;
-    }
-    if table::PROTECTED < code {
-        return true;
-    }
-    table::is_identity(code)
+    code == table::IDENT || table::PROTECTED < code || table::is_identity(code)
 }
 
 // Of the text type of this code; a code that names none is taken for IDENT's. The others in three parts, because LLVM makes a table of jumps
@@ -126,35 +136,55 @@ fn is_text(code: u8, field: &[u8]) -> bool
     text::is_protected(field)
 }
 
-fn text_no(code: u8, field: &[u8]) -> u8
-    ensures { result ≡ cond (is_text (field_type code) field.now) 0 wrong_text }
+fn text_no(code: u8, field: &[u8]) -> Result<(), u8>
+    ensures { result ≡ unless (cond (is_text (field_type code) field.now) 0 wrong_text) tt }
 {
     if is_text(code, field) {
-        return numbers::ACCEPTED;
+        return Ok(());
     }
-    numbers::WRONG_TEXT
+    Err(numbers::WRONG_TEXT)
 }
 
 // ---- the identity call
 
 // The fields of an identity, which are texts, from left to right. The identity kinds are the rows below 3.
-fn identity_fields(row: usize, s: &[u8], starts: &[usize; 7], lens: &[usize; 7]) -> Refusal
+fn identity_fields(
+    row: usize,
+    s: &[u8],
+    starts: &[usize; 7],
+    lens: &[usize; 7],
+) -> Result<(), Refused>
     requires { row < 3 }
-    ensures { FirstRefused nobody row (parts_by row s.now starts.now lens.now) result.no result.field }
+    ensures { MatchResult result (λ u. AllPass nobody row (parts_by row s.now starts.now lens.now)) (FirstRefused nobody row (parts_by row s.now starts.now lens.now)) }
 {
-    let count = table::count_of(row);
-    let mut j: usize = 0;
-    while j < count {
-        let no = text_no(table::type_of(row, j), places::part_at(s, starts, lens, j));
-        j += 1;
-        if no != numbers::ACCEPTED {
-            return Refusal { no, field: j as u8 };
+    for j in 0..table::count_of(row) {
+        if let Err(no) = text_no(table::type_of(row, j), places::part_at(s, starts, lens, j)) {
+            return Err(Refused {
+                no,
+                field: j as u8 + 1,
+            });
         }
     }
-    Refusal {
+    Ok(())
+}
+
+fn accept_identity(identity: &[u8]) -> Result<Answer, Refused>
+    ensures { result ≡ answer_or (read_identity identity.now) }
+{
+    if LONGEST < identity.len() {
+        return Err(Refused::from(numbers::TOO_LONG));
+    }
+    let row = table::identity_kind(frame::title_of(identity), frame::mark_after(identity));
+    let found = places_in(row, identity)?;
+    identity_fields(row, frame::body_of(identity), &found.starts, &found.lens)?;
+    Ok(Answer {
         no: numbers::ACCEPTED,
         field: 0,
-    }
+        kind: row,
+        starts: found.starts,
+        lens: found.lens,
+        kinds: [table::NONE; 7],
+    })
 }
 
 // Reads an identity. Over 1,024 bytes answer 1, a title and mark that are no identity kind's 2, and so on in the order
@@ -162,128 +192,74 @@ fn identity_fields(row: usize, s: &[u8], starts: &[usize; 7], lens: &[usize; 7])
 pub fn read_identity(identity: &[u8]) -> Answer
     ensures { result ≡ answer_of (read_identity identity.now) }
 {
-    if LONGEST < identity.len() {
-        return refuse(numbers::TOO_LONG, 0);
-    }
-    let row = table::identity_kind(frame::title_of(identity), frame::mark_after(identity));
-    let no = form_no(row, identity);
-    if no != numbers::ACCEPTED {
-        return refuse(no, 0);
-    }
-    let body = frame::body_of(identity);
-    let found = places::places_of(table::mark_of(row), body);
-    if found.count != table::count_of(row) {
-        return refuse(numbers::WRONG_COUNT, 0);
-    }
-    let starts = found.starts;
-    let lens = found.lens;
-    let first = identity_fields(row, body, &starts, &lens);
-    if first.no != numbers::ACCEPTED {
-        return refuse(first.no, first.field);
-    }
-    Answer {
-        no: numbers::ACCEPTED,
-        field: 0,
-        kind: row,
-        starts,
-        lens,
-        kinds: [table::NONE; 7],
+    match accept_identity(identity) {
+        Ok(answer) => answer,
+        Err(Refused { no, field }) => refuse(no, field),
     }
 }
 
 // ---- a field of a record
 
-// 7 where the field is no accepted identity, then 9 where its kind is not permitted here.
-fn identity_said(code: u8, field: &[u8]) -> FieldSaid
-    ensures { result ≡ record { no = identity_answer (permitted (field_type code)) (read_identity field.now); kind = kind_said (read_identity field.now) } }
+// The row of the identity; 7 where the field is no accepted one, then 9 where its kind is not permitted here.
+fn identity_said(code: u8, field: &[u8]) -> Result<usize, u8>
+    ensures { result ≡ unless (identity_answer (permitted (field_type code)) (read_identity field.now)) (kind_said (read_identity field.now)) }
 {
     let inner = read_identity(field);
-    let kind = inner.kind;
     if inner.no != numbers::ACCEPTED {
-        return FieldSaid {
-            no: numbers::WRONG_IDENTITY,
-            kind,
-        };
+        return Err(numbers::WRONG_IDENTITY);
     }
-    if table::does_permit(code, kind) {
-        return FieldSaid {
-            no: numbers::ACCEPTED,
-            kind,
-        };
+    if table::does_permit(code, inner.kind) {
+        return Ok(inner.kind);
     }
-    FieldSaid {
-        no: numbers::WRONG_KIND,
-        kind,
-    }
+    Err(numbers::WRONG_KIND)
 }
 
 // The field is empty and may be.
 fn is_left_empty(code: u8, field: &[u8]) -> bool
     ensures { result ≡ (empty field.now && may_be_empty (field_type code)) }
 {
-    if field.len() != 0 {
-        return false;
-    }
-    table::may_be_empty(code)
+    field.is_empty() && table::may_be_empty(code)
 }
 
-// One field by the code of its type: 6 for a text, 7 or 9 for an identity, or 0. A field that may be empty and is answers 0.
-fn field_said(code: u8, field: &[u8]) -> FieldSaid
+// One field by the code of its type: 6 for a text, 7 or 9 for an identity, or the row of the identity in it. A field that may be empty and is has none.
+fn field_said(code: u8, field: &[u8]) -> Result<usize, u8>
     ensures { result ≡ field_said (field_type code) field.now }
 {
     if is_left_empty(code, field) {
-        return FieldSaid {
-            no: numbers::ACCEPTED,
-            kind: table::NONE,
-        };
+        return Ok(table::NONE);
     }
     if table::is_identity(code) {
         return identity_said(code, field);
     }
-    FieldSaid {
-        no: text_no(code, field),
-        kind: table::NONE,
-    }
+    text_no(code, field)?;
+    Ok(table::NONE)
 }
 
-// The fields of a record from left to right.
-fn record_fields(row: usize, s: &[u8], starts: &[usize; 7], lens: &[usize; 7]) -> Judged
-    ensures { Walked row (parts_by row s.now starts.now lens.now) result.no result.field result.kinds }
+// The fields of a record from left to right, and the kinds of the identities among them.
+fn record_fields(
+    row: usize,
+    s: &[u8],
+    starts: &[usize; 7],
+    lens: &[usize; 7],
+) -> Result<[usize; 7], Refused>
+    ensures { MatchResult result (Kinds row (parts_by row s.now starts.now lens.now)) (FirstRefused read_identity row (parts_by row s.now starts.now lens.now)) }
 {
-    let count = table::count_of(row);
     let mut kinds = [table::NONE; 7];
-    let mut j: usize = 0;
-    while j < count {
-        let said = field_said(table::type_of(row, j), places::part_at(s, starts, lens, j));
-        kinds[j] = said.kind;
-        j += 1;
-        if said.no != numbers::ACCEPTED {
-            return Judged {
-                no: said.no,
-                field: j as u8,
-                kinds,
-            };
+    for j in 0..table::count_of(row) {
+        match field_said(table::type_of(row, j), places::part_at(s, starts, lens, j)) {
+            Ok(kind) => kinds[j] = kind,
+            Err(no) => {
+                return Err(Refused {
+                    no,
+                    field: j as u8 + 1,
+                });
+            }
         }
     }
-    Judged {
-        no: numbers::ACCEPTED,
-        field: 0,
-        kinds,
-    }
+    Ok(kinds)
 }
 
 // ---- the fields, each and together
-
-// The answer that refuses a record's fields.
-fn deny(no: u8, field: u8) -> Judged
-    ensures { result ≡ judged_said (refused no field) }
-{
-    Judged {
-        no,
-        field,
-        kinds: [table::NONE; 7],
-    }
-}
 
 // The fields of the kind in this row that stand in s at these places: each of them, then all together. A row that is none
 // answers 2.
@@ -293,25 +269,16 @@ fn judge_under(
     s: &[u8],
     starts: &[usize; 7],
     lens: &[usize; 7],
-) -> Judged
-    ensures { result ≡ judge_under rules row s.now starts.now lens.now }
+) -> Result<[usize; 7], Refused>
+    ensures { result ≡ kinds_or (judged_by rules row (parts_by row s.now starts.now lens.now)) }
 {
     if table::ROWS <= row {
-        return deny(numbers::UNKNOWN_KIND, 0);
+        return Err(Refused::from(numbers::UNKNOWN_KIND));
     }
-    let first = record_fields(row, s, starts, lens);
-    if first.no != numbers::ACCEPTED {
-        return deny(first.no, first.field);
-    }
-    let no = together::whole_no(rules, row, s, starts, lens);
-    if no != numbers::ACCEPTED {
-        return deny(no, 0);
-    }
-    let kinds = first.kinds;
-    Judged {
-        no: numbers::ACCEPTED,
-        field: 0,
-        kinds,
+    let kinds = record_fields(row, s, starts, lens)?;
+    match together::whole_no(rules, row, s, starts, lens) {
+        Ok(()) => Ok(kinds),
+        Err(no) => Err(Refused::from(no)),
     }
 }
 
@@ -319,43 +286,60 @@ fn judge_under(
 pub fn judge(row: usize, s: &[u8], starts: &[usize; 7], lens: &[usize; 7]) -> Judged
     ensures { result ≡ judge row s.now starts.now lens.now }
 {
-    judge_under(format::Rules::Today, row, s, starts, lens)
+    match judge_under(format::Rules::Today, row, s, starts, lens) {
+        Ok(kinds) => Judged {
+            no: numbers::ACCEPTED,
+            field: 0,
+            kinds,
+        },
+        Err(Refused { no, field }) => Judged {
+            no,
+            field,
+            kinds: [table::NONE; 7],
+        },
+    }
 }
 
 // ---- the record calls
+
+fn accept_under(
+    rules: format::Rules,
+    from: usize,
+    to: usize,
+    record: &[u8],
+) -> Result<Answer, Refused>
+    ensures { result ≡ answer_or (read_under rules (kinds_from from to) «record».now) }
+{
+    if LONGEST < record.len() {
+        return Err(Refused::from(numbers::TOO_LONG));
+    }
+    let row = table::record_kind(frame::title_of(record), frame::mark_after(record), from, to);
+    let found = places_in(row, record)?;
+    let kinds = judge_under(
+        rules,
+        row,
+        frame::body_of(record),
+        &found.starts,
+        &found.lens,
+    )?;
+    Ok(Answer {
+        no: numbers::ACCEPTED,
+        field: 0,
+        kind: row,
+        starts: found.starts,
+        lens: found.lens,
+        kinds,
+    })
+}
 
 // Reads a record of the kinds in the table's rows from `from` to before `to`, under these rules. Every other kind answers 2 in its
 // place, and so does an identity, whatever the rows.
 pub fn read_under(rules: format::Rules, from: usize, to: usize, record: &[u8]) -> Answer
     ensures { result ≡ answer_of (read_under rules (kinds_from from to) «record».now) }
 {
-    if LONGEST < record.len() {
-        return refuse(numbers::TOO_LONG, 0);
-    }
-    let row = table::record_kind(frame::title_of(record), frame::mark_after(record), from, to);
-    let no = form_no(row, record);
-    if no != numbers::ACCEPTED {
-        return refuse(no, 0);
-    }
-    let body = frame::body_of(record);
-    let found = places::places_of(table::mark_of(row), body);
-    if found.count != table::count_of(row) {
-        return refuse(numbers::WRONG_COUNT, 0);
-    }
-    let starts = found.starts;
-    let lens = found.lens;
-    let judged = judge_under(rules, row, body, &starts, &lens);
-    if judged.no != numbers::ACCEPTED {
-        return refuse(judged.no, judged.field);
-    }
-    let kinds = judged.kinds;
-    Answer {
-        no: numbers::ACCEPTED,
-        field: 0,
-        kind: row,
-        starts,
-        lens,
-        kinds,
+    match accept_under(rules, from, to, record) {
+        Ok(answer) => answer,
+        Err(Refused { no, field }) => refuse(no, field),
     }
 }
 

@@ -2,29 +2,26 @@
 ghost use Rattle.std.specs.Prelude.{◌≡◌, cond};
 ghost use Rattle.numbers.specs.Numbers.{wrong_attributes};
 ghost use Rattle.format.specs.Attributes.{are_attributes};
-ghost use Rattle.reading.specs.Steps.{parts_by, unsigned_no, module_no, pubkey_no, whole_no};
+ghost use Rattle.reading.specs.Steps.{unless, parts_by, unsigned_no, module_no, pubkey_no, whole_no};
 
 // What the rules answer to the unsigned key of a module.
-fn unsigned_no(rules: format::Rules) -> u8
-    ensures { result ≡ unsigned_no rules }
+fn unsigned_no(rules: format::Rules) -> Result<(), u8>
+    ensures { result ≡ unless (unsigned_no rules) tt }
 {
     match rules {
-        format::Rules::UpToE10 => numbers::ACCEPTED,
-        format::Rules::Today => numbers::MODULE_UNSIGNED,
+        format::Rules::UpToE10 => Ok(()),
+        format::Rules::Today => Err(numbers::MODULE_UNSIGNED),
     }
 }
 
-// 28 for a key whose Subject is a module's and whose Signature is empty, where the rules say so, or 0.
-fn module_no(rules: format::Rules, subject: &[u8], signature: &[u8]) -> u8
-    ensures { result ≡ module_no rules subject.now signature.now }
+// 28 for a key whose Subject is a module's and whose Signature is empty, where the rules say so.
+fn module_no(rules: format::Rules, subject: &[u8], signature: &[u8]) -> Result<(), u8>
+    ensures { result ≡ unless (module_no rules subject.now signature.now) tt }
 {
-    if signature.len() != 0 {
-        return numbers::ACCEPTED;
-    }
-    if table::is_called(table::SMID, frame::title_of(subject)) {
+    if signature.is_empty() && table::is_called(table::SMID, frame::title_of(subject)) {
         return unsigned_no(rules);
     }
-    numbers::ACCEPTED
+    Ok(())
 }
 
 // 8 for a public key with only one of Issuer and Signature; then of a PK.ECDH.1 what is said of a module's.
@@ -34,36 +31,36 @@ fn pubkey_no(
     subject: &[u8],
     issuer: &[u8],
     signature: &[u8],
-) -> u8
-    ensures { result ≡ pubkey_no rules row subject.now issuer.now signature.now }
+) -> Result<(), u8>
+    ensures { result ≡ unless (pubkey_no rules row subject.now issuer.now signature.now) tt }
 {
-    if (issuer.len() == 0) != (signature.len() == 0) {
-        return numbers::UNPAIRED;
+    if issuer.is_empty() != signature.is_empty() {
+        return Err(numbers::UNPAIRED);
     }
     if row == table::ECDH {
         return module_no(rules, subject, signature);
     }
-    numbers::ACCEPTED
+    Ok(())
 }
 
-fn attributes_no(attributes: &[u8]) -> u8
-    ensures { result ≡ cond (are_attributes attributes.now) 0 wrong_attributes }
+fn attributes_no(attributes: &[u8]) -> Result<(), u8>
+    ensures { result ≡ unless (cond (are_attributes attributes.now) 0 wrong_attributes) tt }
 {
     if cards::are_attributes(attributes) {
-        return numbers::ACCEPTED;
+        return Ok(());
     }
-    numbers::WRONG_ATTRIBUTES
+    Err(numbers::WRONG_ATTRIBUTES)
 }
 
-// 8 or 28 for a public key, 14 for a wrapped key whose attribute list is not permitted, or 0.
+// 8 or 28 for a public key, 14 for a wrapped key whose attribute list is not permitted.
 pub(crate) fn whole_no(
     rules: format::Rules,
     row: usize,
     s: &[u8],
     starts: &[usize; 7],
     lens: &[usize; 7],
-) -> u8
-    ensures { result ≡ whole_no rules row (parts_by row s.now starts.now lens.now) }
+) -> Result<(), u8>
+    ensures { result ≡ unless (whole_no rules row (parts_by row s.now starts.now lens.now)) tt }
 {
     if table::is_pubkey(row) {
         let subject = places::field_at(s, starts, lens, table::PUBKEY_SUBJECT);
@@ -74,5 +71,5 @@ pub(crate) fn whole_no(
     if row == table::KEY {
         return attributes_no(places::field_at(s, starts, lens, table::KEY_ATTRIBUTES));
     }
-    numbers::ACCEPTED
+    Ok(())
 }

@@ -23,14 +23,11 @@ fn do_agree(s: &[u8], t: &[u8], n: usize) -> bool
 
 // The two identities agree in what stands before the first mark, in Manufacturer and in MID: of two accepted identities,
 // in kind, Manufacturer and MID.
+#[tactic(auto, unfolding(crate::specs::Subjects::are_alike))]
 pub fn are_alike(s: &[u8], t: &[u8]) -> bool
     ensures { result ≡ are_alike s.now t.now }
 {
-    if !text::are_same(frame::title_of(s), frame::title_of(t)) {
-        return false;
-    }
-    if !do_agree(s, t, table::IDENTITY_MANUFACTURER) {
-        return false;
-    }
-    do_agree(s, t, table::IDENTITY_MID)
+    text::are_same(frame::title_of(s), frame::title_of(t))
+        && do_agree(s, t, table::IDENTITY_MANUFACTURER)
+        && do_agree(s, t, table::IDENTITY_MID)
 }

@@ -3,14 +3,14 @@
 use Rattle.building.proofs.Sums.{left_all, left_short, left_next, left_end}
 use Rattle.building.proofs.do_add_up.Goals as goal
 
-pub loop-j-init : goal.loop-j-init
-loop-j-init c = left_all _ _
+pub loop-len-init : goal.loop-len-init
+loop-len-init c = left_all _ _
 
-pub returns-then-left-lens : goal.returns-then-left-lens
-returns-then-left-lens c = left_short c.loop-j.invariant c.loop-j-test.true c.if-left-lens.true
+pub returns-then-left-len : goal.returns-then-left-len
+returns-then-left-len c = left_short c.loop-len.invariant c.loop-len-test.true c.if-left-len.true
 
-pub loop-j-preserved : goal.loop-j-preserved
-loop-j-preserved c = left_next c.loop-j.invariant c.loop-j-test.true c.if-left-lens.false
+pub loop-len-preserved : goal.loop-len-preserved
+loop-len-preserved c = left_next c.loop-len.invariant c.loop-len-test.true c.if-left-len.false
 
 pub returns : goal.returns
-returns c = left_end c.loop-j.invariant c.loop-j-test.false
+returns c = left_end c.loop-len.invariant c.loop-len-test.false

@@ -8,4 +8,4 @@ pub returns-then-answer-ne-ACCEPTED : goal.returns-then-answer-ne-ACCEPTED
 returns-then-answer-ne-ACCEPTED c = said_refused _ c.args.record.now _ c.read_under-answer.ensures c.if-answer-ne-ACCEPTED.true
 
 pub returns : goal.returns
-returns c = said_accepted _ c.args.record.now _ c.read_under-answer.ensures c.if-answer-ne-ACCEPTED.false _ c.field_at-expiry.ensures.holds _ (moment_back _ c.moment_of-moment.ensures)
+returns c = said_accepted _ c.args.record.now _ c.read_under-answer.ensures c.if-answer-ne-ACCEPTED.false _ c.field_at-expiry.ensures.holds _ (moment_back _ c.moment_of.ensures)

@@ -10,8 +10,8 @@ use Rattle.newer.proofs.by_subjects.Goals as goal
 pub returns-then-not-are_alike : goal.returns-then-not-are_alike
 returns-then-not-are_alike c = λ p q. said_unlike _ _ p q (sym c.are_alike.ensures ∙ not-true _ c.if-not-are_alike.true-raw)
 
-pub returns-then-is_later : goal.returns-then-is_later
-returns-then-is_later c = λ p q. said_alike _ _ p q (sym c.are_alike.ensures ∙ not-false _ c.if-not-are_alike.false-raw) true (sym (c.is_later.ensures ∙ ap₂ later c.field_in.ensures.holds c.field_in-2.ensures.holds) ∙ c.if-is_later.true)
+pub returns-then-is_second : goal.returns-then-is_second
+returns-then-is_second c = λ p q. said_alike _ _ p q (sym c.are_alike.ensures ∙ not-false _ c.if-not-are_alike.false-raw) true (sym (c.is_later-is_second.ensures ∙ ap₂ later c.field_in.ensures.holds c.field_in-2.ensures.holds) ∙ c.if-is_second.true)
 
-pub returns : goal.returns
-returns c = λ p q. said_alike _ _ p q (sym c.are_alike.ensures ∙ not-false _ c.if-not-are_alike.false-raw) false (sym (c.is_later.ensures ∙ ap₂ later c.field_in.ensures.holds c.field_in-2.ensures.holds) ∙ c.if-is_later.false)
+pub returns-else-is_second : goal.returns-else-is_second
+returns-else-is_second c = λ p q. said_alike _ _ p q (sym c.are_alike.ensures ∙ not-false _ c.if-not-are_alike.false-raw) false (sym (c.is_later-is_second.ensures ∙ ap₂ later c.field_in.ensures.holds c.field_in-2.ensures.holds) ∙ c.if-is_second.false)

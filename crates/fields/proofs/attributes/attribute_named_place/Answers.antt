@@ -4,4 +4,4 @@ use Rattle.fields.proofs.Cards.{named_so}
 use Rattle.fields.proofs.attributes.attribute_named_place.Goals as goal
 
 pub returns : goal.returns
-returns c = named_so _ _ _ _ _ _ c.number_named-wanted.ensures c.list_of.ensures c.card_place.ensures
+returns c = named_so _ _ _ _ _ _ (c.card_named-card.ensures) c.list_of.ensures c.card_place.ensures

@@ -1,9 +1,10 @@
--- `fields::attributes::number_named` meets its contract: the loop's invariant says that what is left decides, and that no number is past its place.
+-- `fields::attributes::card_named` meets its contract: the loop's invariant says that what is left decides, and that no number is past its place.
 -- Assumes nothing.
-use mathlib.Core.Path.{sym, ◌∙◌}
+use Prim.Native.Nat.{suc, ◌+◌}
+use mathlib.Core.Path.{◌≡◌, sym, ◌∙◌}
 use native.Mathlib.Omega.{arith}
 use Rattle.fields.proofs.Cards.{named_start, card_ends, named_here, named_on, named_end}
-use Rattle.fields.proofs.attributes.number_named.Goals as goal
+use Rattle.fields.proofs.attributes.card_named.Goals as goal
 
 pub loop-i-init : goal.loop-i-init
 loop-i-init c = (named_start c.args.list.now c.args.name.now, omega arith)
@@ -20,8 +21,8 @@ slice_bounds-name_of-end c = (card_ends _ _ c.loop-i-test.true _ c.next_mark-end
 pub returns-then-are_same : goal.returns-then-are_same
 returns-then-are_same c = sym (named_here _ _ _ _ c.loop-i-test.true _ c.next_mark-end.ensures _ c.name_of.ensures (sym c.are_same.ensures ∙ c.if-are_same.true)) ∙ c.loop-i.invariant.0
 
-pub overflow_add-number : goal.overflow_add-number
-overflow_add-number c = omega (arith, c.loop-i.invariant.1)
+pub overflow_add-card : goal.overflow_add-card
+overflow_add-card c = omega (arith, c.loop-i.invariant.1)
 
 pub overflow_add-i : goal.overflow_add-i
 overflow_add-i c = omega (arith, card_ends _ _ c.loop-i-test.true _ c.next_mark-end.ensures)
@@ -30,7 +31,9 @@ pub loop-i-smaller : goal.loop-i-smaller
 loop-i-smaller c = omega (arith, card_ends _ _ c.loop-i-test.true _ c.next_mark-end.ensures)
 
 pub loop-i-preserved : goal.loop-i-preserved
-loop-i-preserved c = (named_on _ _ _ _ c.loop-i-test.true _ c.next_mark-end.ensures _ c.name_of.ensures (sym c.are_same.ensures ∙ c.if-are_same.false) ∙ c.loop-i.invariant.0, omega (arith, c.loop-i.invariant.1, card_ends _ _ c.loop-i-test.true _ c.next_mark-end.ensures))
+loop-i-preserved c =
+    let e : suc (c.loop-i.card + 1) ≡ suc c.loop-i.card + 1 = omega arith in
+    (rw e (named_on _ _ _ _ c.loop-i-test.true _ c.next_mark-end.ensures _ c.name_of.ensures (sym c.are_same.ensures ∙ c.if-are_same.false) ∙ c.loop-i.invariant.0), omega (arith, c.loop-i.invariant.1, card_ends _ _ c.loop-i-test.true _ c.next_mark-end.ensures))
 
 pub returns : goal.returns
 returns c = sym (named_end _ _ _ _ c.loop-i-test.false) ∙ c.loop-i.invariant.0
