@@ -9,12 +9,12 @@ use native.Mathlib.Omega.{arith}
 use lib.Dec.{T, eqb, ltb}
 use lib.ListN.{length, take, drop, get_or, length-take}
 use mir.Facts.{and_yes}
-use borrow.Author.Tests.{eq-eqb, ne_eqb, lt-ltb, le-ltb, le-leb, lt-leb}
+use borrow.Author.Tests.{ne_eqb, lt-ltb, le-ltb, le-leb, lt-leb}
 use Rattle.text.specs.Text.{Bytes, after, is_alphanumeric}
 use Rattle.text.proofs.Tests.{by_test, T_true, T_false, true_T}
 use Rattle.frame.specs.Frame.{next_mark}
 use Rattle.frame.proofs.Parts.{cut_at, cut_none, next_from, next_within}
-use Rattle.frame.proofs.Check.{ends_none, ends_some}
+use Rattle.format.specs.Parts.{ends_in}
 use Rattle.format.specs.Attributes.{Row, appendix_b, name_of, value_of, holds, longest_value, is_card, are_cards, has_name, has_needed, cards_in, are_attributes}
 use Rattle.format.proofs.Attributes.{first_card}
 use Rattle.cards.specs.Steps.{key_of, holds_at, key_in, needed_in, needed_after}
@@ -110,18 +110,13 @@ one_walk cs =
 -- ---- a list: its last byte, and then its cards
 
 module _ (s : Bytes) where
-  pub no_bytes : length s ≡ 0 → are_attributes s ≡ false
+  pub open_end : ends_in (code ";") s ≡ false → are_attributes s ≡ false
   unfolding are_attributes
-  no_bytes z = rw (← ends_none (code ";") s z)
+  open_end e = rw e
 
-  module _ (z : length s ≡ 0 → ⊥) where
-    pub open_end : (get_or s (length s - 1) 0 ≡ code ";" → ⊥) → are_attributes s ≡ false
-    unfolding are_attributes
-    open_end n = rw (← ends_some (code ";") s z, ne_eqb (get_or s (length s - 1) 0) (code ";") n)
-
-    pub ended : get_or s (length s - 1) 0 ≡ code ";" → are_attributes s ≡ (are_cards [] (cards_in s) && has_needed appendix_b (cards_in s))
-    unfolding are_attributes
-    ended e = rw (← ends_some (code ";") s z, eq-eqb (get_or s (length s - 1) 0) (code ";") e, and-true (has_needed appendix_b (cards_in s)))
+  pub ended : ends_in (code ";") s ≡ true → are_attributes s ≡ (are_cards [] (cards_in s) && has_needed appendix_b (cards_in s))
+  unfolding are_attributes
+  ended e = rw (e, and-true (has_needed appendix_b (cards_in s)))
 
 -- ---- the card at place i, of which the mark stands at e
 

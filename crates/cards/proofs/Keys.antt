@@ -1,12 +1,12 @@
 -- A name of three letters or digits as one number, its key: names are the same where their keys are, and ascend where their keys do.
 -- Assumes nothing.
-use Prim.Native.Nat.{ℕ, ◌≤◌, ◌<◌}
+use Prim.Native.Nat.{ℕ, zero, suc, ◌≤◌, ◌<◌}
 use mathlib.Core.Path.{◌≡◌, refl, sym, ap, ◌∙◌}
 use mathlib.Core.Logic.{⊎_elim}
-use mathlib.Core.Bool.{true, false, ◌&&◌, ◌||◌}
+use mathlib.Core.Bool.{Bool, true, false, not, ◌&&◌, ◌||◌}
 use mathlib.Core.List.{List, [], ◌∷◌, map}
 use native.Mathlib.Omega.{arith}
-use lib.Dec.{T, T_not, eqb, ltb}
+use lib.Dec.{T, T_not, eqb, eqb→eq, ltb}
 use mir.Facts.{and_yes, or_yes}
 use borrow.Author.Tests.{eq-eqb, ne_eqb, lt-ltb, le-ltb}
 use Rattle.text.specs.Text.{Bytes, between, every, all_of, same, after, decimal, alphanumeric, is_alphanumeric}
@@ -14,7 +14,9 @@ use Rattle.text.proofs.Tests.{by_test, T_true, T_false, between_low, between_hig
 use Rattle.text.proofs.Types.{alphanumeric_length}
 use Rattle.text.proofs.Order.{by_order, after_less, after_equal, after_more, after_neither}
 use Rattle.format.specs.Attributes.{Row, holds}
-use Rattle.cards.specs.Steps.{key_of, holds_at}
+use Rattle.std.proofs.Common.{Option as Maybe, Some, None}
+use Rattle.std.specs.Option.{is_some, option_eq}
+use Rattle.cards.specs.Steps.{key_of, as_key, holds_at}
 
 -- ---- three characters, each of them a byte, and the first not 0
 
@@ -97,3 +99,38 @@ holds_key [] a n v p = refl
 holds_key (r ∷ rs) a n v p =
     let a' = first_named r rs a in
     rw (same_key n r.name p a'.0, holds_key rs a'.1 n v p)
+
+-- ---- keys as the code has them
+
+pub name_above : {n : Bytes} → Name n → 0 < key_of n
+name_above (name a b c a₀ a₁ b₁ c₁) = omega arith
+
+pub some_key : (k n : ℕ) → 0 < k → n ≡ k → Some k ≡ as_key n
+some_key zero n h e = absurd (omega arith)
+some_key (suc k) n h e = rw e
+
+pub some_back : (k n : ℕ) → Some k ≡ as_key n → k ≡ n
+some_back k zero e = absurd (cc)
+some_back k (suc n) e = cc
+
+pub none_back : (n : ℕ) → None ≡ as_key n → n ≡ 0
+none_back zero e = refl
+none_back (suc n) e = absurd (cc)
+
+pub none_told : (n : ℕ) (o : Maybe ℕ) (r : Bool) → o ≡ as_key n → is_some o ≡ not r → r ≡ eqb n 0
+none_told zero o true e t = refl
+none_told zero o false e t = let f = rw e at t in absurd (cc)
+none_told (suc n) o true e t = let f = rw e at t in absurd (cc)
+none_told (suc n) o false e t = sym (ne_eqb (suc n) 0 (λ q. omega arith))
+
+-- what a comparison of a key with another says
+pub told_apart : (o : Maybe ℕ) (k : ℕ) → not (option_eq eqb o (Some k)) ≡ true → o ≡ Some k → ⊥
+told_apart None k t q = cc
+told_apart (Some x) k t q = let e : x ≡ k = cc in let f = rw (eq-eqb x k e) at t in cc
+
+told_same : (o : Maybe ℕ) (k : ℕ) → not (option_eq eqb o (Some k)) ≡ false → o ≡ Some k
+told_same None k t = absurd (cc)
+told_same (Some x) k t = by_test (eqb x k) (λ u. ap Some (eqb→eq x k u)) (λ u. let f = rw (T_false (eqb x k) u) at t in absurd (cc))
+
+pub same_told : (n k : ℕ) (o : Maybe ℕ) → o ≡ as_key n → not (option_eq eqb o (Some k)) ≡ false → k ≡ n
+same_told n k o e t = some_back k n (sym (told_same o k t) ∙ e)

@@ -1,18 +1,19 @@
 -- One walk over keys that ascend finds every key that is needed, where these ascend too: each is looked for in its turn.
 -- Assumes nothing.
-use Prim.Native.Nat.{ℕ, ◌<◌}
+use Prim.Native.Nat.{ℕ, zero, suc, ◌<◌}
 use mathlib.Core.Path.{◌≡◌, refl, sym, ap, ◌∙◌}
 use mathlib.Core.Bool.{Bool, true, false, cond, ◌&&◌, ◌||◌}
 use mathlib.Core.List.{List, [], ◌∷◌}
 use native.Mathlib.Omega.{arith}
 use lib.ListN.{get_or}
-use lib.Dec.{T, eqb, ltb, ltb→lt, lt→ltb}
+use lib.Dec.{T, eqb, eqb→eq, ltb, ltb→lt, lt→ltb}
 use mir.Facts.{and_yes, yes_and}
 use borrow.Author.Tests.{eq-eqb, ne_eqb}
 use Rattle.text.proofs.Tests.{by_test, T_true, T_false}
 use Rattle.text.proofs.Order.{by_order}
 use Rattle.format.specs.Attributes.{appendix_b}
-use Rattle.cards.specs.Steps.{needed_in, following, needed_after}
+use Rattle.std.proofs.Common.{Option as Maybe, Some}
+use Rattle.cards.specs.Steps.{as_key, needed_in, following, needed_after}
 
 -- what the second test says counts only where the first passes
 pub and_alike : (a b c d : Bool) → a ≡ c → (T a → b ≡ d) → (a && b) ≡ (c && d)
@@ -120,3 +121,12 @@ all_turns =
 
 pub all_walked : (xs : List ℕ) → walk 0 (get_or (needed_in appendix_b) 0 0) xs ≡ (ascend 0 xs && has_keys (needed_in appendix_b) xs)
 all_walked xs = walked xs 0 (get_or (needed_in appendix_b) 0 0) (needed_in appendix_b) all_turns
+
+-- where the card is another one, the same is looked for
+pub other_card : (n k : ℕ) (o : Maybe ℕ) → o ≡ as_key n → (o ≡ Some k → ⊥) → o ≡ as_key (needed_after n k)
+unfolding needed_after
+other_card n k o e h = by_test (eqb k n) (λ t. none n k (eqb→eq k n t) e h) (λ t. rw (T_false (eqb k n) t) e)
+  where
+    none : (n k : ℕ) → k ≡ n → o ≡ as_key n → (o ≡ Some k → ⊥) → o ≡ as_key (cond (eqb k n) (following (needed_in appendix_b) n) n)
+    none zero k q e h = rw q e
+    none (suc n) k q e h = absurd (h (e ∙ ap Some (sym q)))

@@ -1,6 +1,6 @@
 -- What the private functions of the crate answer. No clause of a document stands here.
 -- Assumes nothing.
-use Rattle.std.specs.Prelude.{ℕ, ◌+◌, ◌*◌, Bool, true, cond, List, [], ◌∷◌, get_or, eqb}
+use Rattle.std.specs.Prelude.{ℕ, zero, suc, Option, None, Some, ◌+◌, ◌*◌, Bool, true, cond, List, [], ◌∷◌, get_or, eqb}
 use Rattle.text.specs.Text.{Bytes}
 use Rattle.format.specs.Attributes.{Row, appendix_b, name_of, is_card}
 
@@ -16,6 +16,11 @@ holds_at (r ∷ rs) k v = cond (eqb k (key_of r.name)) (r.content v) (holds_at r
 -- the key of a card's name, and 0 where it is no card
 unfoldable pub key_in : Bytes → ℕ
 key_in c = cond (is_card c) (key_of (name_of c)) 0
+
+-- a key as the code has it: nothing for 0, which no name has
+abbrev pub as_key : ℕ → Option ℕ
+as_key zero = None
+as_key (suc n) = Some (suc n)
 
 -- the keys of the names that the rows require
 abbrev pub needed_in : List Row → List ℕ

@@ -2,9 +2,9 @@
 // once: its names ascend, and so do those that are required, so each required name is looked for in its turn.
 #![tactic(auto)]
 
-ghost use Rattle.std.specs.Prelude.{◌≡◌, ◌&&◌, [], ◌+◌, ◌*◌};
+ghost use Rattle.std.specs.Prelude.{◌≡◌, ℕ, ◌&&◌, [], ◌+◌, ◌*◌};
 ghost use Rattle.format.specs.Attributes.{appendix_b, is_group_name, are_cards, has_needed, cards_in, are_attributes};
-ghost use Rattle.cards.specs.Steps.{holds_at, key_in, needed_after};
+ghost use Rattle.cards.specs.Steps.{as_key, holds_at, key_in, needed_after};
 
 // ---- the names of Appendix B by their keys
 
@@ -27,8 +27,8 @@ const SGC: u32 = 65536 * (b'S' as u32) + 256 * (b'G' as u32) + (b'C' as u32);
 
 const SGN: u32 = 65536 * (b'S' as u32) + 256 * (b'G' as u32) + (b'N' as u32);
 
-// No name has it: there is no card, or none is required any more.
-const NONE: u32 = 0;
+// Every name stands behind it.
+const LOWEST: u32 = 0;
 
 fn key_of(a: u8, b: u8, c: u8) -> u32
     ensures { result ≡ 65536 * a + 256 * b + c }
@@ -45,109 +45,77 @@ const LONGEST_VALUE: usize = 252;
 fn is_group_name(value: &[u8]) -> bool
     ensures { result ≡ is_group_name value.now }
 {
-    if value.len() < 1 {
-        return false;
-    }
-    value.len() <= 99
+    1 <= value.len() && value.len() <= 99
 }
 
 // The value of a name is what Appendix B says; a name that does not stand there may have any.
 fn does_hold(key: u32, value: &[u8]) -> bool
     ensures { result ≡ holds_at appendix_b key value.now }
 {
-    if key == ACT {
-        return text::is_timestamp(value);
+    match key {
+        ACT | BDT | IUT => text::is_timestamp(value),
+        DKG => text::is_digits(2, value),
+        KEN => text::is_octet(value),
+        KRN | KTC => text::is_digits(1, value),
+        SGC => text::is_digits(10, value),
+        SGN => is_group_name(value),
+        _ => true,
     }
-    if key == BDT {
-        return text::is_timestamp(value);
-    }
-    if key == DKG {
-        return text::is_digits(2, value);
-    }
-    if key == IUT {
-        return text::is_timestamp(value);
-    }
-    if key == KEN {
-        return text::is_octet(value);
-    }
-    if key == KRN {
-        return text::is_digits(1, value);
-    }
-    if key == KTC {
-        return text::is_digits(1, value);
-    }
-    if key == SGC {
-        return text::is_digits(10, value);
-    }
-    if key == SGN {
-        return is_group_name(value);
-    }
-    true
 }
 
-// The key of a card's name, a name of three letters or digits whose value fits it; NONE where it is no card.
-fn card_key(card: &[u8]) -> u32
-    ensures { result ≡ key_in card.now }
+// The key of a card's name, a name of three letters or digits whose value fits it; None where it is no card.
+fn card_key(card: &[u8]) -> Option<u32>
+    ensures { result ≡ as_key (key_in card.now) }
 {
-    if card.len() < 3 {
-        return NONE;
-    }
-    if !text::is_alphanumeric(3, &card[0..3]) {
-        return NONE;
+    if card.len() < 3 || !text::is_alphanumeric(3, &card[..3]) {
+        return None;
     }
     let value = &card[3..];
     if LONGEST_VALUE < value.len() {
-        return NONE;
+        return None;
     }
     let key = key_of(card[0], card[1], card[2]);
     if does_hold(key, value) {
-        return key;
+        Some(key)
+    } else {
+        None
     }
-    NONE
 }
 
 // ---- a list
 
-// The required name to look for behind a card, where `needed` was looked for so far: the next where this is its card, and NONE behind
+// The required name to look for behind a card, where `needed` was looked for so far: the next where this is its card, and None behind
 // the last.
-fn needed_after(needed: u32, key: u32) -> u32
-    ensures { result ≡ needed_after needed key }
+fn needed_after(needed: Option<u32>, key: u32) -> Option<u32>
+    ensures { (n : ℕ) → needed ≡ as_key n → result ≡ as_key (needed_after n key) }
 {
-    if key != needed {
+    if needed != Some(key) {
         return needed;
     }
-    if needed == ACT {
-        return BDT;
+    match key {
+        ACT => Some(BDT),
+        BDT => Some(DKG),
+        DKG => Some(KEN),
+        KEN => Some(KRN),
+        KRN => Some(KTC),
+        KTC => Some(SGC),
+        _ => None,
     }
-    if needed == BDT {
-        return DKG;
-    }
-    if needed == DKG {
-        return KEN;
-    }
-    if needed == KEN {
-        return KRN;
-    }
-    if needed == KRN {
-        return KTC;
-    }
-    if needed == KTC {
-        return SGC;
-    }
-    NONE
 }
 
 // Each part that ';' ends is a card, their names ascend, and every name that Appendix B requires is among them.
 fn are_cards(list: &[u8]) -> bool
     ensures { result ≡ (are_cards [] (cards_in list.now) && has_needed appendix_b (cards_in list.now)) }
 {
-    let mut before = NONE;
-    let mut needed = ACT;
+    let mut before = LOWEST;
+    let mut needed = Some(ACT);
     let mut i: usize = 0;
+    // from card to card, and not from byte to byte
     while i < list.len() {
         let end = frame::next_mark(b';', list, i);
-        let key = card_key(&list[i..end]);
-        // what is no card has a key that stands behind none
+        let Some(key) = card_key(&list[i..end]) else {
+            return false;
+        };
         if key <= before {
             return false;
         }
@@ -155,19 +123,12 @@ fn are_cards(list: &[u8]) -> bool
         before = key;
         i = end + 1;
     }
-    needed == NONE
+    needed.is_none()
 }
 
 // The list is one that clause 7.5.1 and Appendix B permit.
 pub fn are_attributes(list: &[u8]) -> bool
     ensures { result ≡ are_attributes list.now }
 {
-    if list.len() == 0 {
-        return false;
-    }
-    let at = list.len() - 1;
-    if list[at] != b';' {
-        return false;
-    }
-    are_cards(list)
+    list.last() == Some(&b';') && are_cards(list)
 }

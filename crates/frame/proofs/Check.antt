@@ -1,39 +1,17 @@
--- The body and the check of a record, and its last byte.
+-- The last byte, as the library reads it.
 -- Assumes nothing.
 use Prim.Native.Nat.{ℕ, suc, ◌-◌}
 use mathlib.Core.Path.{◌≡◌, refl, ap, ◌∙◌}
-use mathlib.Core.Bool.{false}
 use mathlib.Core.List.{[], ◌∷◌}
 use native.Mathlib.Omega.{arith}
-use lib.ListN.{length, take, drop, get_or}
+use lib.ListN.{length}
 use lib.Dec.{eqb}
 use Rattle.text.specs.Text.{Bytes}
-use Rattle.text.proofs.Loops.{rest_all}
 use denote.Ref.{Bor}
 use Rattle.std.proofs.Common.{Option as Maybe, Some, None}
 use Rattle.std.specs.Option.{option_eq, option_copied}
 use Rattle.std.specs.List.{slice_get}
-use Rattle.format.specs.Read.{last_or, body, check, ends_in}
-use Rattle.format.proofs.Parts.{last_after}
-
--- ---- body and check, as code takes these parts
-
-module _ (s : Bytes) (n : ℕ) (e : n ≡ length s - 4) where
-  pub body_part : take (n - 0) (drop 0 s) ≡ body s
-  body_part = let z : n - 0 ≡ length s - 4 = omega arith in rw z
-
-  pub check_part : take (length s - n) (drop n s) ≡ check s
-  check_part = rest_all s n ∙ rw e
-
--- ---- the last byte
-
-pub ends_none : (m : ℕ) (s : Bytes) → length s ≡ 0 → false ≡ ends_in m s
-ends_none m [] e = refl
-ends_none m (c ∷ s) e = absurd (omega arith)
-
-pub ends_some : (m : ℕ) (s : Bytes) → (length s ≡ 0 → ⊥) → eqb (get_or s (length s - 1) 0) m ≡ ends_in m s
-ends_some m [] z = absurd (z refl)
-ends_some m (c ∷ s) z = let e : suc (length s) - 1 ≡ length s = omega arith in rw (e, last_after c s)
+use Rattle.format.specs.Read.{last_or, ends_in}
 
 last_there : (c : ℕ) (s : Bytes) → slice_get (c ∷ s) (length s) ≡ Some (last_or c s)
 last_there c [] = refl
