@@ -1,14 +1,14 @@
 -- The hash value, block by block: what follows the first blocks does not change it, and whole blocks are hashed before what follows them.
 -- Assumes nothing.
-use Prim.Native.Nat.{ℕ, ◌+◌, ◌*◌, ◌/◌, ◌≤◌, ◌<◌}
-use mathlib.Core.Path.{◌≡◌, refl, sym, ap, ◌∙◌}
-use mathlib.Core.List.{List, ◌++◌}
+use Prim.Native.Nat.{ℕ, zero, suc, ◌+◌, ◌*◌, ◌≤◌, ◌<◌}
+use mathlib.Core.Path.{◌≡◌, ap, ◌∙◌}
+use mathlib.Core.List.{List, [], ◌++◌}
 use native.Mathlib.Omega.{arith}
-use native.Mathlib.Nat.{add-zero, mul-le-mul_left, div-eq_of_lt, mul-add-div}
-use lib.ListN.{length, take, drop, length-append, length-drop}
-use lib.Seq.{take-append-le, drop-append-le, drop-append-add, drop-drop, take_at, drop_at}
+use native.Mathlib.Nat.{mul-le-mul_left}
+use lib.ListN.{length, take, drop, get_or, length-drop}
+use lib.Seq.{take-append-le, drop-append-le, drop-append-add, drop-drop}
+use Rattle.std.specs.Simd.{first_chunks}
 use Rattle.hashing.specs.Blocks.{block, hashed}
-use Rattle.hashing.specs.Turns.{turns}
 use Rattle.hashing.proofs.Turns.{turns_more, turns_then, turns_same}
 
 block_front : (size : ℕ) (x y : List ℕ) (n : ℕ) → size * n + size ≤ length x → block size (x ++ y) n ≡ block size x n
@@ -22,6 +22,18 @@ unfolding block
 block_behind size x y q n h =
     let e : size * (q + n) ≡ length x + size * n = omega (arith, h) in
     rw (e, drop-append-add)
+
+block_next : (size : ℕ) (m : List ℕ) (i : ℕ) → block size (drop size m) i ≡ block size m (suc i)
+unfolding block
+block_next size m i =
+    let e : size + size * i ≡ size * suc i = omega arith in
+    ap (take size) (drop-drop (size * i) size m ∙ ap (λ (j : ℕ). drop j m) e)
+
+chunk_at : (size n : ℕ) (m : List ℕ) (i : ℕ) → i < n → get_or (first_chunks size n m) i [] ≡ block size m i
+unfolding block
+chunk_at size zero m i h = absurd (omega arith)
+chunk_at size (suc n) m zero h = let e : size * 0 ≡ 0 = omega arith in rw e
+chunk_at size (suc n) m (suc i) h = chunk_at size n (drop size m) i (omega arith) ∙ block_next size m i
 
 module _ {H : Type 0} (size : ℕ) (compress : H → List ℕ → H) where
   -- what follows the first blocks does not change their hash value
@@ -38,32 +50,8 @@ module _ {H : Type 0} (size : ℕ) (compress : H → List ℕ → H) where
       ∙ turns_same _ _ _ n (λ u i l. ap (compress u) (block_behind size x y q i h))
       ∙ ap (λ (u : H). hashed size compress u y n) (hashed_front v x y q (omega (arith, h)))
 
-  -- block by block: of m the first i blocks are hashed from v, which gives h, and rest is left
-  pub record Hashing (v : H) (m rest : List ℕ) (i : ℕ) (h : H) : Type 0 where
-    pub inside : size * i ≤ length m
-    pub left : rest ≡ drop (size * i) m
-    pub hash : h ≡ hashed size compress v m i
-
-  pub hashing_none : (v : H) (m : List ℕ) → Hashing v m m 0 v
-  unfolding hashed turns
-  hashing_none v m = let e : size * 0 ≡ 0 = omega arith in record { inside = omega arith; left = rw e refl; hash = refl }
-
-  module _ {v : H} {m rest : List ℕ} {i : ℕ} {h : H} (g : Hashing v m rest i h) where
-    -- one more, x, and after it the rest
-    pub hashing_more : (x : List ℕ) {rest' : List ℕ} {r : H} → rest ≡ x ++ rest' → length x ≡ size → r ≡ compress h x → Hashing v m rest' (i + 1) r
-    unfolding hashed block
-    hashing_more x {rest'} {r} e l f =
-        let o : size * (i + 1) ≡ size * i + size = omega arith in
-        let cut : drop (size * i) m ≡ x ++ rest' = sym g.left ∙ e in
-        let first : take size (drop (size * i) m) ≡ x = ap (take size) cut ∙ take_at x rest' size l in
-        record {
-          inside = omega (arith, ap length g.left, ap length e, length-append x rest', length-drop (size * i) m, l);
-          left = sym (ap (λ (j : ℕ). drop j m) o ∙ sym (drop-drop size (size * i) m) ∙ ap (drop size) cut ∙ drop_at x rest' size l);
-          hash = turns_more _ v i g.hash (f ∙ ap (compress h) (sym first));
-        }
-
-    pub hashing_all : 0 < size → length rest < size → h ≡ hashed size compress v m (length m / size)
-    hashing_all some short =
-        let l : length m ≡ size * i + length rest = omega (arith, ap length g.left, length-drop (size * i) m, g.inside) in
-        let e : length m / size ≡ i = ap (λ (j : ℕ). j / size) l ∙ mul-add-div some i (length rest) ∙ ap (λ (j : ℕ). i + j) (div-eq_of_lt short) ∙ add-zero i in
-        g.hash ∙ ap (hashed size compress v m) (sym e)
+  -- one block more, of those that the code cuts
+  pub hashed_more : (v : H) (m : List ℕ) (n i : ℕ) {h r : H} → i < n → h ≡ hashed size compress v m i → r ≡ compress h (get_or (first_chunks size n m) i [])
+      → r ≡ hashed size compress v m (i + 1)
+  unfolding hashed
+  hashed_more v m n i {h} l e f = turns_more _ v i e (f ∙ ap (compress h) (chunk_at size n m i l))

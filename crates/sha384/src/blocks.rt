@@ -91,8 +91,7 @@ const CONSTANTS: [u64; 80] = [
 // ---- the message schedule
 
 // A schedule whose first sixteen words are those of the block.
-fn first_words(block: &[u8]) -> [u64; 80]
-    requires { length block.now ≡ 128 }
+fn first_words(block: &[u8; 128]) -> [u64; 80]
     ensures { (length result ≡ 80) × (take 16 result ≡ words block.now 16) }
 {
     let mut w = [0; 80];
@@ -114,8 +113,7 @@ fn next_word(w: &[u64; 80], n: usize) -> u64
 }
 
 // The message schedule of a block.
-fn schedule(block: &[u8]) -> [u64; 80]
-    requires { length block.now ≡ 128 }
+fn schedule(block: &[u8; 128]) -> [u64; 80]
     ensures { result ≡ schedule block.now 64 }
 {
     let mut w = first_words(block);
@@ -189,8 +187,8 @@ fn sums(v: Words, u: Words) -> Words
 }
 
 // After one block, from the hash value before it.
-fn compress(k: &[u64; 80], v: Words, block: &[u8]) -> Words
-    requires { (k.now ≡ K) × (length block.now ≡ 128) }
+fn compress(k: &[u64; 80], v: Words, block: &[u8; 128]) -> Words
+    requires { k.now ≡ K }
     ensures { result ≡ compress v block.now }
 {
     let w = schedule(block);
@@ -202,8 +200,9 @@ fn hash_by(k: &[u64; 80], v: Words, bytes: &[u8]) -> Words
     requires { k.now ≡ K }
     ensures { result ≡ hashed v bytes.now (length bytes.now / 128) }
 {
+    let (blocks, _) = bytes.as_chunks::<BLOCK>();
     let mut hash = v;
-    for block in bytes.chunks_exact(BLOCK) {
+    for block in blocks {
         hash = compress(k, hash, block);
     }
     hash

@@ -20,8 +20,7 @@ fn constant(t: usize) -> u32
 // ---- the message schedule
 
 // A schedule whose first sixteen words are those of the block.
-fn first_words(block: &[u8]) -> [u32; 80]
-    requires { length block.now ≡ 64 }
+fn first_words(block: &[u8; 64]) -> [u32; 80]
     ensures { (length result ≡ 80) × (take 16 result ≡ words block.now 16) }
 {
     let mut w = [0; 80];
@@ -40,8 +39,7 @@ fn next_word(w: &[u32; 80], n: usize) -> u32
 }
 
 // The message schedule of a block.
-fn schedule(block: &[u8]) -> [u32; 80]
-    requires { length block.now ≡ 64 }
+fn schedule(block: &[u8; 64]) -> [u32; 80]
     ensures { result ≡ schedule block.now 64 }
 {
     let mut w = first_words(block);
@@ -110,8 +108,7 @@ fn sums(v: Words, u: Words) -> Words
 }
 
 // After one block, from the hash value before it.
-fn compress(v: Words, block: &[u8]) -> Words
-    requires { length block.now ≡ 64 }
+fn compress(v: Words, block: &[u8; 64]) -> Words
     ensures { result ≡ compress v block.now }
 {
     let w = schedule(block);
@@ -123,8 +120,9 @@ fn compress(v: Words, block: &[u8]) -> Words
 pub(crate) fn hash_blocks(v: Words, bytes: &[u8]) -> Words
     ensures { result ≡ hashed v bytes.now (length bytes.now / 64) }
 {
+    let (blocks, _) = bytes.as_chunks::<BLOCK>();
     let mut hash = v;
-    for block in bytes.chunks_exact(BLOCK) {
+    for block in blocks {
         hash = compress(hash, block);
     }
     hash
