@@ -1,7 +1,7 @@
 -- The loops over a cabinet's places, and over bytes: each looks for the first that passes a test.
 -- Assumes nothing.
 use Prim.Native.Nat.{ℕ, zero, suc, ◌+◌, ◌-◌, ◌≤◌, ◌<◌}
-use mathlib.Core.Path.{◌≡◌, refl, sym, ap, ◌∙◌}
+use mathlib.Core.Path.{◌≡◌, refl, sym, ap, ◌∙◌, subst}
 use mathlib.Core.Bool.{Bool, true, false, not, cond, ◌&&◌, and-true, and_assoc}
 use native.Mathlib.Omega.{arith}
 use native.Mathlib.Numerals.{add-one}
@@ -15,7 +15,7 @@ use Rattle.text.proofs.Tests.{T_true, T_false, by_test}
 use Rattle.text.specs.Text.{Bytes, every}
 use Rattle.std.specs.Option.{is_some}
 use Rattle.std.proofs.Common.{Option, None, Some}
-use Rattle.cabinet.specs.Steps.{is_zero, first, first_from, Among, all_pass, is_free_at, is_held_at, occupied_of}
+use Rattle.cabinet.specs.Steps.{is_zero, first, first_from, Among, Below, start, onward, Lowest, all_pass, is_free_at, is_held_at, occupied_of}
 
 -- ---- the first place that passes the test
 
@@ -40,6 +40,19 @@ sought_here {t} {from} {i} k l e = (sym (k.so_far ∙ next t i l ∙ rw e), l)
 pub sought_end : {t : ℕ → Bool} {from i : ℕ} → Sought t from i → 64 ≤ i → first_from t from ≡ 64
 unfolding first
 sought_end {t} {from} {i} k l = let w = k.within in k.so_far ∙ (let e : 64 - i ≡ 0 = omega arith in rw e (omega arith))
+
+pub below_all : {Said : ℕ → Bool → Type 0} {from i : ℕ} → Below Said from i → i ≡ 64 → Below Said from 64
+below_all {Said} {from} w e = let P : ℕ → Type 0 = λ j. Below Said from j in subst P e w
+
+-- what a test found that says of each place what t does
+module _ (t : ℕ → Bool) {Said : ℕ → Bool → Type 0} (right : (i : ℕ) (b : Bool) → i < 64 → Said i b → b ≡ t i) where
+  sought_below : {from i : ℕ} → from ≤ 64 → Below Said from i → Sought t from i
+  sought_below {from} l start = sought_none t from l
+  sought_below l (onward {i} w h s) = sought_on (sought_below l w) h (sym (right i false h s))
+
+  pub lowest_among : {from : ℕ} → from ≤ 64 → (r : Option ℕ) → Lowest Said from r → Among (first_from t from) r
+  lowest_among l None w = sought_end (sought_below l w) (omega arith)
+  lowest_among l (Some i) (w, h, s) = sought_here (sought_below l w) h (sym (right i true h s))
 
 -- whether none was found
 pub none_among : (n : ℕ) (r : Option ℕ) {b : Bool} → Among n r → is_some r ≡ not b → b ≡ eqb n 64

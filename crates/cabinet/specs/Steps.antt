@@ -81,6 +81,15 @@ first t (suc n) i = cond (t i) i (first t n (suc i))
 abbrev pub first_from : (ℕ → Bool) → ℕ → ℕ
 first_from t i = first t (64 - i) i
 
+-- the test says false of each place from `from` on that is before place i
+pub data Below (Said : ℕ → Bool → Type 0) (from : ℕ) : ℕ → Type 0 where
+  start : Below Said from from
+  onward : {i : ℕ} → Below Said from i → i < 64 → Said i false → Below Said from (i + 1)
+
+-- the lowest of 64 of which it says true
+abbrev pub Lowest : (ℕ → Bool → Type 0) → ℕ → prelude.Option ℕ → Type 0
+Lowest Said from r = MatchOption r (Below Said from 64) (λ i. Below Said from i × (i < 64) × Said i true)
+
 -- place n, and none where n is 64, as the code answers it
 abbrev pub Among : ℕ → prelude.Option ℕ → Type 0
 Among n r = MatchOption r (n ≡ 64) (λ i. (i ≡ n) × (i < 64))

@@ -8,11 +8,11 @@ mod naming;
 mod tvps;
 mod writing;
 
-ghost use Rattle.std.specs.Prelude.{◌≡◌, ◌+◌, ◌-◌, ◌≤◌, ◌<◌, length};
+ghost use Rattle.std.specs.Prelude.{◌≡◌, ℕ, ◌+◌, ◌-◌, ◌≤◌, ◌<◌, length};
 ghost use Rattle.text.specs.Text.{every};
 ghost use Rattle.shelf.specs.Cabinet.{decode, shelf, make_cabinet, put_key, remove_key, admit, find_key};
 ghost use Rattle.cabinet.specs.Cabinet.{Files, counted, checked, FindSaid, FindPart};
-ghost use Rattle.cabinet.specs.Steps.{is_zero, is_place, is_some, part_at, first_from, Among, current_of, all_pass, has_names, is_place_at, is_free_at, is_held_at, alone_at, occupied_of, Sized, PlaceIn};
+ghost use Rattle.cabinet.specs.Steps.{is_zero, is_place, is_some, part_at, first_from, Among, Lowest, current_of, all_pass, has_names, is_place_at, is_free_at, is_held_at, alone_at, occupied_of, Sized, PlaceIn};
 
 pub const PLACES: usize = 64;
 
@@ -78,7 +78,8 @@ fn is_place(place: &[u8]) -> bool
     expiry.no == numbers::ACCEPTED && text::are_same(&place[NUMBER_AT..], &number)
 }
 
-// Place i of a cabinet, from 0.
+// Place i of a cabinet, from 0. That there are bytes for it (`Sized`, `PlaceIn`) the writers need too, of bytes that they change: a type for the readers alone
+// would say it a second time.
 fn place_at<'a>(cabinet: &'a [u8], i: usize) -> &'a [u8]
     requires { PlaceIn cabinet.now i }
     ensures { result.now ≡ part_at cabinet.now i }
@@ -90,17 +91,26 @@ fn place_at<'a>(cabinet: &'a [u8], i: usize) -> &'a [u8]
 
 // ---- all places
 
+// The lowest place at or after `from` that passes the test.
+fn lowest<F: Fn(usize) -> bool>(from: usize, passes: F) -> Option<usize>
+    requires from_in_bounds { from ≤ 64 }
+    requires callable { (i : ℕ) → i < 64 → F.pre passes i }
+    ensures { Lowest (F.post passes) from result }
+{
+    for i in from..PLACES {
+        if passes(i) {
+            return Some(i);
+        }
+    }
+    None
+}
+
 // The lowest place at or after `from` whose record has these names.
 fn place_of(cabinet: &[u8], from: usize, names: &[u8]) -> Option<usize>
     requires { Sized cabinet.now × (from ≤ 64) }
     ensures { Among (first_from (has_names cabinet.now names.now) from) result }
 {
-    for i in from..PLACES {
-        if naming::has_names(place_at(cabinet, i), names) {
-            return Some(i);
-        }
-    }
-    None
+    lowest(from, |i| naming::has_names(place_at(cabinet, i), names))
 }
 
 // The place of the record with these names, unless it is old.
@@ -164,12 +174,7 @@ fn free_at(cabinet: &[u8]) -> Option<usize>
     requires { Sized cabinet.now }
     ensures { Among (first_from (is_free_at cabinet.now) 0) result }
 {
-    for i in 0..PLACES {
-        if cabinet[i * WIDTH] == 0 {
-            return Some(i);
-        }
-    }
-    None
+    lowest(0, |i| cabinet[i * WIDTH] == 0)
 }
 
 // The lowest occupied place at or after `from`.
@@ -177,12 +182,7 @@ fn occupied_from(cabinet: &[u8], from: usize) -> Option<usize>
     requires { Sized cabinet.now × (from ≤ 64) }
     ensures { Among (first_from (is_held_at cabinet.now) from) result }
 {
-    for at in from..PLACES {
-        if cabinet[at * WIDTH] != 0 {
-            return Some(at);
-        }
-    }
-    None
+    lowest(from, |at| cabinet[at * WIDTH] != 0)
 }
 
 // How many places are occupied, each looked for behind the one before it: of a loop that looked at them all LLVM would make
