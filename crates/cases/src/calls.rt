@@ -37,7 +37,7 @@ fn print_answer(rt: &impl Print, read: reading::Answer) -> io::Result<()> {
     print_each(rt, &read.kinds)
 }
 
-// The calls that hand back a part: a field's text, the answer, and the part's length and check.
+// The calls that hand back a part: the text of a field or of an attribute, the answer, and the part's length and check.
 fn print_part<'a>(
     rt: &impl Print,
     op: usize,
@@ -51,30 +51,13 @@ fn print_part<'a>(
         12 => fields::identity_field(a, n, &mut no, &mut field),
         13 => fields::record_field(a, n, &mut no, &mut field),
         14 => items::text_item(a, n, &mut no),
-        _ => newer::newer(a, b, &mut no, &mut field),
-    };
-    if op < 14 {
-        say::text(rt, part)?;
-    }
-    say::outcome(rt, no, field, part.len())?;
-    say::number(rt, crc16::crc_of(part) as usize)
-}
-
-// The calls that hand back an attribute of a wrapped key: its text, the answer, and its length and check.
-fn print_attribute<'a>(
-    rt: &impl Print,
-    op: usize,
-    n: usize,
-    a: &'a [u8],
-    b: &[u8],
-) -> io::Result<()> {
-    let mut no: u8 = 0;
-    let mut field: u8 = 0;
-    let part = match op {
+        15 => newer::newer(a, b, &mut no, &mut field),
         28 => fields::attribute(a, n, &mut no, &mut field),
         _ => fields::attribute_named(a, b, &mut no, &mut field),
     };
-    say::text(rt, part)?;
+    if op != 14 && op != 15 {
+        say::text(rt, part)?;
+    }
     say::outcome(rt, no, field, part.len())?;
     say::number(rt, crc16::crc_of(part) as usize)
 }
@@ -136,7 +119,7 @@ pub(crate) fn run<'a>(
         9 => say::number(rt, check_by_state(a) as usize),
         10 => print_answer(rt, reading::read_identity(a)),
         11 => print_answer(rt, reading::read_record(a)),
-        12..=15 => print_part(rt, op, n, a, b),
+        12..=15 | 28 | 30 => print_part(rt, op, n, a, b),
         16 => print_place(rt, fields::identity_place(a, n)),
         17 => print_place(rt, fields::record_place(a, n)),
         18 => print_item(rt, items::item_place(a, n)),
@@ -145,9 +128,7 @@ pub(crate) fn run<'a>(
         21 => print_line(rt, files::step_from(a, n)),
         22 => print_line(rt, first_line(a)),
         23 => print_totals(rt, files::count(a)),
-        28 => print_attribute(rt, op, n, a, b),
         29 => print_place(rt, fields::attribute_place(a, n)),
-        30 => print_attribute(rt, op, n, a, b),
         31 => print_place(rt, fields::attribute_named_place(a, b)),
         32 => hashes::print_sha384(rt, a),
         33 => hashes::print_sha384_by_state(rt, n, a),

@@ -14,16 +14,11 @@ pub(crate) fn zeros() -> [u8; 66560]
 
 // The lengths of the fields stand in c, eight bytes each, and are eight at the most.
 fn lens_of(c: &[u8]) -> [usize; 8] {
-    [
-        input::number(c, 0, 8),
-        input::number(c, 8, 16),
-        input::number(c, 16, 24),
-        input::number(c, 24, 32),
-        input::number(c, 32, 40),
-        input::number(c, 40, 48),
-        input::number(c, 48, 56),
-        input::number(c, 56, 64),
-    ]
+    let mut lens = [0; 8];
+    for (len, bytes) in lens.iter_mut().zip(c.chunks_exact(8)) {
+        *len = input::number(bytes, 0, 8);
+    }
+    lens
 }
 
 fn write_to(op: usize, a: &[u8], b: &[u8], c: &[u8], out: &mut [u8]) -> put::Written {

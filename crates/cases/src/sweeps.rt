@@ -74,15 +74,15 @@ pub(crate) fn sweep(
     b: &[u8],
     c: &[u8],
 ) -> io::Result<()> {
-    let mut last: usize = 65536;
+    let mut last = None;
     for byte in 0..=u8::MAX {
         let at = byte as usize * 4;
         let said = answer_of(op, n, a, byte, b, input::cut(c, at, at + 4));
-        if said != last {
+        if last != Some(said) {
             say::number(rt, byte as usize)?;
             say::number(rt, said)?;
         }
-        last = said;
+        last = Some(said);
     }
     Ok(())
 }
