@@ -1,14 +1,15 @@
 -- Bytes of a place: where it stands, what is written there, and the names in it, as the code looks at them.
 -- Assumes nothing.
-use Prim.Native.Nat.{ℕ, ◌+◌, ◌-◌, ◌*◌, ◌≤◌, ◌<◌}
+use native.Mathlib.Numerals.{add-one}
+use Prim.Native.Nat.{zero, suc, ℕ, ◌+◌, ◌-◌, ◌*◌, ◌≤◌, ◌<◌}
 use Prim.Native.Char.{code}
 use mathlib.Core.Path.{◌≡◌, refl, sym, ap, ap₂, ◌∙◌}
 use mathlib.Core.Logic.{inl, inr}
 use mathlib.Core.Bool.{Bool, ◌&&◌}
 use mathlib.Core.List.{[], ◌∷◌, ◌++◌, append_assoc, append-nil}
 use native.Mathlib.Omega.{arith}
-use lib.ListN.{length, take, drop, length-append, length-drop, drop_of_length-le, take-append-drop}
-use lib.Seq.{drop-drop, drop_at, drop-append-le, take_at, take-add, take-append-add, take-take, length-take-le}
+use lib.ListN.{get_or, set, get_or-eq_default, length, take, drop, length-append, length-drop, drop_of_length-le, take-append-drop}
+use lib.Seq.{take_all, paste, paste-zero, paste-suc, length-paste, drop-drop, drop_at, drop-append-le, take_at, take-add, take-append-add, take-take, length-take-le}
 use lib.Dec.{eqb, eqb→eq}
 use lib.Pointwise.{pointwise}
 use mir.Facts.{T_not, yes_eqb}
@@ -48,6 +49,52 @@ length_padded n t l = length-append t (zeros (n - length t)) ∙ omega (arith, l
 -- a text of that length is itself
 pub padded_whole : (n : ℕ) (t : Bytes) → length t ≡ n → padded n t ≡ t
 padded_whole n t e = let z : n - length t ≡ 0 = omega arith in rw z (append-nil t)
+
+get_d_zeros : (n i : ℕ) → get_or (zeros n) i 0 ≡ 0
+get_d_zeros zero zero = refl
+get_d_zeros zero (suc i) = refl
+get_d_zeros (suc n) zero = refl
+get_d_zeros (suc n) (suc i) = get_d_zeros n i
+
+get_d_padded : (t : Bytes) (m j : ℕ) → get_or (t ++ zeros m) j 0 ≡ get_or t j 0
+get_d_padded [] m j = get_d_zeros m j ∙ sym (get_or-eq_default [] 0 {n = j} (omega arith))
+get_d_padded (c ∷ t) m zero = refl
+get_d_padded (c ∷ t) m (suc j) = get_d_padded t m j
+
+-- j bytes are written
+pub record Filled (o t out : Bytes) (j : ℕ) : Type 0 where
+  pub short : length t ≤ length o
+  pub within : j ≤ length o
+  pub written : out ≡ paste o 0 (padded (length o) t) j
+
+pub filled_none : (o t : Bytes) → length t ≤ length o → Filled o t o 0
+filled_none o t l = record { short = l; within = omega arith; written = paste-zero o 0 (padded (length o) t) }
+
+pub filled_length : {o t out : Bytes} {j : ℕ} → Filled o t out j → length out ≡ length o
+filled_length {o} {t} {out} {j} f =
+    ap length f.written ∙ length-paste o 0 (padded (length o) t) j (omega (arith, f.within)) (omega (arith, f.within, length_padded (length o) t f.short))
+
+pub filled_more : {o t out : Bytes} {j b : ℕ} → Filled o t out j → j < length out → b ≡ get_or t j 0 → Filled o t (set out j b) (j + 1)
+filled_more {o} {t} {out} {j} {b} f l e =
+    let l' : j < length o = omega (arith, filled_length f) in
+    record {
+      short = f.short;
+      within = omega arith;
+      written =
+          ap₂ (λ (x : Bytes) (y : ℕ). set x j y) f.written (e ∙ sym (get_d_padded t (length o - length t) j))
+          ∙ ap (λ (n : ℕ). set (paste o 0 (padded (length o) t) j) n (get_or (padded (length o) t) j 0)) (omega arith)
+          ∙ paste-suc o 0 (padded (length o) t) j 0 (omega arith) (omega (arith, length_padded (length o) t f.short))
+          ∙ ap (paste o 0 (padded (length o) t)) (sym (add-one j));
+    }
+
+pub filled_all : {o t out : Bytes} {j : ℕ} → Filled o t out j → length out ≤ j → out ≡ padded (length o) t
+filled_all {o} {t} {out} {j} f l =
+    let w = padded (length o) t in
+    let e : j ≡ length o = omega (arith, f.within, filled_length f) in
+    let n = length_padded (length o) t f.short in
+    f.written
+    ∙ ap₂ (λ (x y : Bytes). x ++ y) (take_all j w (omega arith)) (drop_of_length-le o {i = 0 + j} (omega arith))
+    ∙ append-nil w
 
 -- ---- text and number in a place, where the TVP between them stays
 

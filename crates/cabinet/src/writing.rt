@@ -1,16 +1,26 @@
 // Writing a place of a cabinet: a text, zeros after it, a TVP, and a number behind it.
-ghost use Rattle.std.specs.Prelude.{◌≡◌, ◌++◌, ◌-◌, ◌≤◌, length};
+ghost use Rattle.std.specs.Prelude.{◌≡◌, ◌++◌, ◌-◌, ◌≤◌, length, get_or};
 ghost use Rattle.shelf.specs.Cabinet.{zeros};
 ghost use Rattle.cabinet.specs.Steps.{part_at, with_part, key_in, tvp_between, filled_with, PlaceFits, KeyFits, TvpFits, Fits};
 
-// The text, and zeros after it, in the lent bytes.
+// Byte j of the text, and zeros after it.
+fn byte_of(text: &[u8], j: usize) -> u8
+    ensures { result ≡ get_or text.now j 0 }
+{
+    if j < text.len() {
+        return text[j];
+    }
+    0
+}
+
+// The text, and zeros after it, in the lent bytes. Byte by byte, since of `copy_from_slice` LLVM makes a constant for the module: 19930101T000000Z.
 pub(crate) fn fill(out: &mut [u8], text: &[u8])
     requires { length text.now ≤ length out.old }
     ensures { out.new ≡ text.now ++ zeros (length out.old - length text.now) }
 {
-    let (front, behind) = out.split_at_mut(text.len());
-    front.copy_from_slice(text);
-    behind.fill(0);
+    for (j, byte) in out.iter_mut().enumerate() {
+        *byte = byte_of(text, j);
+    }
 }
 
 // The text with zeros after it and the number, in the bytes of a place; the TVP between them stays.
