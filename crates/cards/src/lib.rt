@@ -110,7 +110,7 @@ fn are_cards(list: &[u8]) -> bool
     let mut before = LOWEST;
     let mut needed = Some(ACT);
     let mut i: usize = 0;
-    // from card to card, and not from byte to byte
+    // from card to card by their places: `split` has one more card, an empty one, behind the last ';' of a list
     while i < list.len() {
         let end = frame::next_mark(b';', list, i);
         let Some(key) = card_key(&list[i..end]) else {

@@ -38,7 +38,7 @@ fn front_of<'a>(identity: &'a [u8]) -> &'a [u8]
 }
 
 // Of the public key whose fields stand at these places: of what stands in its Subject before the Fingerprint, of Q's
-// characters, and of ':'.
+// characters, and of ':'. Starts and lengths are lent as the answer has them: a struct would be made only to be taken apart by `field_at`.
 fn hash_of(key: &[u8], starts: &[usize; 7], lens: &[usize; 7]) -> [u8; 48]
     ensures { result ≡ sha384 (text_at (field_at key.now starts.now lens.now 1) (field_at key.now starts.now lens.now 2)) }
 {

@@ -15,7 +15,8 @@ fn room() -> [u8; list_text::ROOM]
     [0; list_text::ROOM]
 }
 
-// What is said of a list that was printed: how many bytes it has, and whether the kernel took all of them.
+// What is said of a list that was printed: how many bytes it has, and whether the kernel took all of them. No Option, because the length is
+// promised in both cases.
 #[derive(Clone, Copy)]
 pub struct Printed {
     pub len: usize,

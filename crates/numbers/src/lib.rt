@@ -1,4 +1,5 @@
 // The numbers given back: document 01, "Numbers given back", and document 02. specs/Numbers.antt has them for definitions.
+// They stay numbers where a call answers: the C interface hands them on as they are, and an enum would be turned into its number in every one.
 #![tactic(auto)]
 
 pub const ACCEPTED: u8 = 0;

@@ -39,7 +39,7 @@ pub struct Judged {
     pub kinds: [usize; 7],
 }
 
-// Why a record is refused: its number, and the number of the field that it is about, 0 where it names none.
+// Why a record is refused: its number, as C is handed it, and the number of the field that it is about, 0 where it names none.
 struct Refused {
     no: u8,
     field: u8,
@@ -147,7 +147,8 @@ fn text_no(code: u8, field: &[u8]) -> Result<(), u8>
 
 // ---- the identity call
 
-// The fields of an identity, which are texts, from left to right. The identity kinds are the rows below 3.
+// The fields of an identity, which are texts, from left to right. The identity kinds are the rows below 3. Starts and lengths are two
+// parameters here and below, because `judge`, a public call, is lent them so: a struct would be made only to hand them on.
 fn identity_fields(
     row: usize,
     s: &[u8],

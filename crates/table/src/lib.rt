@@ -1,6 +1,7 @@
 // The one table of kinds (document 01, "Seven kinds of record", and document 02, E1): names, marks, field counts and field types, which reader
 // and builder both consult. A kind is the number of its row. Every look-up takes any number and says what it answers for
-// a row, a field or a code that is not there.
+// a row, a field or a code that is not there. So rows and codes stay numbers, NONE too: an enum would take fewer values from callers, of whom
+// `Determined` promises an answer to each, and the C interface hands on the row as a kind.
 #![tactic(auto)]
 
 ghost use Rattle.std.specs.Prelude.{◌≡◌, false, ◌||◌, ◌<◌, take, drop, eqb};
