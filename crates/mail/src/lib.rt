@@ -93,7 +93,8 @@ fn line_from<'a>(text: &'a [u8], place: usize) -> &'a [u8]
     text.get(place..end).unwrap_or(&[])
 }
 
-// The line is the guard of this word and this record type.
+// The line is the guard of this word and this record type. Inlined, since of a word that is handed over LLVM makes a constant.
+#[inline(always)]
 fn is_guard(line: &[u8], word: &[u8], rectype: &[u8]) -> bool
     ensures { result ≡ same line.now (guard word.now rectype.now) }
 {
