@@ -148,7 +148,8 @@ fn text_no(code: u8, field: &[u8]) -> Result<(), u8>
 // ---- the identity call
 
 // The fields of an identity, which are texts, from left to right. The identity kinds are the rows below 3. Starts and lengths are two
-// parameters here and below, because `judge`, a public call, is lent them so: a struct would be made only to hand them on.
+// parameters here and below, because `judge`, a public call, is lent them so: a struct would be made only to hand them on. A function for the
+// fields of a record too would call itself, since those are identities, and its end had to be proved.
 fn identity_fields(
     row: usize,
     s: &[u8],
@@ -277,6 +278,7 @@ fn judge_under(
         return Err(Refused::from(numbers::UNKNOWN_KIND));
     }
     let kinds = record_fields(row, s, starts, lens)?;
+    // a match: the wrong answer `judge_under: 1 for 8, for 14 and for 28` is tried on a goal of its own
     match together::whole_no(rules, row, s, starts, lens) {
         Ok(()) => Ok(kinds),
         Err(no) => Err(Refused::from(no)),
