@@ -2,7 +2,8 @@
 -- Assumes nothing.
 use mathlib.Core.Path.{sym, ◌∙◌}
 use Rattle.format.specs.Files.{line_feed}
-use Rattle.frame.proofs.Parts.{next_here, next_on, next_end}
+use Rattle.frame.proofs.Parts.{next_end}
+use Rattle.files.proofs.Ends.{next_here, next_on}
 use Rattle.files.proofs.line_end.Goals as goal
 use Rattle.files.proofs.line_end.Goals.{then-i-file-via-then-i-file, then-i-file-via-else-i-file+then-file-i-eq10}
 
