@@ -1,5 +1,5 @@
-// The other calls, by their numbers in the case file, which compare/README.md lists. Each number stands where its call is made: an enum would
-// say every call once more.
+// The other calls, by their numbers in the case file: a number is the call's place in compare/src/calls.rs. Each stands where its call is made:
+// an enum would say every call once more.
 use crate::{confirmations, hashes, say};
 use std::io;
 

@@ -21,12 +21,13 @@ const FEED: u8 = b'\n';
 
 // ---- writing
 
-// A guard and its line feed.
+// A guard and its line feed. Here and below its words are put on the stack first: where they are borrowed as they are named, they stand in the object.
 fn put_guard(out: &mut [u8], at: usize, word: &[u8], rectype: &[u8]) -> usize
     requires { at + length (guard word.now rectype.now) + 1 ≤ length out.old }
     ensures { Put out.old at (guard word.now rectype.now ++ line_feed ∷ []) out.new result }
 {
-    let first = put::put(out, at, b"--STS:");
+    let front = *b"--STS:";
+    let first = put::put(out, at, &front);
     let second = put::put(out, first, rectype);
     let third = put::put(out, second, word);
     put::put_byte(out, third, FEED)
@@ -50,9 +51,11 @@ fn put_block(out: &mut [u8], rectype: &[u8], record: &[u8]) -> usize
     requires { length (block_of rectype.now «record».now) ≤ length out.old }
     ensures { Put out.old 0 (block_of rectype.now «record».now) out.new result }
 {
-    let first = put_guard(out, 0, b" BEGINS--", rectype);
+    let begins = *b" BEGINS--";
+    let ends = *b" ENDS--";
+    let first = put_guard(out, 0, &begins, rectype);
     let second = put_rows(out, first, record);
-    put_guard(out, second, b" ENDS--", rectype)
+    put_guard(out, second, &ends, rectype)
 }
 
 // Its length: the rows and the two guards, each with its line feed.
@@ -119,7 +122,8 @@ fn is_begins(line: &[u8]) -> bool
     ensures { result ≡ is_begins line.now }
 {
     let rectype = rectype_in(line);
-    text::is_ident(rectype) && is_guard(line, b" BEGINS--", rectype)
+    let word = *b" BEGINS--";
+    text::is_ident(rectype) && is_guard(line, &word, rectype)
 }
 
 // Where the first line that passes the test starts, from the line at `from` on. The loop goes by places, which the lines that `split` gives do not have.
@@ -149,7 +153,8 @@ fn begins_at(text: &[u8]) -> Option<usize>
 fn ends_at(text: &[u8], from: usize, rectype: &[u8]) -> Option<usize>
     ensures { MatchOption result (closed rectype.now [] (lines_in (drop from text.now)) ≡ missing missing_ends) (Closes text.now from rectype.now) }
 {
-    line_where(text, from, |line| is_guard(line, b" ENDS--", rectype))
+    let word = *b" ENDS--";
+    line_where(text, from, |line| is_guard(line, &word, rectype))
 }
 
 // ---- unfolding
