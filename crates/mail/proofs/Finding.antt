@@ -5,6 +5,7 @@ use mathlib.Core.Path.{◌≡◌, refl, sym, ap, ◌∙◌}
 use mathlib.Core.Bool.{Bool, true, false, cond}
 use mathlib.Core.List.{[], ◌∷◌, ◌++◌}
 use native.Mathlib.Omega.{arith}
+use native.Mathlib.Nat.{zero-add}
 use lib.Dec.{eqb}
 use lib.ListN.{length, take, drop, drop_of_length-le}
 use lib.Seq.{take-add, drop-drop}
@@ -15,10 +16,11 @@ use Rattle.std.specs.Slice.{IsGetRangeResult}
 use Rattle.std.specs.Option.{unwrap_or}
 use Rattle.text.specs.Text.{Bytes, same}
 use Rattle.text.proofs.Tests.{less_or}
+use Rattle.text.proofs.Loops.{rest_all}
 use Rattle.format.specs.Files.{line_feed, up_to}
 use Rattle.format.proofs.Lines.{take_up_to}
 use Rattle.frame.specs.Frame.{next_mark}
-use Rattle.frame.proofs.Parts.{cut_at, cut_none, next_from, next_within}
+use Rattle.frame.proofs.Parts.{cut_at, cut_none, next_within}
 use Rattle.numbers.specs.Numbers.{missing_begins, missing_ends}
 use Rattle.mail.specs.Mail.{lines_in, ends_line, is_begins, missing, closed, opened}
 use Rattle.mail.specs.Steps.{line_from, Walked, none, more, Finds, Opens, feedless, rows_in, Closes}
@@ -26,24 +28,29 @@ use Rattle.mail.specs.Steps.{line_from, Walked, none, more, Finds, Opens, feedle
 -- ---- the line at a place, and those after it
 
 module _ (text : Bytes) (i : ℕ) where
-  -- as the code takes it
-  line_none : {e : ℕ} → e ≡ next_mark line_feed text i → length text < e → [] ≡ line_from text i
+  -- by the next mark
+  pub line_none : {e : ℕ} → e ≡ next_mark line_feed text i → length text < e → [] ≡ line_from text i
   line_none n h =
       less_or (length text) i
       (λ l. rw (drop_of_length-le text {i = i} (omega arith)))
       (λ l. absurd (omega (arith, h, n, next_within line_feed text i l)))
 
-  line_there : {e : ℕ} → e ≡ next_mark line_feed text i → take (e - i) (drop i text) ≡ line_from text i
+  pub line_there : {e : ℕ} → e ≡ next_mark line_feed text i → take (e - i) (drop i text) ≡ line_from text i
   unfolding next_mark
   line_there {e} n =
       let long : e - i ≡ length (line_from text i) = omega (arith, n) in
       rw long (take_up_to line_feed (drop i text))
 
-  -- as the library gives a range that may not be there
-  pub line_got : {e : ℕ} → e ≡ next_mark line_feed text i → (r : Option (Bor Bytes)) (d : Bor Bytes) → d.now ≡ [] → IsGetRangeResult text i e r → (unwrap_or r d).now ≡ line_from text i
-  line_got n None d z (inl h, there) = absurd (omega (arith, h, n, next_from line_feed text i))
-  line_got n None d z (inr h, there) = z ∙ line_none n h
-  line_got n (Some x) d z ((from, to, is, long), there) = is ∙ line_there n
+  -- what stands from a place on, as the library gives it, and nothing past the end
+  pub rest_got : (r : Option (Bor Bytes)) (d : Bor Bytes) → d.now ≡ [] → IsGetRangeResult text i (length text) r → (unwrap_or r d).now ≡ drop i text
+  rest_got None d z (inl h, there) = z ∙ sym (drop_of_length-le text {i = i} (omega arith))
+  rest_got None d z (inr h, there) = absurd (omega arith)
+  rest_got (Some x) d z ((from, to, is, long), there) = is ∙ rest_all text i
+
+  -- the line is cut off there
+  pub line_cut : {rest : Bytes} {n : ℕ} → rest ≡ drop i text → n ≡ next_mark line_feed rest 0 → take n rest ≡ line_from text i
+  unfolding next_mark
+  line_cut e q = rw (q, e) (rw zero-add (take_up_to line_feed (drop i text)))
 
   pub line_within : i < length text → {l : Bytes} → l ≡ line_from text i → i + length l ≤ length text
   unfolding next_mark

@@ -1,7 +1,7 @@
 -- The guards: a BEGINS line names its record type, no line feed stands in a guard, and no row of a folded record is one: a full
 -- row is longer than any guard, and the last row ends with the record's check, a guard with a hyphen.
 -- Assumes nothing.
-use Prim.Native.Nat.{ℕ, ◌+◌, ◌-◌}
+use Prim.Native.Nat.{ℕ, ◌+◌, ◌-◌, ◌≤◌, ◌<◌}
 use Prim.Native.Char.{code}
 use mathlib.Core.Path.{◌≡◌, refl, sym, ap, ◌∙◌}
 use mathlib.Core.Logic.{◌≢◌, ⊎_elim}
@@ -12,9 +12,10 @@ use lib.Dec.{T, eqb}
 use lib.Pointwise.{pointwise}
 use lib.ListN.{length, take, drop, length-append}
 use lib.Seq.{take_at}
-use mir.Facts.{yes_and}
+use mir.Facts.{and_yes, yes_and}
 use Rattle.text.specs.Text.{Bytes, ascii, same, without, is_ident, Ident}
-use Rattle.text.proofs.Tests.{same_refl, and_stop, and_on, between_high, every_append}
+use Rattle.text.proofs.Tests.{same_refl, T_true, true_T, and_stop, and_on, between_high, every_append}
+use Rattle.text.proofs.Loops.{same_pairwise, apart}
 use Rattle.text.proofs.Types.{plain, plain_without, lengths}
 use Rattle.format.specs.Read.{last_or}
 use Rattle.format.specs.Files.{line_feed}
@@ -51,7 +52,10 @@ pub rows_no_guard : (t : Bytes) (l : ℕ) → T (is_ident t) → (l ≡ code "-"
 rows_no_guard t l h n [] w = tt
 rows_no_guard t l h n (r ∷ rs) w = (row_no_guard t r l h n w.0, rows_no_guard t l h n rs w.1)
 
--- ---- a guard by its parts, as the code strips them off
+-- ---- a guard by its length, and by its parts, as the code strips them off
+
+pub guard_apart : (line word t : Bytes) → (length line ≡ 6 + length t + length word → ⊥) → false ≡ same line (guard word t)
+guard_apart line word t h = sym (apart eqb same same_pairwise line (guard word t) (λ q. h (q ∙ guard_length word t)))
 
 -- the front v is there, as the library compares it, and w is what is left
 same_front : (v w s : Bytes) → same s (v ++ w) ≡ (pointwise eqb (take (length v) s) v && same (drop (length v) s) w)
@@ -72,6 +76,15 @@ module _ (v w s : Bytes) where
 
 -- ---- a BEGINS line as the code finds it
 
+pub rectype_none : (l : Bytes) → length l < 15 → [] ≡ rectype_in l
+rectype_none l h = let e : length l - 15 ≡ 0 = omega arith in rw e
+
+pub rectype_there : (l : Bytes) → take (length l - 9 - 6) (drop 6 l) ≡ rectype_in l
+rectype_there l = ap (λ (n : ℕ). take n (drop 6 l)) (let e : length l - 9 - 6 ≡ length l - 15 = omega arith in e)
+
+pub ident_short : (t : Bytes) → is_ident t ≡ true → length t ≤ 32
+ident_short t e = between_high 1 32 (length t) (lengths Ident t (true_T (is_ident t) e))
+
 module _ (l t : Bytes) (e : t ≡ rectype_in l) where
   pub begins_no : is_ident t ≡ false → false ≡ is_begins l
   unfolding is_begins
@@ -80,3 +93,7 @@ module _ (l t : Bytes) (e : t ≡ rectype_in l) where
   pub begins_so : is_ident t ≡ true → same l (begins_line t) ≡ is_begins l
   unfolding is_begins
   begins_so h = rw e (sym (and_on (is_ident (rectype_in l)) (same l (begins_line (rectype_in l))) (rw e at h)))
+
+pub begins_ident : (l : Bytes) → is_begins l ≡ true → is_ident (rectype_in l) ≡ true
+unfolding is_begins
+begins_ident l h = T_true (is_ident (rectype_in l)) (and_yes (is_ident (rectype_in l)) (same l (begins_line (rectype_in l))) (true_T _ h)).0

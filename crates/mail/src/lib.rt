@@ -21,12 +21,19 @@ const FEED: u8 = b'\n';
 
 // ---- writing
 
-// A guard and its line feed. Here and below its words are put on the stack first: where they are borrowed as they are named, they stand in the object.
+// What a guard begins with, and the words of both guards. They are put on the stack before they are borrowed: else they stand in the object.
+const FRONT: [u8; 6] = *b"--STS:";
+
+const BEGINS: [u8; 9] = *b" BEGINS--";
+
+const ENDS: [u8; 7] = *b" ENDS--";
+
+// A guard and its line feed.
 fn put_guard(out: &mut [u8], at: usize, word: &[u8], rectype: &[u8]) -> usize
     requires { at + length (guard word.now rectype.now) + 1 ≤ length out.old }
     ensures { Put out.old at (guard word.now rectype.now ++ line_feed ∷ []) out.new result }
 {
-    let front = *b"--STS:";
+    let front = FRONT;
     let first = put::put(out, at, &front);
     let second = put::put(out, first, rectype);
     let third = put::put(out, second, word);
@@ -51,8 +58,8 @@ fn put_block(out: &mut [u8], rectype: &[u8], record: &[u8]) -> usize
     requires { length (block_of rectype.now «record».now) ≤ length out.old }
     ensures { Put out.old 0 (block_of rectype.now «record».now) out.new result }
 {
-    let begins = *b" BEGINS--";
-    let ends = *b" ENDS--";
+    let begins = BEGINS;
+    let ends = ENDS;
     let first = put_guard(out, 0, &begins, rectype);
     let second = put_rows(out, first, record);
     put_guard(out, second, &ends, rectype)
@@ -92,8 +99,8 @@ pub fn write_mail(record: &[u8], out: &mut [u8]) -> put::Written
 fn line_from<'a>(text: &'a [u8], place: usize) -> &'a [u8]
     ensures { result.now ≡ line_from text.now place }
 {
-    let end = frame::next_mark(FEED, text, place);
-    text.get(place..end).unwrap_or(&[])
+    let rest = text.get(place..).unwrap_or(&[]);
+    &rest[..frame::next_mark(FEED, rest, 0)]
 }
 
 // The line is the guard of this word and this record type. Inlined, since of a word that is handed over LLVM makes a constant.
@@ -101,7 +108,11 @@ fn line_from<'a>(text: &'a [u8], place: usize) -> &'a [u8]
 fn is_guard(line: &[u8], word: &[u8], rectype: &[u8]) -> bool
     ensures { result ≡ same line.now (guard word.now rectype.now) }
 {
-    let Some(rest) = line.strip_prefix(b"--STS:") else {
+    // first by its length, which tells most lines apart
+    if line.len() < rectype.len() || line.len() - rectype.len() != FRONT.len() + word.len() {
+        return false;
+    }
+    let Some(rest) = line.strip_prefix(&FRONT) else {
         return false;
     };
     let Some(rest) = rest.strip_prefix(rectype) else {
@@ -122,7 +133,7 @@ fn is_begins(line: &[u8]) -> bool
     ensures { result ≡ is_begins line.now }
 {
     let rectype = rectype_in(line);
-    let word = *b" BEGINS--";
+    let word = BEGINS;
     text::is_ident(rectype) && is_guard(line, &word, rectype)
 }
 
@@ -153,7 +164,7 @@ fn begins_at(text: &[u8]) -> Option<usize>
 fn ends_at(text: &[u8], from: usize, rectype: &[u8]) -> Option<usize>
     ensures { MatchOption result (closed rectype.now [] (lines_in (drop from text.now)) ≡ missing missing_ends) (Closes text.now from rectype.now) }
 {
-    let word = *b" ENDS--";
+    let word = ENDS;
     line_where(text, from, |line| is_guard(line, &word, rectype))
 }
 

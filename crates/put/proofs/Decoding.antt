@@ -1,11 +1,13 @@
 -- The bytes of hexadecimal characters, one for every two.
 -- Assumes nothing.
-use Prim.Native.Nat.{ℕ, ◌+◌, ◌*◌, ◌/◌, ◌<◌}
+use Prim.Native.Nat.{ℕ, suc, ◌+◌, ◌*◌, ◌/◌, ◌≤◌, ◌<◌}
 use mathlib.Core.Path.{◌≡◌, refl, sym, ap, ◌∙◌}
 use mathlib.Core.Bool.{Bool, true, false, ◌&&◌}
 use mathlib.Core.List.{[], ◌∷◌, ◌++◌}
 use native.Mathlib.Omega.{arith}
-use lib.ListN.{length, get_or}
+use native.Mathlib.Numerals.{add-one}
+use lib.ListN.{length, drop, get_or, length-drop}
+use lib.Seq.{drop-cons}
 use lib.Dec.{T, eqb, eqb_refl}
 use mir.Facts.{and_yes}
 use Rattle.text.specs.Text.{Bytes, every, hexadecimal, is_hex}
@@ -29,6 +31,16 @@ decode_few (c ∷ []) h = refl
 decode_few (c ∷ d ∷ s) h = absurd (omega arith)
 
 -- ---- pair by pair
+
+-- the byte of pair i comes first, where those of the pairs before it are written
+pub decode_next : (s : Bytes) (i : ℕ) {b : ℕ} → i < length s / 2 → b ≡ 16 * hex_value (get_or s (2 * i) 0) + hex_value (get_or s (2 * i + 1) 0)
+    → base16_decode (drop (2 * i) s) ≡ (b ∷ []) ++ base16_decode (drop (2 * (i + 1)) s)
+decode_next s i {b} h e =
+    let two : suc (2 * i + 1) ≡ 2 * (i + 1) = omega arith in
+    rw (drop-cons s (2 * i) 0 (omega arith), ← add-one (2 * i), drop-cons s (2 * i + 1) 0 (omega arith), two, e)
+
+pub decode_end : (s : Bytes) (i : ℕ) → length s / 2 ≤ i → base16_decode (drop (2 * i) s) ≡ []
+decode_end s i h = decode_few (drop (2 * i) s) (omega (arith, length-drop (2 * i) s))
 
 -- s begins with a pair of hexadecimal characters, whose byte comes first, and after is behind it
 pub record PairFirst (s pair after : Bytes) : Type 0 where

@@ -33,9 +33,11 @@ pub fn put(out: &mut [u8], at: usize, piece: &[u8]) -> usize
     if out.len() < at || out.len() - at < piece.len() {
         return at;
     }
-    let end = at + piece.len();
-    out[at..end].copy_from_slice(piece);
-    end
+    // byte by byte: of `copy_from_slice` LLVM makes a call of memmove, which a module may not have
+    for (i, byte) in piece.iter().enumerate() {
+        out[at + i] = *byte;
+    }
+    at + piece.len()
 }
 
 // The same for one byte.

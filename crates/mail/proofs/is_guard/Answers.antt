@@ -2,9 +2,19 @@
 -- Assumes nothing.
 use mathlib.Core.Path.{sym, ◌∙◌}
 use mathlib.Core.List.{◌++◌}
+use native.Mathlib.Omega.{arith}
 use Rattle.text.specs.Text.{ascii}
-use Rattle.mail.proofs.Guards.{front_apart, front_stripped}
+use Rattle.mail.proofs.Guards.{guard_apart, front_apart, front_stripped}
 use Rattle.mail.proofs.is_guard.Goals as goal
+use Rattle.mail.proofs.is_guard.Goals.{then-line-rectype-via-then-line-rectype, then-line-rectype-via-else-line-rectype+then-line-rectype-2}
+
+pub returns-then-line-rectype : goal.returns-then-line-rectype
+returns-then-line-rectype c =
+    guard_apart c.args.line.now c.args.word.now c.args.rectype.now
+    (λ q. elim c.then-line-rectype.branch [
+      | then-line-rectype-via-then-line-rectype w ↦ omega (arith, q, w.if-line-rectype.true)
+      | then-line-rectype-via-else-line-rectype+then-line-rectype-2 w ↦ omega (arith, q, w.if-line-rectype.false, w.if-line-rectype-2.true)
+    ])
 
 pub returns-in_default : goal.returns-in_default
 returns-in_default c = sym (front_apart (ascii "--STS:") (c.args.rectype.now ++ c.args.word.now) c.args.line.now c.in_default.ensures.cases)
