@@ -12,7 +12,7 @@ use lib.ListN.{length, take, drop, get_or, length-drop, drop_of_length-le}
 use lib.Seq.{drop-cons, drop-drop, length-take-le}
 use borrow.Author.Tests.{le-leb, lt-leb}
 use denote.Ref.{Bor}
-use Rattle.std.specs.Option.{MatchOption, unwrap_or}
+use Rattle.std.specs.Option.{MatchOption}
 use Rattle.std.proofs.Common.{Option as Maybe, Some, None}
 use Rattle.text.specs.Text.{Bytes}
 use Rattle.text.specs.Part.{Part}
@@ -169,27 +169,31 @@ module _ {s : Bytes} {w n i p f : ℕ} (d : Passed s w n i p f) where
           ∙ rw (let e : w - i ≡ 1 = omega arith in e, nth_here);
     }
 
--- ---- what the code keeps of it: the wanted item's place, once it is passed
+-- ---- what the code keeps of it: where the wanted item's length stands, once it is passed
 
-abbrev stands : Bytes → ℕ → Place
-stands s f = record { no = 0; start = f + 1; len = get_or s f 0 }
-
-pub record Walked (s : Bytes) (w n i p : ℕ) (o : Maybe Place) : Type 0 where
+pub record Walked (s : Bytes) (w n i p : ℕ) (o : Maybe ℕ) : Type 0 where
   pub length_at : ℕ
   pub passed : Passed s w n i p length_at
-  pub kept : MatchOption o (i < w) (λ x. (w ≤ i) × (x ≡ stands s length_at))
+  pub kept : MatchOption o (i < w) (λ x. (w ≤ i) × (x ≡ length_at))
 
 pub walk_begins : (s : Bytes) (w : ℕ) → (length s ≡ 0 → ⊥) → (w ≡ 0 → ⊥) → Walked s w (get_or s 0 0) 0 1 None
 walk_begins s w h z = record { length_at = 0; passed = walked_none s w h z; kept = omega arith }
 
 module _ {s : Bytes} {w n i p : ℕ} (h : i < n) (k : p < length s) (y : get_or s p 0 ≤ length s - (p + 1)) where
-  pub walk_more : (o o' : Maybe Place) → Walked s w n i p o → (i + 1 ≡ w → ⊥) → o' ≡ o → Walked s w n (i + 1) (p + 1 + get_or s p 0) o'
+  pub walk_more : (o o' : Maybe ℕ) → Walked s w n i p o → (i + 1 ≡ w → ⊥) → o' ≡ o → Walked s w n (i + 1) (p + 1 + get_or s p 0) o'
   walk_more None o' d z e = rw e (record { length_at = d.length_at; passed = walked_more d.passed h k y z; kept = omega (arith, z, d.kept) })
   walk_more (Some x) o' d z e = rw e (record { length_at = d.length_at; passed = walked_more d.passed h k y z; kept = (omega (arith, d.kept.0), d.kept.1) })
 
-  pub walk_there : {o o' : Maybe Place} → Walked s w n i p o → i + 1 ≡ w → o' ≡ Some (stands s p) → Walked s w n (i + 1) (p + 1 + get_or s p 0) o'
+  pub walk_there : {o o' : Maybe ℕ} → Walked s w n i p o → i + 1 ≡ w → o' ≡ Some p → Walked s w n (i + 1) (p + 1 + get_or s p 0) o'
   walk_there d z e = rw e (record { length_at = p; passed = walked_there d.passed h k y z; kept = (omega arith, refl) })
 
-pub walk_ends : {s : Bytes} {w n i p : ℕ} (o : Maybe Place) (d r : Place) → Walked s w n i p o → n ≤ i → length s ≤ p → d ≡ nowhere → r ≡ unwrap_or o d → ItemPlaced s w r
-walk_ends None d r k h z e q = placed_none r (q ∙ e) (too_few k.passed h z (omega (arith, k.kept)))
-walk_ends {s} {w} (Some x) d r k h z e q = subst (ItemPlaced s w) (sym (q ∙ k.kept.1)) (found k.passed h z (omega (arith, k.kept.0, k.passed.inside)))
+module _ {s : Bytes} {w n i p : ℕ} {o : Maybe ℕ} (d : Walked s w n i p o) (h : n ≤ i) (k : length s ≤ p) where
+  pub walk_missing : o ≡ None → text_item s w ≡ none
+  walk_missing e = too_few d.passed h k (omega (arith, rw e at d.kept))
+
+  module _ {x : ℕ} (e : o ≡ Some x) where
+    kept : (w ≤ i) × (x ≡ d.length_at)
+    kept = rw e at d.kept
+
+    pub walk_found : ItemPlaced s w (record { no = 0; start = x + 1; len = get_or s x 0 })
+    walk_found = rw kept.1 (found d.passed h k (omega (arith, kept.0, d.passed.inside)))

@@ -33,6 +33,7 @@ pub fn item_place(text: &[u8], wanted: usize) -> Place
     }
     let n = text[0] as usize;
     let mut at = 1;
+    // where the wanted item's length stands: a number, since a whole `Place` would be built in memory and copied from there
     let mut found = None;
     for i in 0..n {
         if text.len() <= at {
@@ -44,18 +45,21 @@ pub fn item_place(text: &[u8], wanted: usize) -> Place
             return missing();
         }
         if i + 1 == wanted {
-            found = Some(Place {
-                no: numbers::ACCEPTED,
-                start,
-                len,
-            });
+            found = Some(at);
         }
         at = start + len;
     }
     if at < text.len() {
         return missing();
     }
-    found.unwrap_or(missing())
+    match found {
+        Some(here) => Place {
+            no: numbers::ACCEPTED,
+            start: here + 1,
+            len: text[here] as usize,
+        },
+        None => missing(),
+    }
 }
 
 // The item of a wanted number, counted from 1, as a part of the text, with number 0. Where the bytes have not the form of a

@@ -1,7 +1,7 @@
 -- `items::item_place` meets its contract. The loop's invariant: i of n items are passed (`Walked`).
 -- Assumes nothing.
 use native.Mathlib.Omega.{arith}
-use Rattle.items.proofs.Walk.{placed_none, no_text, number_zero, no_length, no_bytes, bytes_behind, walk_begins, walk_more, walk_there, walk_ends}
+use Rattle.items.proofs.Walk.{placed_none, no_text, number_zero, no_length, no_bytes, bytes_behind, walk_begins, walk_more, walk_there, walk_missing, walk_found}
 use Rattle.items.proofs.item_place.Goals as goal
 use Rattle.items.proofs.item_place.Goals.{then-is_empty-via-then-is_empty, then-is_empty-via-else-is_empty+then-wanted-eq0, then-i-wanted, else-i-wanted}
 
@@ -32,5 +32,8 @@ loop-i-preserved c =
 pub returns-then-at-text : goal.returns-then-at-text
 returns-then-at-text c = placed_none _ c.missing-then-at-text.ensures (bytes_behind c.loop-i.invariant.passed (omega arith) c.if-at-text.true)
 
-pub returns : goal.returns
-returns c = walk_ends c.loop-i.found _ _ c.loop-i.invariant (omega arith) (omega arith) c.missing-2.ensures c.unwrap_or.ensures
+pub returns-in-Some : goal.returns-in-Some
+returns-in-Some c = walk_found c.loop-i.invariant (omega arith) (omega arith) c.in-Some.is
+
+pub returns-in-None : goal.returns-in-None
+returns-in-None c = placed_none _ c.missing-in-None.ensures (walk_missing c.loop-i.invariant (omega arith) (omega arith) c.in-None.is)
