@@ -1,6 +1,6 @@
 -- The hash value, block by block: what follows the first blocks does not change it, and whole blocks are hashed before what follows them.
 -- Assumes nothing.
-use Prim.Native.Nat.{ℕ, zero, suc, ◌+◌, ◌*◌, ◌≤◌, ◌<◌}
+use Prim.Native.Nat.{ℕ, zero, suc, ◌+◌, ◌-◌, ◌*◌, ◌≤◌, ◌<◌}
 use mathlib.Core.Path.{◌≡◌, ap, ◌∙◌}
 use mathlib.Core.List.{List, [], ◌++◌}
 use native.Mathlib.Omega.{arith}
@@ -50,8 +50,16 @@ module _ {H : Type 0} (size : ℕ) (compress : H → List ℕ → H) where
       ∙ turns_same _ _ _ n (λ u i l. ap (compress u) (block_behind size x y q i h))
       ∙ ap (λ (u : H). hashed size compress u y n) (hashed_front v x y q (omega (arith, h)))
 
+  -- one block more, as a part of the message
+  pub hashed_more : (v : H) (m : List ℕ) (i : ℕ) {h r : H} → h ≡ hashed size compress v m i
+      → r ≡ compress h (take (size * i + size - size * i) (drop (size * i) m)) → r ≡ hashed size compress v m (i + 1)
+  unfolding hashed block
+  hashed_more v m i e f =
+      let n : size * i + size - size * i ≡ size = omega arith in
+      turns_more _ v i e (rw n at f)
+
   -- one block more, of those that the code cuts
-  pub hashed_more : (v : H) (m : List ℕ) (n i : ℕ) {h r : H} → i < n → h ≡ hashed size compress v m i → r ≡ compress h (get_or (first_chunks size n m) i [])
+  pub hashed_chunk : (v : H) (m : List ℕ) (n i : ℕ) {h r : H} → i < n → h ≡ hashed size compress v m i → r ≡ compress h (get_or (first_chunks size n m) i [])
       → r ≡ hashed size compress v m (i + 1)
   unfolding hashed
-  hashed_more v m n i {h} l e f = turns_more _ v i e (f ∙ ap (compress h) (chunk_at size n m i l))
+  hashed_chunk v m n i {h} l e f = turns_more _ v i e (f ∙ ap (compress h) (chunk_at size n m i l))

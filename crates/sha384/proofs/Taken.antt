@@ -1,6 +1,6 @@
 -- What a state keeps is enough: a count in two words.
 -- Assumes nothing.
-use Rattle.std.proofs.Common.{◌≡◌, ℕ, ◌+◌, ◌*◌, ◌/◌, ◌%◌, ◌^◌, ◌<◌, List, ◌++◌, length, sym, refl, ap, ◌∙◌, ap₂, add-zero, mod-eq_of_lt, arith}
+use Rattle.std.proofs.Common.{◌≡◌, ℕ, ◌+◌, ◌*◌, ◌/◌, ◌%◌, ◌^◌, ◌<◌, ◌≤◌, List, ◌++◌, length, sym, refl, ap, ◌∙◌, ap₂, add-zero, mod-eq_of_lt, arith}
 use Rattle.hashing.proofs.Taken as Taken
 use Rattle.hashing.proofs.Taken.{Enough}
 use Rattle.sha384.specs.declared.Sha384.{Sha384}
@@ -15,13 +15,25 @@ higher_sum h l m = ap (λ (j : ℕ). j % 2 ^ 64) (top h l m)
     top : (h l m : ℕ) → (h * 2 ^ 64 + l + m) / 2 ^ 64 ≡ h + (l + m) / 2 ^ 64
     top h l m = omega arith
 
-pub carried : (h l m : ℕ) → l < 2 ^ 64 → m < 2 ^ 64 → (l + m < 2 ^ 64 → ⊥) → (h + 1) % 2 ^ 64 ≡ higher (h * 2 ^ 64 + l + m)
-carried h l m a b c =
+-- by the sum itself
+pub beyond : (h l m : ℕ) → l < 2 ^ 64 → m < 2 ^ 64 → (l + m < 2 ^ 64 → ⊥) → (h + 1) % 2 ^ 64 ≡ higher (h * 2 ^ 64 + l + m)
+beyond h l m a b c =
     let q : (l + m) / 2 ^ 64 ≡ 1 = omega arith in
     rw q at (sym (higher_sum h l m))
 
-pub uncarried : (h l m : ℕ) → h < 2 ^ 64 → l + m < 2 ^ 64 → h ≡ higher (h * 2 ^ 64 + l + m)
-uncarried h l m a b =
+pub within : (h l m : ℕ) → h < 2 ^ 64 → l + m < 2 ^ 64 → h ≡ higher (h * 2 ^ 64 + l + m)
+within h l m a b =
+    let q : (l + m) / 2 ^ 64 ≡ 0 = omega arith in
+    sym (higher_sum h l m ∙ rw q (rw add-zero (mod-eq_of_lt a)))
+
+-- by the lower word of the sum, which is less than either where it carries
+pub carried : (h l m : ℕ) {s : ℕ} → l < 2 ^ 64 → m < 2 ^ 64 → s ≡ (l + m) % 2 ^ 64 → s < m → (h + 1) % 2 ^ 64 ≡ higher (h * 2 ^ 64 + l + m)
+carried h l m {s} a b e c =
+    let q : (l + m) / 2 ^ 64 ≡ 1 = omega arith in
+    rw q at (sym (higher_sum h l m))
+
+pub uncarried : (h l m : ℕ) {s : ℕ} → h < 2 ^ 64 → l < 2 ^ 64 → m < 2 ^ 64 → s ≡ (l + m) % 2 ^ 64 → m ≤ s → h ≡ higher (h * 2 ^ 64 + l + m)
+uncarried h l m {s} a b c e d =
     let q : (l + m) / 2 ^ 64 ≡ 0 = omega arith in
     sym (higher_sum h l m ∙ rw q (rw add-zero (mod-eq_of_lt a)))
 

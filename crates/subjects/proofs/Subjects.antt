@@ -8,17 +8,22 @@ use mathlib.Core.Bool.{true}
 use mathlib.Core.List.{List, []}
 use lib.ListN.{get_or}
 use lib.Dec.{T, lit<}
+use native.Mathlib.Nat.{zero-add}
+use denote.Ref.{Bor}
+use Prim.Native.Char.{code}
 use mir.Facts.{and_yes}
 use Rattle.text.specs.Text.{Bytes, same, is_timestamp, is_print}
+use Rattle.text.specs.Part.{Part}
 use Rattle.text.proofs.Tests.{same→eq, same_refl, T_true}
 use Rattle.format.specs.Kinds.{Kind, name, identity_fields, identity_kinds}
 use Rattle.format.specs.Build.{Fits, FitAll, IsIdentity, Built}
-use Rattle.format.specs.Read.{accepted, title, read_identity}
+use Rattle.format.specs.Read.{accepted, title, body, read_identity}
 use Rattle.format.proofs.Table.{name_inj, identity_row}
 use Rattle.format.proofs.Fields.{fit_at}
 use Rattle.format.proofs.Exactly.{identity_exact, its_title, its_fields}
+use Rattle.frame.specs.Frame.{part_of, IsPart}
 use Rattle.frame.proofs.Parts.{field_part}
-use Rattle.subjects.specs.Subjects.{manufacturer, mid, gnt, alike, identity_part, are_alike}
+use Rattle.subjects.specs.Subjects.{manufacturer, mid, gnt, alike, identity_part, IsIdentityPart, are_alike}
 
 -- ---- an accepted identity
 
@@ -69,3 +74,11 @@ module _ (j k : Kind) (fs gs : List Bytes) where
         (name_inj j k (same→eq _ _ t₁.0), same→eq _ _ t₂.0, same→eq _ _ t₂.1),
     λ (kinds, manufacturers, mids). rw (kinds, manufacturers, mids) (simp same_self tt),
   )
+
+-- ---- where a field stands: the body, of which it is a part, begins where the identity does
+
+pub field_of_body : {s b r : Bor Bytes} (n : ℕ) → Part s 0 (body s.now) b → IsPart (code ":") b n r → IsIdentityPart s n r
+field_of_body {s} {b} {r} n p q = record {
+  stands = q.stands ∙ rw (p.stands, p.holds) (rw zero-add);
+  holds = q.holds ∙ ap (λ (x : Bytes). part_of (code ":") x n) p.holds;
+}

@@ -1,15 +1,43 @@
--- The calendar: the day of a TIMESTAMP is one of its month, and the days of 400 years.
+-- The calendar: how the code tells a leap year and the days of a month, and the days of 400 years.
 -- Assumes nothing.
 use Prim.Native.Nat.{ℕ, zero, suc, ◌+◌, ◌%◌}
 use mathlib.Core.Path.{◌≡◌, refl, ap, ◌∙◌}
-use mathlib.Core.Bool.{true}
+use mathlib.Core.Logic.{◌⊎◌, inl, inr}
+use mathlib.Core.Bool.{Bool, true, false, cond, and-true, and-false, or-false}
 use native.Mathlib.Omega.{arith}
 use native.Mathlib.Numerals.{add-one}
 use native.Mathlib.Nat.{zero-add}
 use lib.Dec.{T}
-use Rattle.text.specs.Calendar.{leap, days_of_month, sum_to, days_of_year}
+use borrow.Author.Tests.{eq-eqb, ne_eqb}
+use Rattle.text.specs.Calendar.{divisible, leap, days_of_month, sum_to, days_of_year}
 use Rattle.text.specs.Text.{Bytes, between, year, month, day, timestamp_tests, is_timestamp}
 use Rattle.text.proofs.Tests.{at_every}
+
+-- ---- a year that ends a century, and every other
+
+pub century : (y : ℕ) → y % 100 ≡ 0 → leap y ≡ divisible y 400
+century y e = rw (eq-eqb (y % 100) 0 e, and-false (divisible y 4))
+
+pub no_century : (y : ℕ) → (y % 100 ≡ 0 → ⊥) → leap y ≡ divisible y 4
+no_century y h =
+    let not-400 : divisible y 400 ≡ false = ne_eqb (y % 400) 0 (λ e. h (omega (arith, e))) in
+    rw (ne_eqb (y % 100) 0 h, not-400, or-false, and-true)
+
+-- ---- the days of a month
+
+module _ (y m : ℕ) where
+  pub february : m ≡ 2 → (b : Bool) → leap y ≡ b → days_of_month y m ≡ cond b 29 28
+  february e b f = rw (e, f)
+
+  pub thirty : (m ≡ 4) ⊎ ((m ≡ 6) ⊎ ((m ≡ 9) ⊎ (m ≡ 11))) → days_of_month y m ≡ 30
+  thirty (inl e) = rw e
+  thirty (inr (inl e)) = rw e
+  thirty (inr (inr (inl e))) = rw e
+  thirty (inr (inr (inr e))) = rw e
+
+  pub thirty_one : (m ≡ 2 → ⊥) → ((m ≡ 4) ⊎ ((m ≡ 6) ⊎ ((m ≡ 9) ⊎ (m ≡ 11))) → ⊥) → days_of_month y m ≡ 31
+  thirty_one h k =
+      rw (ne_eqb m 2 h, ne_eqb m 4 (λ e. k (inl e)), ne_eqb m 6 (λ e. k (inr (inl e))), ne_eqb m 9 (λ e. k (inr (inr (inl e)))), ne_eqb m 11 (λ e. k (inr (inr (inr e)))))
 
 pub timestamp_day : (s : Bytes) → T (is_timestamp s) → T (between 1 (days_of_month (year s) (month s)) (day s))
 unfolding is_timestamp

@@ -1,12 +1,12 @@
 -- Tests of lists as the library says them, and the numbers in digits.
 -- Assumes nothing.
-use Prim.Native.Nat.{ℕ, suc, ◌+◌, ◌-◌, ◌*◌, ◌≤◌}
+use Prim.Native.Nat.{ℕ, suc, ◌+◌, ◌-◌, ◌*◌, ◌≤◌, ◌<◌}
 use mathlib.Core.Path.{◌≡◌, refl, sym, ap, ◌∙◌}
-use mathlib.Core.Bool.{Bool, true, false, ◌&&◌, and-false}
+use mathlib.Core.Bool.{Bool, true, false, ◌&&◌, and-true, and-false, and_assoc}
 use mathlib.Core.List.{[], ◌∷◌}
 use native.Mathlib.Omega.{arith}
 use native.Mathlib.Numerals.{add-one}
-use lib.ListN.{length, take, drop, get_or, length-drop}
+use lib.ListN.{length, take, drop, get_or, drop_of_length-le, length-drop}
 use lib.Seq.{drop-cons, take_all}
 use lib.Dec.{T, eqb}
 use mir.Facts.{and_yes}
@@ -23,6 +23,14 @@ rest_all s i = take_all (length s - i) (drop i s) (omega (arith, length-drop i s
 pub every_all : (p : ℕ → Bool) (s : Bytes) → list_all p s ≡ every p s
 every_all p [] = refl
 every_all p (c ∷ s) = ap (λ (b : Bool). p c && b) (every_all p s)
+
+-- `all` says what holds of the bytes before place i, and what is left decides
+module _ (p : ℕ → Bool) (s : Bytes) (i : ℕ) (all : Bool) (so : (all && every p (drop i s)) ≡ every p s) where
+  pub every_on : i < length s → ((all && p (get_or s i 0)) && every p (drop (i + 1) s)) ≡ every p s
+  every_on h = and_assoc all (p (get_or s i 0)) (every p (drop (i + 1) s)) ∙ ap (λ (b : Bool). all && b) (rw (drop-cons s i 0 h, add-one)) ∙ so
+
+  pub every_end : length s ≤ i → all ≡ every p s
+  every_end h = sym (and-true all) ∙ (rw (drop_of_length-le s h) at so)
 
 -- ---- two lists, byte against byte: `same` and `looks` are such tests
 

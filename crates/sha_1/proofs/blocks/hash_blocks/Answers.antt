@@ -4,7 +4,7 @@ use Rattle.std.proofs.Common.{◌≡◌, ◌/◌, length, refl, ap, ◌∙◌, a
 use Rattle.hashing.specs.Turns.{turns}
 use Rattle.hashing.specs.Blocks as blocks
 use Rattle.sha_1.specs.Sha1.{compress, hashed}
-use Rattle.hashing.proofs.Blocks.{hashed_more}
+use Rattle.hashing.proofs.Blocks.{hashed_chunk}
 use Rattle.sha_1.proofs.blocks.hash_blocks.Goals as goal
 
 pub loop-block-init : goal.loop-block-init
@@ -13,7 +13,7 @@ loop-block-init c = refl
 
 pub loop-block-preserved : goal.loop-block-preserved
 loop-block-preserved c =
-    hashed_more 64 compress c.args.v c.args.bytes.now (length c.args.bytes.now / 64) c.loop-block.block-index (omega (arith, c.loop-block-test.true, c.as_chunks.ensures.front_len))
+    hashed_chunk 64 compress c.args.v c.args.bytes.now (length c.args.bytes.now / 64) c.loop-block.block-index (omega (arith, c.loop-block-test.true, c.as_chunks.ensures.front_len))
     c.loop-block.invariant (rw c.as_chunks.ensures.front at c.compress-hash.ensures)
 
 pub returns : goal.returns
