@@ -23,7 +23,6 @@ use Rattle.std.proofs.Common.{Option, None, Some}
 use Rattle.text.specs.Text.{Bytes, same}
 use Rattle.text.specs.Seconds.{start}
 use Rattle.text.proofs.Tests.{T_true, T_false, by_test}
-use Rattle.text.proofs.Loops.{rest_all}
 use Rattle.frame.specs.Frame.{part_start}
 use Rattle.shelf.specs.Cabinet.{zeros}
 use Rattle.shelf.proofs.Images.{length_zeros}
@@ -263,12 +262,6 @@ pub names_got : (s : Bytes) {n : ℕ} → n ≡ part_start (code ":") s 3 → (r
 names_got s e None d z (inl h, there) = absurd (omega arith)
 names_got s e None d z (inr h, there) = z ∙ names_short s e h
 names_got s e (Some x) d z ((from, to, is, long), there) = is ∙ names_there s e to
-
--- what stands from place n on, and nothing past the end
-pub rest_got : (s : Bytes) {n : ℕ} (r : Option (Bor Bytes)) (d : Bor Bytes) → d.now ≡ [] → IsGetRangeResult s n (length s) r → (unwrap_or r d).now ≡ drop n s
-rest_got s {n} None d z (inl h, there) = z ∙ sym (drop_of_length-le s {i = n} (omega arith))
-rest_got s None d z (inr h, there) = absurd (omega arith)
-rest_got s {n} (Some x) d z ((from, to, is, long), there) = is ∙ rest_all s n
 
 eqb_swap : (a b : ℕ) → eqb a b ≡ eqb b a
 eqb_swap a b =

@@ -9,14 +9,9 @@ use native.Mathlib.Nat.{zero-add}
 use lib.Dec.{eqb}
 use lib.ListN.{length, take, drop, drop_of_length-le}
 use lib.Seq.{take-add, drop-drop}
-use mathlib.Core.Logic.{inl, inr}
-use Rattle.std.specs.Borrow.{Bor}
 use Rattle.std.proofs.Common.{Option, None, Some, MatchOption}
-use Rattle.std.specs.Slice.{IsGetRangeResult}
-use Rattle.std.specs.Option.{unwrap_or}
 use Rattle.text.specs.Text.{Bytes, same}
 use Rattle.text.proofs.Tests.{less_or}
-use Rattle.text.proofs.Loops.{rest_all}
 use Rattle.format.specs.Files.{line_feed, up_to}
 use Rattle.format.proofs.Lines.{take_up_to}
 use Rattle.frame.specs.Frame.{next_mark}
@@ -40,12 +35,6 @@ module _ (text : Bytes) (i : ℕ) where
   line_there {e} n =
       let long : e - i ≡ length (line_from text i) = omega (arith, n) in
       rw long (take_up_to line_feed (drop i text))
-
-  -- what stands from a place on, as the library gives it, and nothing past the end
-  pub rest_got : (r : Option (Bor Bytes)) (d : Bor Bytes) → d.now ≡ [] → IsGetRangeResult text i (length text) r → (unwrap_or r d).now ≡ drop i text
-  rest_got None d z (inl h, there) = z ∙ sym (drop_of_length-le text {i = i} (omega arith))
-  rest_got None d z (inr h, there) = absurd (omega arith)
-  rest_got (Some x) d z ((from, to, is, long), there) = is ∙ rest_all text i
 
   -- the line is cut off there
   pub line_cut : {rest : Bytes} {n : ℕ} → rest ≡ drop i text → n ≡ next_mark line_feed rest 0 → take n rest ≡ line_from text i

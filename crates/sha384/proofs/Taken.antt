@@ -28,14 +28,10 @@ within h l m a b =
 
 -- by the lower word of the sum, which is less than either where it carries
 pub carried : (h l m : ℕ) {s : ℕ} → l < 2 ^ 64 → m < 2 ^ 64 → s ≡ (l + m) % 2 ^ 64 → s < m → (h + 1) % 2 ^ 64 ≡ higher (h * 2 ^ 64 + l + m)
-carried h l m {s} a b e c =
-    let q : (l + m) / 2 ^ 64 ≡ 1 = omega arith in
-    rw q at (sym (higher_sum h l m))
+carried h l m a b e c = beyond h l m a b (λ n. omega (arith, a, b, c, e, n))
 
 pub uncarried : (h l m : ℕ) {s : ℕ} → h < 2 ^ 64 → l < 2 ^ 64 → m < 2 ^ 64 → s ≡ (l + m) % 2 ^ 64 → m ≤ s → h ≡ higher (h * 2 ^ 64 + l + m)
-uncarried h l m {s} a b c e d =
-    let q : (l + m) / 2 ^ 64 ≡ 0 = omega arith in
-    sym (higher_sum h l m ∙ rw q (rw add-zero (mod-eq_of_lt a)))
+uncarried h l m a b c e d = within h l m a (omega (arith, b, c, d, e))
 
 -- ---- one slice after another
 

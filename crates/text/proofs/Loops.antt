@@ -4,18 +4,29 @@ use Prim.Native.Nat.{ℕ, suc, ◌+◌, ◌-◌, ◌*◌, ◌≤◌, ◌<◌}
 use mathlib.Core.Path.{◌≡◌, refl, sym, ap, ◌∙◌}
 use mathlib.Core.Bool.{Bool, true, false, ◌&&◌, and-true, and-false, and_assoc}
 use mathlib.Core.List.{[], ◌∷◌}
+use mathlib.Core.Logic.{inl, inr}
 use native.Mathlib.Omega.{arith}
 use native.Mathlib.Numerals.{add-one}
 use lib.ListN.{length, take, drop, get_or, drop_of_length-le, length-drop}
 use lib.Seq.{drop-cons, take_all}
 use lib.Dec.{T, eqb}
 use mir.Facts.{and_yes}
+use Rattle.std.specs.Borrow.{Bor}
 use Rattle.std.specs.List.{list_all, zip}
+use Rattle.std.specs.Option.{unwrap_or}
+use Rattle.std.specs.Slice.{IsGetRangeResult}
+use Rattle.std.proofs.Common.{Option, None, Some}
 use Rattle.text.specs.Text.{Bytes, every, same, fits, looks, number, number_from, part, year}
 
 -- the part from i to the end, as code takes it
 pub rest_all : (s : Bytes) (i : ℕ) → take (length s - i) (drop i s) ≡ drop i s
 rest_all s i = take_all (length s - i) (drop i s) (omega (arith, length-drop i s))
+
+-- and as it takes it from a range that may not be there: nothing past the end
+pub rest_got : (s : Bytes) {i : ℕ} (r : Option (Bor Bytes)) (d : Bor Bytes) → d.now ≡ [] → IsGetRangeResult s i (length s) r → (unwrap_or r d).now ≡ drop i s
+rest_got s {i} None d z (inl h, there) = z ∙ sym (drop_of_length-le s {i = i} (omega arith))
+rest_got s None d z (inr h, there) = absurd (omega arith)
+rest_got s {i} (Some x) d z ((from, to, is, long), there) = is ∙ rest_all s i
 
 -- ---- every byte
 

@@ -3,9 +3,10 @@
 use mathlib.Core.Path.{refl, sym, ap, ◌∙◌}
 use native.Mathlib.Omega.{arith}
 use lib.Seq.{length-take-le}
+use Rattle.text.proofs.Loops.{rest_got}
 use Rattle.format.specs.Files.{line_feed}
 use Rattle.frame.proofs.Parts.{next_within}
-use Rattle.mail.proofs.Finding.{rest_got, line_cut}
+use Rattle.mail.proofs.Finding.{line_cut}
 use Rattle.mail.proofs.line_from.Goals as goal
 
 pub slice_bounds-result-end : goal.slice_bounds-result-end
@@ -15,4 +16,4 @@ slice_bounds-result-end c =
 pub returns : goal.returns
 returns c =
     line_cut c.args.text.now c.args.place
-    (ap (λ b. b.now) c.unwrap_or-rest.ensures ∙ rest_got c.args.text.now c.args.place c.get.result _ refl c.get.ensures.lookup) c.next_mark.ensures
+    (ap (λ b. b.now) c.unwrap_or-rest.ensures ∙ rest_got c.args.text.now c.get.result _ refl c.get.ensures.lookup) c.next_mark.ensures

@@ -1,7 +1,8 @@
 -- `cabinet::naming::has_names` meets its contract.
 -- Assumes nothing.
 use mathlib.Core.Path.{refl, ap, ◌∙◌}
-use Rattle.cabinet.proofs.Bytes.{rest_got, starts_there}
+use Rattle.text.proofs.Loops.{rest_got}
+use Rattle.cabinet.proofs.Bytes.{starts_there}
 use Rattle.cabinet.proofs.naming.has_names.Goals as goal
 
 pub returns : goal.returns
